@@ -428,8 +428,8 @@ impl<'a, T: Sync, R: Wait> Local<'a, T, R> {
     {
         let table = self.table;
         match self.claim.lasting() {
-            Some((token, value)) => Iter::with_own_and_told(&table.buckets, &token, value, told),
-            None => Iter::with_told(&table.buckets, told),
+            Some((token, value)) => Iter::with_own(&table.buckets, &token, value, told),
+            None => Iter::new(&table.buckets, told),
         }
     }
 

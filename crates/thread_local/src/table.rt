@@ -135,7 +135,7 @@ impl<T> ThreadLocal<T> {
         let first = ids.page();
         let room = ids.room();
         ThreadLocal {
-            buckets: Shared::new_apart(buckets, &right),
+            buckets: Shared::new(buckets, &right),
             ids: Lock::new(ids),
             table_right: right,
             first,
@@ -235,7 +235,7 @@ impl<T> ThreadLocal<T> {
         ensures reserved { self.old.reserved ≤ result }
         ensures same { self.new ≡ self.old }
     {
-        self.buckets.slots()
+        self.buckets.slots_reached().0
     }
 
     /// How many slots the table's buckets have together, the most ids that were held at once since
@@ -358,7 +358,7 @@ impl<T> ThreadLocal<T> {
             alloc,
         } = self;
         buckets.judged();
-        let mut buckets = buckets.into_buckets();
+        let mut buckets = buckets.into_buckets_and_book().0;
         buckets.clear();
         let mut ids = ids.into_inner();
         ids.clear();
@@ -385,7 +385,7 @@ impl<T: Sync> ThreadLocal<T> {
     pub fn iter(&self) -> Iter<'_, T>
         ensures { result ≡ fresh self.now.sharing None true }
     {
-        Iter::new(&self.buckets)
+        Iter::new(&self.buckets, Told::new())
     }
 
     /// `iter`, with the id of each value: which worker's each is.
@@ -410,7 +410,7 @@ impl<T: Sync> ThreadLocal<T> {
     pub fn iter_told(&self, told: Told<T>) -> Iter<'_, T>
         ensures { result ≡ fresh_with self.now.sharing None true told }
     {
-        Iter::with_told(&self.buckets, told)
+        Iter::new(&self.buckets, told)
     }
 
     /// `iter`, which gives what a token says: a walk that runs to its end gives this value, at its
@@ -424,7 +424,7 @@ impl<T: Sync> ThreadLocal<T> {
             (Some (record { id = token.now.id; value = token.now.value }))
             true }
     {
-        Iter::with_own(&self.buckets, token, self.value(token))
+        Iter::with_own(&self.buckets, token, self.value(token), Told::new())
     }
 
     /// The value that a token's slot was published with. It can't fail, and is one atomic load, of

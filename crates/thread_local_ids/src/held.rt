@@ -1,5 +1,5 @@
 //! An id that is held.
-ghost use Rattle.std.specs.Prelude.{◌≡◌, ◌≢◌, ◌+◌, ◌-◌, ◌^◌, ◌<◌};
+ghost use Rattle.std.specs.Prelude.{◌≡◌, ◌+◌, ◌-◌, ◌^◌, ◌<◌};
 
 use crate::right::Right;
 
@@ -25,14 +25,5 @@ impl HeldId {
     {
         let Self { id, mark } = self;
         (id, mark)
-    }
-
-    /// Shows that two held ids of one table are different ids. At run time it does nothing.
-    pub fn apart(&mut self, other: &mut HeldId)
-        requires { self.old.mark.table ≡ other.old.mark.table }
-        ensures ids { self.old.id ≢ other.old.id }
-        ensures same { (self.new ≡ self.old) × (other.new ≡ other.old) }
-    {
-        self.mark.apart(&mut other.mark)
     }
 }

@@ -126,8 +126,12 @@ impl<V: Fits> Lock<V> {
     {
         for turn in 0..TURNS + YIELDS {
             pause(turn);
-            if let Some(guard) = self.look_and_try() {
-                return guard;
+            // Even a try that fails takes the word's line of the cache away from whoever has the
+            // lock, and a look doesn't.
+            if self.seen() == FREE {
+                if let Some(guard) = self.try_lock() {
+                    return guard;
+                }
             }
         }
         for _ in rt.forever() {
@@ -138,19 +142,6 @@ impl<V: Fits> Lock<V> {
             }
         }
         unreachable!()
-    }
-
-    /// `try_lock`, where a look finds the lock free. Even a try that fails takes the word's line of
-    /// the cache away from whoever has the lock, and a look doesn't.
-    fn look_and_try(&self) -> Option<LockGuard<'_, V>>
-        ensures tag { IfSome result (λ guard. (guard.tag ≡ self.now.tag) × (V.tag guard.value ≡ self.now.tag)) }
-        ensures fits { IfSome result (λ guard. V.fits guard.value) }
-    {
-        if self.seen() == FREE {
-            self.try_lock()
-        } else {
-            None
-        }
     }
 
     /// The word as it was at one atomic load.

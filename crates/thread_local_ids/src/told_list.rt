@@ -1,10 +1,8 @@
 //! A list of tokens, for a walk that gives the values of all of them.
 ghost use Rattle.std.specs.Prelude.{◌≡◌, ◌-◌, ◌^◌, ◌<◌, [], ◌∷◌, All};
-ghost use Rattle.thread_local_ids.specs.TokenLists.{AllOf};
 
 use crate::token::Token;
 use crate::token_list::TokenList;
-use crate::witness::Witness;
 use std::marker::Model;
 
 /// Tokens whose values a walk is to give for sure (`ThreadLocal::iter_told`). The list borrows none
@@ -76,16 +74,5 @@ impl<T> Told<T> {
         ensures { All (λ p. p.id < 2 ^ 63 - 1) self.now }
     {
         let _list = &self.list;
-    }
-
-    /// Shows that each token of a witness's id and sharing has its value.
-    #[inline]
-    pub fn agrees(&self, witness: &Witness<T>)
-        ensures { AllOf
-            witness.now.sharing
-            (λ p. p.id ≡ witness.now.id → p.value ≡ witness.now.value)
-            self.now }
-    {
-        self.list.agrees(witness);
     }
 }

@@ -7,7 +7,7 @@ ghost use Rattle.thread_local_bucket_pointers.specs.Slots.{empty_slots, flag_wor
 ghost use Rattle.thread_local_shared_buckets.specs.Known.{HasLooked, value_held, with_bucket};
 
 use crate::SharedBucket;
-use crate::claimed::ClaimedSlot;
+use crate::claimed::{ClaimedSlot, HOLDING, MISSING};
 use crate::replaced::replace_with;
 use std::alloc::{AllocError, Global};
 use std::marker::Model;
@@ -218,18 +218,20 @@ impl<'a, T> Claim<'a, T> {
     }
 
     /// Whether the bucket was missing when the claim looked for it last.
+    #[tactic(auto, using(crate::proofs::StateLaws::missing_by))]
     pub fn is_missing(&self) -> bool
         ensures { MatchBool result (self.now.learnt ≡ Missing) (self.now.learnt ≢ Missing) }
     {
-        self.slot.is_missing()
+        self.slot.state() == MISSING
     }
 
     /// The value that the slot holds, for as long as the claim is borrowed.
+    #[tactic(auto, using(crate::proofs::StateLaws::published_by))]
     pub fn get(&self) -> Option<&T>
         ensures { MatchOption result ((self.now.learnt ≡ Missing) ⊎ (self.now.learnt ≡ Vacant)) (λ x.
             self.now.learnt ≡ Holding x.now) }
     {
-        if self.slot.is_published() {
+        if self.slot.state() == HOLDING {
             Some(self.slot.value())
         } else {
             None
@@ -246,13 +248,14 @@ impl<'a, T> Claim<'a, T> {
 
     /// A token of what the slot was published with, where it holds a value. At run time it reads
     /// what the claim knows.
+    #[tactic(auto, using(crate::proofs::StateLaws::published_by))]
     pub fn token(&self) -> Option<Token<T>>
         ensures { MatchOption result ((self.now.learnt ≡ Missing) ⊎ (self.now.learnt ≡ Vacant)) (λ p.
             (p.sharing ≡ self.now.sharing)
             × (p.id ≡ self.now.id)
             × (self.now.learnt ≡ Holding p.value)) }
     {
-        if !self.slot.is_published() {
+        if self.slot.state() != HOLDING {
             return None;
         }
         Some(Token::new(self.held.id, self.slot.witness()))
@@ -285,7 +288,9 @@ impl<'a, T> Claim<'a, T> {
         ensures ids { self.old.id ≢ other.old.id }
         ensures same { (self.new ≡ self.old) × (other.new ≡ other.old) }
     {
-        self.held.apart(&mut other.held)
+        let mine = &mut self.held;
+        let theirs = &mut other.held;
+        mine.mark.apart(&mut theirs.mark)
     }
 }
 
@@ -293,6 +298,7 @@ impl<'a, T: Sync> Claim<'a, T> {
     /// The value with a token of it, or `None`, as `get` and `token` answer them. But this value
     /// may be used after the claim is gone, for as long as the bucket is borrowed: a published
     /// value stays in its slot until then.
+    #[tactic(auto, using(crate::proofs::StateLaws::published_by))]
     pub fn lasting(&self) -> Option<(Token<T>, &'a T)>
         ensures { MatchOption result ((self.now.learnt ≡ Missing) ⊎ (self.now.learnt ≡ Vacant)) (λ x.
             (x.0.sharing ≡ self.now.sharing)
@@ -300,7 +306,7 @@ impl<'a, T: Sync> Claim<'a, T> {
             × (x.0.value ≡ x.1.now)
             × (self.now.learnt ≡ Holding x.1.now)) }
     {
-        if self.slot.is_published() {
+        if self.slot.state() == HOLDING {
             let token = Token::new(self.held.id, self.slot.witness());
             Some((token, self.slot.lasting()))
         } else {

@@ -6,7 +6,7 @@ ghost use Rattle.std.specs.Coded.{coded_option, coded_ℕ};
 ghost use denote.RawPtr.{Ptr, coded_ptr};
 ghost use Rattle.thread_local_base.specs.Learnt.{Learnt, learnt_coded, Unknown, Missing, Vacant, Holding, Finds};
 ghost use Rattle.thread_local_base.specs.Place.{id_at};
-ghost use Rattle.thread_local_shared_buckets.specs.Known.{HasLooked, MayLook, points_to_pointer, state_of, value_held};
+ghost use Rattle.thread_local_shared_buckets.specs.Known.{HasLooked, MayLook, state_of, value_held};
 ghost use Rattle.thread_local_shared_buckets.specs.Claims.{flag_word_of, claim_fields, claim_owns, claim_shares};
 
 use crate::SharedBucket;
@@ -24,13 +24,13 @@ mod lasting;
 mod told;
 
 /// The number of a claim that has found no bucket.
-const MISSING: u64 = 0;
+pub(crate) const MISSING: u64 = 0;
 
 /// The number of a claim whose slot is vacant.
 const VACANT: u64 = 1;
 
 /// The number of a claim whose slot holds a value.
-const HOLDING: u64 = 2;
+pub(crate) const HOLDING: u64 = 2;
 
 /// The slot of an id that is claimed. Contracts see its table, its id with the index in its bucket,
 /// whether its bucket is reserved, the sharing, and what it has learnt of the slot. It stores no
@@ -166,24 +166,8 @@ impl<'a, T> ClaimedSlot<'a, T> {
         }
     }
 
-    /// Whether no bucket has been found.
-    #[tactic(auto, using(crate::proofs::StateLaws::missing_by))]
-    pub(crate) fn is_missing(&self) -> bool
-        ensures { result ≡ points_to_pointer self.now.learnt }
-    {
-        self.state() == MISSING
-    }
-
-    /// Whether the slot holds a value.
-    #[tactic(auto, using(crate::proofs::StateLaws::published_by))]
-    pub(crate) fn is_published(&self) -> bool
-        ensures { result ≡ is_some (value_held self.now.learnt) }
-    {
-        self.state() == HOLDING
-    }
-
-    /// The number for what it has learnt.
-    fn state(&self) -> u64
+    /// The number for what it has learnt: `MISSING`, `VACANT` or `HOLDING`.
+    pub(crate) fn state(&self) -> u64
         ensures { result ≡ state_of self.now.learnt }
     {
         self.state

@@ -1,9 +1,8 @@
 //! The walk over shared buckets, by ascending id, while other threads publish values.
-ghost use Rattle.std.specs.Prelude.{◌≡◌, suc, ◌+◌, ◌-◌, ◌^◌, ◌<◌, ◌⊎◌, true, false, None, Some, IfSome, is_some, option_map};
+ghost use Rattle.std.specs.Prelude.{◌≡◌, suc, ◌+◌, ◌-◌, ◌^◌, ◌<◌, true, false, None, Some, IfSome, is_some, option_map};
 ghost use Rattle.std.specs.Iterator.{UpTo};
 ghost use Rattle.std.specs.Iterator.SizeHint.{IsWithinCount};
 ghost use Rattle.thread_local_base.specs.Cursor.{cursor_id};
-ghost use Rattle.thread_local_judged.specs.Judged.{Shareable};
 ghost use Rattle.thread_local_shared_buckets.specs.Positions.{owed, OwnIsTold};
 ghost use Rattle.thread_local_shared_buckets.specs.Walks.{WalkView, fresh, fresh_with, Goes, CanGo, ids_left};
 
@@ -13,9 +12,9 @@ use crate::steps::{Own, Walk};
 use std::fmt;
 use std::iter::FusedIterator;
 use std::marker::Model;
-use thread_local_bucket_pointers::write_struct;
-use thread_local_ids::{Token, Told, Witness};
 use thread_local_base::Thread;
+use thread_local_bucket_pointers::{RawIter, write_struct};
+use thread_local_ids::{Token, Told, Witness};
 
 /// The values of shared buckets, by ascending id, each lent as `&`, while other threads may publish
 /// more. A value that is published behind the walk isn't given, and one ahead of it may be.
@@ -69,7 +68,16 @@ impl<'a, T> Iter<'a, T> {
             told }
     {
         Iter {
-            walk: Walk::new(buckets, own, told),
+            walk: Walk {
+                buckets,
+                raw: RawIter::new(),
+                own,
+                told,
+                row: None,
+                seen: None,
+                chunks: 0,
+                rest: 0,
+            },
             shown,
         }
     }
@@ -93,7 +101,10 @@ impl<'a, T> Iter<'a, T> {
             × (cursor_id self.new.cursor ≡ suc found.0.id)
             × (found.0.value ≡ found.1.now)) }
     {
-        tell(&self.shown);
+        // That threads may share the values, where their type doesn't say so.
+        if let Some(shown) = &self.shown {
+            shown.tell();
+        }
         self.walk.advance()
     }
 
@@ -108,37 +119,17 @@ impl<'a, T> Iter<'a, T> {
 }
 
 impl<'a, T: Sync> Iter<'a, T> {
-    /// A walk over all values, from the first slot on.
-    pub fn new(buckets: &'a Shared<T>) -> Iter<'a, T>
-        ensures { result ≡ fresh buckets.now.sharing None true }
-    {
-        Iter::with_told(buckets, Told::new())
-    }
-
-    /// `new`, for a walk that gives the values of a list's tokens for sure. A token of another
-    /// sharing promises nothing.
-    pub fn with_told(buckets: &'a Shared<T>, told: Told<T>) -> Iter<'a, T>
+    /// A walk over all values, from the first slot on, which gives the values of a list's tokens
+    /// for sure. A token of another sharing promises nothing.
+    pub fn new(buckets: &'a Shared<T>, told: Told<T>) -> Iter<'a, T>
         ensures { result ≡ fresh_with buckets.now.sharing None true told }
     {
         Iter::begun(buckets, None, Some(Shown::new()), told)
     }
 
-    /// A walk over all values, for who passes the value that a token is of. The walk gives this
-    /// value at the token's id, without a look at the flag.
-    pub fn with_own(buckets: &'a Shared<T>, token: &Token<T>, value: &'a T) -> Iter<'a, T>
-        requires sharing { token.now.sharing ≡ buckets.now.sharing }
-        requires value { token.now.value ≡ value.now }
-        ensures { result ≡
-            fresh
-            buckets.now.sharing
-            (Some (record { id = token.now.id; value = value.now }))
-            true }
-    {
-        Iter::with_own_and_told(buckets, token, value, Told::new())
-    }
-
-    /// `with_own`, for a walk that gives the values of a list's tokens, too.
-    pub fn with_own_and_told(
+    /// `new`, for who passes the value that a token is of. The walk gives this value, too, at the
+    /// token's id, without a look at the flag.
+    pub fn with_own(
         buckets: &'a Shared<T>,
         token: &Token<T>,
         value: &'a T,
@@ -159,19 +150,6 @@ impl<'a, T: Sync> Iter<'a, T> {
             witness: token.witness().again(),
         };
         Iter::begun(buckets, Some(own), Some(Shown::new()), told)
-    }
-}
-
-/// Shows that threads may share the values, where it was shown before or their type says so. At run
-/// time it does nothing.
-#[inline]
-fn tell<T>(shown: &Option<Shown<'_, T>>)
-    requires can_go { (is_some shown.now ≡ true) ⊎ Shareable T.row }
-    ensures shareable { Shareable T.row }
-{
-    match shown {
-        Some(shown) => shown.tell(),
-        None => {}
     }
 }
 

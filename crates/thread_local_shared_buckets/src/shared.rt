@@ -1,6 +1,6 @@
 //! A table's buckets while threads share them through a `&`. By value or through a `&mut` they are
 //! an owner's `Buckets` again.
-ghost use Rattle.std.specs.Prelude.{◌≡◌, ◌≢◌, ◌+◌, ◌-◌, ◌*◌, ◌^◌, ◌<◌, ◌≤◌, ℕ, max, true, false, None, Option, IfSome, IsSome};
+ghost use Rattle.std.specs.Prelude.{◌≡◌, ◌≢◌, ◌+◌, ◌-◌, ◌*◌, ◌^◌, ◌<◌, ◌≤◌, ℕ, max, true, false, Option, IsSome};
 ghost use Rattle.thread_local_base.specs.Learnt.{Unknown, Missing, Finds};
 ghost use Rattle.thread_local_base.specs.Owned.{IsOwned, AreOfFirstBuckets};
 ghost use Rattle.thread_local_base.specs.Place.{bucket_of, id_at};
@@ -10,15 +10,14 @@ ghost use Rattle.thread_local_shared_buckets.specs.Known.{HasLooked};
 ghost use Rattle.thread_local_shared_buckets.specs.Grown.{only_reserved};
 ghost use Rattle.thread_local_shared_buckets.specs.TableView.{TableView, table_view_coded, bucket_view};
 ghost use Rattle.thread_local_shared_buckets.specs.Parts.{parts_own, parts_share};
-ghost use Rattle.thread_local_shared_buckets.specs.Shared.{shown_by};
 
 use crate::parts::SharedParts;
-use crate::{Claim, Row, SharedBucket, replace_with};
+use crate::{Claim, SharedBucket};
 use std::marker::{Move, Owns, PhantomData};
+use thread_local_base::{BUCKETS, Thread, bucket_size};
 use thread_local_bucket_pointers::BucketPointers;
 use thread_local_buckets::Buckets;
 use thread_local_ids::{Book, HeldId, Reached, Right, Token, TokenList};
-use thread_local_base::{BUCKETS, Thread, bucket_size};
 
 mod lends;
 
@@ -47,19 +46,8 @@ impl<T> Move for Shared<T> {
 
 impl<T> Shared<T> {
     /// Lets threads share an owner's buckets, as the buckets of the table that the right belongs
-    /// to. The sharing gets a name.
+    /// to. The sharing gets a name other than `past`.
     pub fn new(buckets: Buckets<T>, own: &Right) -> Shared<T>
-        requires judged { Judged T.row }
-        ensures table { result.table ≡ own.now.table }
-        ensures sharing { IsSome result.sharing }
-        ensures reserved { result.reserved ≡ buckets.reserved }
-        ensures grown { result.grown_by_ids ≡ only_reserved buckets }
-    {
-        Shared::new_apart(buckets, own)
-    }
-
-    /// `new`, with a name for the sharing other than `past`.
-    pub fn new_apart(buckets: Buckets<T>, own: &Right) -> Shared<T>
         ghost past: { Option ℕ }
         requires judged { Judged T.row }
         ensures table { result.table ≡ own.now.table }
@@ -71,7 +59,7 @@ impl<T> Shared<T> {
         Shared::of(pointers, reserved, own)
     }
 
-    /// `new_apart`, from an owner's pointers and the number of reserved slots.
+    /// `new`, from an owner's pointers and the number of reserved slots.
     fn of(pointers: BucketPointers<T>, reserved: usize, own: &Right) -> Shared<T>
         ghost past: { Option ℕ }
         requires judged { Judged T.row }
@@ -86,38 +74,20 @@ impl<T> Shared<T> {
     }
 
     /// Ends the sharing, and begins another one of the same buckets, as the buckets of the table
-    /// that the right belongs to.
+    /// that the right belongs to, with a name other than `past`. At run time it does nothing.
     pub fn renew(&mut self, own: &Right)
+        ghost past: { Option ℕ }
         requires judged { Judged T.row }
         ensures table { self.new.table ≡ own.now.table }
-        ensures sharing { IsSome self.new.sharing × (self.new.sharing ≢ self.old.sharing) }
+        ensures sharing { IsSome self.new.sharing × (self.new.sharing ≢ past) }
         ensures reserved { self.new.reserved ≡ self.old.reserved }
         ensures grown { self.old.table ≡ own.now.table → self.new.grown_by_ids ≡ self.old.grown_by_ids }
     {
-        replace_with(self, own, renewed)
-    }
-
-    /// `renew`, by value.
-    fn shared_again(self, own: &Right) -> Shared<T>
-        ghost past: { Option ℕ }
-        requires judged { Judged T.row }
-        ensures table { result.table ≡ own.now.table }
-        ensures sharing { IsSome result.sharing × (result.sharing ≢ past) }
-        ensures reserved { result.reserved ≡ self.reserved }
-        ensures grown { self.table ≡ own.now.table → result.grown_by_ids ≡ self.grown_by_ids }
-    {
         let _ = own;
-        self
     }
 
-    /// Gives the buckets back to an owner, with all that was lent while they were shared.
-    pub fn into_buckets(self) -> Buckets<T>
-        ensures { result.reserved ≡ self.reserved }
-    {
-        self.into_buckets_and_book().0
-    }
-
-    /// `into_buckets`, with what the slots were published with in the sharing that ends.
+    /// Gives the buckets back to an owner, with all that was lent while they were shared, and with
+    /// what the slots were published with in the sharing that ends.
     pub fn into_buckets_and_book(self) -> (Buckets<T>, Book<T>)
         ensures reserved { result.0.reserved ≡ self.reserved }
         ensures sharing { result.1.sharing ≡ self.sharing }
@@ -160,29 +130,6 @@ impl<T> Shared<T> {
         &self.parts().pointers.pointers.pointers[bucket]
     }
 
-    /// The row of a bucket's slots, for as long as the buckets are borrowed, or `None` where the
-    /// bucket is missing. A reserved bucket is never missing, nor is one with the slot of a token
-    /// of `told`, which proofs alone use. It is one atomic load.
-    pub fn load(&self, bucket: usize, told: &TokenList<T>) -> Option<Row<'_, T>>
-        requires { bucket < 63 }
-        ensures of { IfSome result (λ row. row.of ≡ bucket_view self.now bucket) }
-        ensures reserved { id_at bucket 0 < self.now.reserved → IsSome result }
-        ensures told { result ≡ None → NoneIn self.now.sharing bucket told.now.tokens }
-    {
-        self.bucket(bucket).load(told)
-    }
-
-    /// How many ids of the table were held at once for sure, since a bucket stands, or `None` where
-    /// the bucket is missing. It is one atomic load.
-    pub fn reached(&self, bucket: usize) -> Option<Reached>
-        requires { bucket < 63 }
-        ensures shown { IfSome result (λ reached.
-            (reached.table ≡ self.now.table) × (reached.ids ≡ shown_by (bucket_view self.now bucket))) }
-        ensures reserved { id_at bucket 0 < self.now.reserved → IsSome result }
-    {
-        self.bucket(bucket).reached()
-    }
-
     /// Whether one of the eight buckets from `first` on stands. Each of their pointers is loaded
     /// once, so a bucket that is installed meanwhile may be missed.
     #[inline]
@@ -196,7 +143,7 @@ impl<T> Shared<T> {
     {
         let mut any = false;
         for at in 0..8 {
-            any |= self.load(first + at, told).is_some();
+            any |= self.bucket(first + at).load(told).is_some();
         }
         any
     }
@@ -254,16 +201,9 @@ impl<T> Shared<T> {
         self.parts().reserved
     }
 
-    /// How many slots the buckets have that stand. Each of the 63 pointers is loaded once, one
-    /// after another, so a bucket that is installed meanwhile may be counted or not.
-    pub fn slots(&self) -> usize
-        ensures reserved { self.now.reserved ≤ result }
-        ensures most { result < 2 ^ 63 }
-    {
-        self.slots_reached().0
-    }
-
-    /// `slots`, and that so many ids of the table were held at once, as these slots show.
+    /// How many slots the buckets have that stand, and that so many ids of the table were held at
+    /// once, as these slots show. Each of the 63 pointers is loaded once, one after another, so a
+    /// bucket that is installed meanwhile may be counted or not.
     pub fn slots_reached(&self) -> (usize, Reached)
         ensures reserved { self.now.reserved ≤ result.0 }
         ensures most { result.0 < 2 ^ 63 }
@@ -275,24 +215,13 @@ impl<T> Shared<T> {
         let mut slots = 0;
         let mut reached = self.bucket(0).none_reached();
         for bucket in 0..BUCKETS {
-            if let Some(shown) = self.reached(bucket) {
+            if let Some(shown) = self.bucket(bucket).reached() {
                 slots += bucket_size(bucket);
                 reached = shown;
             }
         }
         (slots, reached)
     }
-}
-
-/// What `renew` makes of the buckets.
-fn renewed<T>(shared: Shared<T>, own: &Right) -> (Shared<T>, ())
-    requires judged { Judged T.row }
-    ensures table { result.0.table ≡ own.now.table }
-    ensures sharing { IsSome result.0.sharing × (result.0.sharing ≢ shared.sharing) }
-    ensures reserved { result.0.reserved ≡ shared.reserved }
-    ensures grown { shared.table ≡ own.now.table → result.0.grown_by_ids ≡ shared.grown_by_ids }
-{
-    (shared.shared_again(own), ())
 }
 
 impl<T: Sync> Shared<T> {
@@ -313,7 +242,7 @@ impl<T: Drop> Drop for Shared<T> {
     // Where the call isn't inlined, the caller copies the pointers once more.
     #[inline(always)]
     fn drop(self) {
-        drop(self.into_buckets());
+        drop(self.into_buckets_and_book());
     }
 }
 

@@ -5,15 +5,15 @@ ghost use Rattle.thread_local_judged.specs.Judged.{Shareable};
 ghost use Rattle.thread_local_base.specs.Bits.{IsWordBut};
 ghost use Rattle.thread_local_ids.specs.TokenLists.{AllOf, NoneIn};
 ghost use Rattle.thread_local_shared_buckets.specs.Walks.{Meets};
-ghost use Rattle.thread_local_shared_buckets.specs.Positions.{past, lies_in, is_at, own_index, OwnIsTold, IsToldAt, MovesBehind};
+ghost use Rattle.thread_local_shared_buckets.specs.Positions.{lies_in, is_at, own_index, IsToldAt, MovesBehind};
 ghost use Rattle.thread_local_shared_buckets.specs.Positions.{YieldsFrom, EndsFrom, resting, Stops, IsBehind};
-ghost use Rattle.thread_local_shared_buckets.specs.AtHand.{LiesOutside, IsSetIn, IsGivenBy, IsRowOf, HasLooked, IsWalk, LooksIn, GoesOn, Reaches, FindsTokens};
+ghost use Rattle.thread_local_shared_buckets.specs.AtHand.{LiesOutside, IsSetIn, IsGivenBy, HasLooked, IsWalk, LooksIn, GoesOn, Reaches, FindsTokens};
 
 use crate::shared::Shared;
 use crate::{Row, Seen};
+use thread_local_base::{BUCKETS, Thread, bucket_size};
 use thread_local_bucket_pointers::{RawIter, flag_word_at, without_first};
 use thread_local_ids::{TokenList, Told, Witness};
-use thread_local_base::{BUCKETS, Thread, bucket_size};
 
 /// The walker's own value, the place of its id, and what shows that its slot was published with it.
 #[derive(Drop)]
@@ -99,25 +99,6 @@ fn with_own(flags: u64, own: Option<usize>, chunk: usize) -> u64
     }
 }
 
-/// The row of a bucket: the one that the walk has, or what a load of the bucket's pointer finds.
-#[inline]
-fn row_of<'a, T>(
-    buckets: &'a Shared<T>,
-    row: Option<Row<'a, T>>,
-    bucket: usize,
-    told: &TokenList<T>,
-) -> Option<Row<'a, T>>
-    requires in_table { bucket < 63 }
-    requires of { IfSome row (IsRowOf buckets.now.sharing bucket) }
-    ensures of { IfSome result (IsRowOf buckets.now.sharing bucket) }
-    ensures told { result ≡ None → NoneIn buckets.now.sharing bucket told.now.tokens }
-{
-    match row {
-        Some(row) => Some(row),
-        None => buckets.load(bucket, told),
-    }
-}
-
 /// Looks at the chunks of a row from the chunk `from` on, until one has a flag that is set or the
 /// own slot, whose index in the bucket is `own`. Each look is one atomic load. Answers what that
 /// look saw, how many of the row's chunks were seen by then, and the flags at hand.
@@ -152,27 +133,6 @@ fn look_on<'a, T>(
         Some(index) => (None, index / 64 + 1, with_own(0, own, index / 64)),
         None => (None, from, 0),
     }
-}
-
-/// The index of the slot with this bit in the last of the chunks that were seen.
-#[inline]
-fn slot_at(chunks: usize, bit: usize) -> usize
-    requires some { 0 < chunks }
-    requires inside { (chunks - 1) * 64 + bit < 2 ^ 63 }
-    ensures { result ≡ (chunks - 1) * 64 + bit }
-{
-    (chunks - 1) * 64 + bit
-}
-
-/// Passes the slots up to this one, whose value is given.
-#[inline]
-fn pass_slot(raw: &mut RawIter, index: usize)
-    requires inside { index < 2 ^ 63 }
-    requires few { raw.old.yielded < 2 ^ 63 }
-    ensures { raw.new ≡ past raw.old index }
-{
-    raw.index = index + 1;
-    raw.yielded += 1;
 }
 
 /// Moves on behind the bucket that a walk is in. Where no own value is still to be given, it passes
@@ -218,27 +178,6 @@ pub(crate) struct Walk<'a, T> {
 }
 
 impl<'a, T> Walk<'a, T> {
-    /// A walk at the first slot, which has seen nothing.
-    pub(crate) fn new(buckets: &'a Shared<T>, own: Option<Own<'a, T>>, told: Told<T>) -> Walk<'a, T>
-        requires told { IfSome own (OwnIsTold buckets.now.sharing) }
-        ensures walk { IsWalk result }
-        ensures sharing { result.buckets.now ≡ buckets.now }
-        ensures begins { result.raw ≡ record { yielded = 0; bucket = 0; bucket_size = 1; index = 0 } }
-        ensures own { result.own ≡ own.entry }
-        ensures told { result.told ≡ told }
-    {
-        Walk {
-            buckets,
-            raw: RawIter::new(),
-            own,
-            told,
-            row: None,
-            seen: None,
-            chunks: 0,
-            rest: 0,
-        }
-    }
-
     /// Gives the value of the lowest flag at hand.
     #[inline]
     fn pass(&mut self) -> (Witness<T>, &'a T)
@@ -256,9 +195,10 @@ impl<'a, T> Walk<'a, T> {
     {
         let bit = self.rest.trailing_zeros() as usize;
         self.rest = without_first(self.rest);
-        let index = slot_at(self.chunks, bit);
+        let index = (self.chunks - 1) * 64 + bit;
         let found = take(&mut self.own, &self.seen, self.raw.bucket, index, bit);
-        pass_slot(&mut self.raw, index);
+        self.raw.index = index + 1;
+        self.raw.yielded += 1;
         found
     }
 
@@ -272,12 +212,9 @@ impl<'a, T> Walk<'a, T> {
         requires in_table { self.old.raw.bucket < 63 }
         ensures { LooksIn self.old self.new }
     {
-        self.row = row_of(
-            self.buckets,
-            self.row.take(),
-            self.raw.bucket,
-            self.told.list(),
-        );
+        if self.row.is_none() {
+            self.row = self.buckets.bucket(self.raw.bucket).load(self.told.list());
+        }
         let own = own_index(&self.own, self.raw.bucket);
         let (seen, chunks, rest) = look_on(
             &self.row,
@@ -353,7 +290,7 @@ impl<'a, T> Walk<'a, T> {
             return None;
         }
         let found = self.pass();
-        self.told.agrees(&found.0);
+        self.told.list().agrees(&found.0);
         Some(found)
     }
 }

@@ -1,14 +1,14 @@
 //! Claims that are sent or shared, and those of reserved buckets.
 
-use crate::steps::{Kept, left, publish_claimed, take};
+use crate::steps::{Kept, left, publish_claimed, share, take};
 use std::cell::Cell;
 use std::test::Fail;
 use std::thread;
+use thread_local_base::Thread;
 use thread_local_buckets::Buckets;
 use thread_local_ids::{Ids, TokenList};
 use thread_local_judged::Judge;
 use thread_local_shared_buckets::{Claim, Shared};
-use thread_local_base::Thread;
 
 impl<T: Drop> Kept<'_, T> {
     /// Publishes a value if the slot is vacant, and answers whether it did.
@@ -21,14 +21,14 @@ impl<T: Drop> Kept<'_, T> {
 fn a_claim_goes_to_another_thread(rt: HostRuntime) -> Result<(), Fail> {
     let mut ids = Ids::new(rt.alloc());
     Cell::<u64>::judge();
-    let shared = Shared::new(Buckets::with_capacity(rt.alloc(), 1)?, &ids.table_right());
+    let shared = share(Buckets::with_capacity(rt.alloc(), 1)?, &ids.table_right());
     let (held, right) = take(&mut ids)?;
     let claimed = Kept {
         claim: shared.claim(held, right),
     };
     let (published, _) = thread::join(&rt, || claimed.publish(Cell::new(7u64)), || ());
     assert!(rt; published);
-    let value = shared.into_buckets().into_iter().next();
+    let value = shared.into_buckets_and_book().0.into_iter().next();
     assert_eq!(rt; value.map(|cell| cell.get()), Some(7));
     Ok(())
 }
@@ -43,7 +43,7 @@ fn threads_share_a_claim(rt: HostRuntime) -> Result<(), Fail> {
     let mut ids = Ids::new(rt.alloc());
     let mut buckets = Buckets::new(rt.alloc());
     assert!(rt; buckets.insert(Thread::new(0), 5u32).is_ok());
-    let shared = Shared::new(buckets, &ids.table_right());
+    let shared = share(buckets, &ids.table_right());
     let (held, right) = take(&mut ids)?;
     let claim = shared.claim(held, right);
     let both = thread::join(&rt, || found(&claim), || found(&claim));
@@ -56,16 +56,16 @@ fn threads_share_a_claim(rt: HostRuntime) -> Result<(), Fail> {
 fn stand(shared: &Shared<u32>) -> [bool; 3] {
     let told = TokenList::new();
     [
-        shared.load(0, &told).is_some(),
-        shared.load(2, &told).is_some(),
-        shared.load(3, &told).is_some(),
+        shared.bucket(0).load(&told).is_some(),
+        shared.bucket(2).load(&told).is_some(),
+        shared.bucket(3).load(&told).is_some(),
     ]
 }
 
 #[test]
 fn reserved_buckets_stand(rt: HostRuntime) -> Result<(), Fail> {
     let mut ids = Ids::new(rt.alloc());
-    let shared = Shared::new(Buckets::with_capacity(rt.alloc(), 4)?, &ids.table_right());
+    let shared = share(Buckets::with_capacity(rt.alloc(), 4)?, &ids.table_right());
     assert_eq!(rt;
         (shared.reserved(), stand(&shared)),
         (7, [true, true, false])

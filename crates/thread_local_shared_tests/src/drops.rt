@@ -1,19 +1,19 @@
 //! Each value is dropped once, and a claim is forgotten.
 ghost use Rattle.std.specs.Prelude.{◌≡◌};
 
-use crate::steps::{Kept, first_three, look, publish, take};
+use crate::steps::{Kept, first_three, look, publish, share, take};
 use std::alloc::Global;
 use std::mem::forget;
 use std::sync::atomic::AtomicU64;
 use std::sync::atomic::Ordering::SeqCst;
 use std::sync::{Arc, Wait};
 use std::test::Fail;
+use thread_local_base::Thread;
 use thread_local_buckets::Buckets;
 use thread_local_ids::{HeldId, Ids, Lock, Right, Rights};
 use thread_local_judged::judge_sync;
 use thread_local_shared_buckets::Shared;
 use thread_local_test_helpers::counted::Counted;
-use thread_local_base::Thread;
 
 #[test]
 fn each_value_is_dropped_once(rt: HostRuntime) -> Result<(), Fail> {
@@ -25,7 +25,7 @@ fn each_value_is_dropped_once(rt: HostRuntime) -> Result<(), Fail> {
         assert!(rt; buckets.insert(Thread::new(id), value).is_ok());
     }
     judge_sync::<Counted>();
-    let shared = Shared::new(buckets, &rights.take(0));
+    let shared = share(buckets, &rights.take(0));
     let before = drops.load(SeqCst);
     drop(shared);
     assert_eq!(rt; (before, drops.load(SeqCst)), (0, 100));
@@ -69,11 +69,11 @@ fn each_published_value_is_dropped_once(rt: HostRuntime) -> Result<(), Fail> {
     let drops = Arc::new(rt.alloc(), AtomicU64::new(0))?;
     let mut ids = Ids::new(rt.alloc());
     judge_sync::<Counted>();
-    let shared = Shared::new(Buckets::new(rt.alloc()), &ids.table_right());
+    let shared = share(Buckets::new(rt.alloc()), &ids.table_right());
     let ids = Lock::new(ids);
     let published = publish_counted(&shared, &ids, &rt, rt.alloc(), &drops, 100);
     let given_way = drops.load(SeqCst);
-    let mut values = shared.into_buckets().into_iter();
+    let mut values = shared.into_buckets_and_book().0.into_iter();
     drop(values.next());
     let taken = drops.load(SeqCst);
     drop(values);
@@ -104,7 +104,7 @@ fn a_forgotten_claim_costs_its_own_slot(rt: HostRuntime) -> Result<(), Fail> {
     let mut ids = Ids::new(rt.alloc());
     let mut buckets = Buckets::new(rt.alloc());
     assert!(rt; buckets.insert(Thread::new(0), 5u32).is_ok());
-    let shared = Shared::new(buckets, &ids.table_right());
+    let shared = share(buckets, &ids.table_right());
     let found = [
         found_and_forgotten(&shared, take(&mut ids)?),
         found_and_forgotten(&shared, take(&mut ids)?),
@@ -115,7 +115,7 @@ fn a_forgotten_claim_costs_its_own_slot(rt: HostRuntime) -> Result<(), Fail> {
     let seen = [look(&shared, 0), look(&shared, 1), look(&shared, 2)];
     assert_eq!(rt; seen, [Some(5), None, Some(6)]);
     assert_eq!(rt;
-        first_three(shared.into_buckets()),
+        first_three(shared.into_buckets_and_book().0),
         [Some(5), Some(6), None]
     );
     Ok(())

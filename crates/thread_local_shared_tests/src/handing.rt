@@ -2,17 +2,17 @@
 ghost use Rattle.std.specs.Prelude.{◌≡◌, ◌-◌, ◌^◌, ◌<◌};
 ghost use Rattle.thread_local_judged.specs.Judged.{Judged};
 
-use crate::steps::{look, publish, take};
+use crate::steps::{look, publish, share, take};
 use std::alloc::Global;
 use std::cell::{Cell, RefCell};
 use std::test::Fail;
 use std::thread;
 use std::thread::Threads;
+use thread_local_base::Thread;
 use thread_local_buckets::Buckets;
 use thread_local_ids::{HeldId, Ids, Right};
 use thread_local_judged::{Judge, judge_sync};
 use thread_local_shared_buckets::Shared;
-use thread_local_base::Thread;
 
 /// Adds to the number at an id, and answers what was there.
 fn add(
@@ -59,7 +59,7 @@ fn look_while_claimed<R: Threads>(
 fn a_number_is_handed_on_from_thread_to_thread(rt: HostRuntime) -> Result<(), Fail> {
     let mut ids = Ids::new(rt.alloc());
     Cell::<u64>::judge();
-    let shared = Shared::new(Buckets::new(rt.alloc()), &ids.table_right());
+    let shared = share(Buckets::new(rt.alloc()), &ids.table_right());
     let (held, right, tenure) = ids.take()?;
     let alloc = rt.alloc();
     let there = &shared;
@@ -69,7 +69,7 @@ fn a_number_is_handed_on_from_thread_to_thread(rt: HostRuntime) -> Result<(), Fa
     let (held, published) = first;
     let (second, _) = thread::join(&rt, || add(there, held, 5), || ());
     let found = second.1;
-    let left = shared.into_buckets().into_iter().next();
+    let left = shared.into_buckets_and_book().0.into_iter().next();
     assert_eq!(rt;
         (published, found, left.map(|cell| cell.get())),
         (true, Some(7), Some(12))
@@ -82,7 +82,7 @@ fn a_walker_sees_a_value_that_is_claimed(rt: HostRuntime) -> Result<(), Fail> {
     let mut ids = Ids::new(rt.alloc());
     let mut buckets = Buckets::new(rt.alloc());
     assert!(rt; buckets.insert(Thread::new(0), 9).is_ok());
-    let mut shared = Shared::new(buckets, &ids.table_right());
+    let mut shared = share(buckets, &ids.table_right());
     let held = take(&mut ids)?;
     let (own, seen) = look_while_claimed(&rt, &shared, held);
     assert_eq!(rt; [own, seen, look(&shared, 1)], [Some(9), Some(9), None]);
@@ -98,12 +98,18 @@ fn comes_back<T: Send + Drop>(alloc: Global, value: T) -> bool
     requires judged { Judged T.row }
 {
     let mut ids = Ids::new(alloc);
-    let shared = Shared::new(Buckets::new(alloc), &ids.table_right());
+    let shared = share(Buckets::new(alloc), &ids.table_right());
     let Ok((held, right, tenure)) = ids.take() else {
         return false;
     };
     let (_held, published) = publish(&shared, (held, right), &tenure, alloc, value);
-    published && shared.into_buckets().into_iter().next().is_some()
+    published
+        && shared
+            .into_buckets_and_book()
+            .0
+            .into_iter()
+            .next()
+            .is_some()
 }
 
 #[test]

@@ -4,7 +4,7 @@ ghost use Rattle.thread_local_bucket_pointers.specs.Slots.{empty_slots};
 ghost use Rattle.thread_local_ids.specs.Rights.{taken_id};
 ghost use Rattle.thread_local_base.specs.Place.{bucket_of};
 
-use crate::steps::{Kept, left, look, publish_claimed, take};
+use crate::steps::{Kept, left, look, publish_claimed, share, take};
 use std::alloc::Global;
 use std::cell::{Cell, RefCell};
 use std::sync::Wait;
@@ -112,7 +112,7 @@ fn offer_by_all<R: Wait>(
 #[test]
 fn blocks_that_come_second_are_freed(rt: HostRuntime) -> Result<(), Fail> {
     let mut ids = Ids::new(rt.alloc());
-    let shared = Shared::new(Buckets::new(rt.alloc()), &ids.table_right());
+    let shared = share(Buckets::new(rt.alloc()), &ids.table_right());
     for _ in 0..1_048_575 {
         let _held = take(&mut ids)?;
     }
@@ -121,7 +121,10 @@ fn blocks_that_come_second_are_freed(rt: HostRuntime) -> Result<(), Fail> {
     let taken = take_all_but(alloc, 1 << 30)?;
     let offered = offer_by_all(&shared, &ids, &rt, &alloc, 1000);
     drop(taken);
-    assert_eq!(rt; (offered, shared.into_buckets().slots()), (1000, 1_048_576));
+    assert_eq!(rt;
+        (offered, shared.into_buckets_and_book().0.slots()),
+        (1000, 1_048_576)
+    );
     Ok(())
 }
 
@@ -174,7 +177,7 @@ fn offer_two(
 #[test]
 fn the_second_of_two_blocks_gives_way(rt: HostRuntime) -> Result<(), Fail> {
     let mut ids = Ids::new(rt.alloc());
-    let shared = Shared::new(Buckets::new(rt.alloc()), &ids.table_right());
+    let shared = share(Buckets::new(rt.alloc()), &ids.table_right());
     let _first = take(&mut ids)?;
     let second = claim_early(&shared, ids.take()?);
     let third = claim_early(&shared, ids.take()?);
@@ -200,7 +203,7 @@ fn publish_late(early: Early<'_, u32>, value: u32) -> bool {
 #[test]
 fn an_early_claim_finds_its_bucket_later(rt: HostRuntime) -> Result<(), Fail> {
     let mut ids = Ids::new(rt.alloc());
-    let shared = Shared::new(Buckets::new(rt.alloc()), &ids.table_right());
+    let shared = share(Buckets::new(rt.alloc()), &ids.table_right());
     let _first = take(&mut ids)?;
     let second = claim_early(&shared, ids.take()?);
     let third = claim_early(&shared, ids.take()?);

@@ -1,11 +1,11 @@
 //! A look finds the value of its own slot.
 
-use crate::steps::look;
+use crate::steps::{look, share};
 use std::test::Fail;
+use thread_local_base::Thread;
 use thread_local_buckets::Buckets;
 use thread_local_ids::Ids;
 use thread_local_shared_buckets::Shared;
-use thread_local_base::Thread;
 
 /// What a walker finds at three ids, each in a bucket of its own, the last at neither end of its
 /// bucket.
@@ -23,7 +23,7 @@ fn a_look_finds_what_was_put_into_its_slot(rt: HostRuntime) -> Result<(), Fail> 
         buckets.insert(Thread::new(1234), 7).is_ok(),
     ];
     assert_eq!(rt; inserted, [true; 3]);
-    let mut shared = Shared::new(buckets, &ids.table_right());
+    let mut shared = share(buckets, &ids.table_right());
     let before = seen(&shared);
     let slots = shared.owner().slots();
     let values = [Some(5), Some(6), Some(7)];

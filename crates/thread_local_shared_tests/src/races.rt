@@ -1,7 +1,7 @@
 //! Threads race to install buckets and to publish.
 ghost use Rattle.std.specs.Prelude.{◌≡◌};
 
-use crate::steps::publish;
+use crate::steps::{publish, share};
 use std::alloc::Global;
 use std::sync::Wait;
 use std::test::Fail;
@@ -23,7 +23,7 @@ impl Racing {
     /// Empty buckets, and no id held.
     fn new(alloc: Global) -> Racing {
         let mut ids = Ids::new(alloc);
-        let shared = Shared::new(Buckets::new(alloc), &ids.table_right());
+        let shared = share(Buckets::new(alloc), &ids.table_right());
         let ids = Lock::new(ids);
         Racing { shared, ids }
     }
@@ -59,7 +59,7 @@ fn publish_by_eight<R: Wait + Threads + Sync>(racing: &Racing, rt: &R, alloc: Gl
 fn gives_all(racing: Racing) -> bool {
     let Racing { shared, ids: _ } = racing;
     let mut next = 0usize;
-    for value in shared.into_buckets() {
+    for value in shared.into_buckets_and_book().0 {
         if value != next {
             return false;
         }

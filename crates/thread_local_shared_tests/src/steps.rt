@@ -1,14 +1,15 @@
 //! What a test does with one id of a table.
-ghost use Rattle.std.specs.Prelude.{◌≡◌, ◌-◌, ◌^◌, ◌<◌, IfOk};
+ghost use Rattle.std.specs.Prelude.{◌≡◌, ◌-◌, ◌^◌, ◌<◌, IfOk, IsSome};
+ghost use Rattle.thread_local_judged.specs.Judged.{Judged};
 ghost use Rattle.thread_local_ids.specs.Rights.{taken_id};
 ghost use Rattle.thread_local_base.specs.Bits.{is_set};
 
 use std::alloc::Global;
+use thread_local_base::{LocalError, Thread, bucket_size};
 use thread_local_bucket_pointers::flag_word_at;
 use thread_local_buckets::Buckets;
 use thread_local_ids::{HeldId, Ids, Right, Tenure, TokenList};
 use thread_local_shared_buckets::{Claim, Shared};
-use thread_local_base::{LocalError, Thread, bucket_size};
 
 /// Takes an id that isn't given back.
 pub fn take(ids: &mut Ids) -> Result<(HeldId, Right), LocalError>
@@ -20,6 +21,16 @@ pub fn take(ids: &mut Ids) -> Result<(HeldId, Right), LocalError>
 {
     let (held, right, _) = ids.take()?;
     Ok((held, right))
+}
+
+/// Lets threads share an owner's buckets. The sharing may have any name.
+pub fn share<T>(buckets: Buckets<T>, own: &Right) -> Shared<T>
+    requires judged { Judged T.row }
+    ensures table { result.table ≡ own.now.table }
+    ensures sharing { IsSome result.sharing }
+    ensures reserved { result.reserved ≡ buckets.reserved }
+{
+    Shared::new(buckets, own)
 }
 
 /// A claim that is given up when this is dropped.
@@ -89,7 +100,7 @@ pub fn first_three(buckets: Buckets<u32>) -> [Option<u32>; 3] {
 
 /// How many slots an owner has then, and what its walk gives first, second and third.
 pub fn left(shared: Shared<u32>) -> (usize, [Option<u32>; 3]) {
-    let mut buckets = shared.into_buckets();
+    let mut buckets = shared.into_buckets_and_book().0;
     (buckets.slots(), first_three(buckets))
 }
 
@@ -107,7 +118,7 @@ pub fn look(shared: &Shared<u32>, id: usize) -> Option<u32>
 {
     let thread = Thread::new(id);
     let told = TokenList::new();
-    let row = shared.load(thread.bucket, &told)?;
+    let row = shared.bucket(thread.bucket).load(&told)?;
     let chunk = thread.index / 64;
     let flag_word = flag_word_at::<u32>(bucket_size(thread.bucket), chunk);
     let seen = row.look(chunk, flag_word, &told);

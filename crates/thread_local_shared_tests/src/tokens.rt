@@ -4,15 +4,15 @@ ghost use Rattle.thread_local_ids.specs.Rights.{taken_id};
 ghost use Rattle.thread_local_base.specs.Buckets.{values};
 ghost use Rattle.thread_local_base.specs.Learnt.{Vacant};
 
-use crate::steps::{publish, take};
+use crate::steps::{publish, share, take};
 use std::alloc::Global;
 use std::cell::Cell;
 use std::test::Fail;
+use thread_local_base::Thread;
 use thread_local_buckets::Buckets;
 use thread_local_ids::{HeldId, Ids, Right, Tenure, Token};
 use thread_local_judged::{Judge, judge_sync};
 use thread_local_shared_buckets::{Claim, Shared};
-use thread_local_base::Thread;
 
 /// Publishes a value, and answers a token of what the slot was published with.
 fn told<T: Drop>(
@@ -129,7 +129,7 @@ fn found_by_two(
 #[test]
 fn a_token_says_what_was_published(rt: HostRuntime) -> Result<(), Fail> {
     let mut ids = Ids::new(rt.alloc());
-    let shared = Shared::new(Buckets::new(rt.alloc()), &ids.table_right());
+    let shared = share(Buckets::new(rt.alloc()), &ids.table_right());
     let (held, right, tenure) = ids.take()?;
     let (held, token) = told(&shared, (held, right), &tenure, rt.alloc(), 7u32);
     let token = token.expect(&rt, "a token");
@@ -151,7 +151,7 @@ fn a_token_says_what_was_published(rt: HostRuntime) -> Result<(), Fail> {
 #[test]
 fn a_vacant_slot_has_no_token(rt: HostRuntime) -> Result<(), Fail> {
     let mut ids = Ids::new(rt.alloc());
-    let shared = Shared::<u32>::new(Buckets::with_capacity(rt.alloc(), 1)?, &ids.table_right());
+    let shared = share::<u32>(Buckets::with_capacity(rt.alloc(), 1)?, &ids.table_right());
     let (held, right) = take(&mut ids)?;
     let mut claim = shared.claim(held, right);
     let before = claim.token().is_none();
@@ -170,7 +170,7 @@ fn a_vacant_slot_has_no_token(rt: HostRuntime) -> Result<(), Fail> {
 fn a_text_is_read_by_its_token(rt: HostRuntime) -> Result<(), Fail> {
     let mut ids = Ids::new(rt.alloc());
     judge_sync::<String>();
-    let shared = Shared::new(Buckets::new(rt.alloc()), &ids.table_right());
+    let shared = share(Buckets::new(rt.alloc()), &ids.table_right());
     let (held, right, tenure) = ids.take()?;
     let text = String::new(rt.alloc());
     let (_, token) = told(&shared, (held, right), &tenure, rt.alloc(), text);
@@ -184,7 +184,7 @@ fn cells(alloc: Global, own: &Right) -> Shared<Cell<u32>>
     ensures { result.table ≡ own.now.table }
 {
     Cell::<u32>::judge();
-    Shared::new(Buckets::new(alloc), own)
+    share(Buckets::new(alloc), own)
 }
 
 #[test]
@@ -196,8 +196,13 @@ fn renewed_buckets_keep_their_values(rt: HostRuntime) -> Result<(), Fail> {
     let (held, first) = told(&shared, (held, right), &tenure, rt.alloc(), Cell::new(3));
     renewed(&mut shared, &own);
     let (_, second) = told(&shared, held, &tenure, rt.alloc(), Cell::new(4));
-    let slots = shared.slots();
-    let values = shared.into_buckets().into_iter().next().map(|c| c.get());
+    let slots = shared.slots_reached().0;
+    let values = shared
+        .into_buckets_and_book()
+        .0
+        .into_iter()
+        .next()
+        .map(|c| c.get());
     assert_eq!(rt; (first.is_some(), second.is_some()), (true, true));
     assert_eq!(rt; (slots, values), (1, Some(3)));
     Ok(())

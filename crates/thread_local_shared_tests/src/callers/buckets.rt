@@ -2,48 +2,48 @@
 ghost use Rattle.std.specs.Prelude.{◌≡◌, ◌^◌, ◌<◌, ◌≤◌};
 ghost use Rattle.thread_local_judged.specs.Judged.{Judged};
 
-use crate::steps::has_bit;
+use crate::steps::{has_bit, share};
 use std::cell::{Cell, RefCell};
+use thread_local_base::bucket_size;
 use thread_local_bucket_pointers::flag_word_at;
 use thread_local_buckets::Buckets;
 use thread_local_ids::{Right, Token, TokenList, Told};
 use thread_local_judged::{Judge, judge_sync};
 use thread_local_shared_buckets::{Row, Shared, SharedBucket};
-use thread_local_base::bucket_size;
 
 fn crosses<X: Send + Sync>(_there: &X) {}
 
 fn number(buckets: Buckets<u32>, own: &Right) -> Shared<u32>
     ensures { result.reserved ≡ buckets.reserved }
 {
-    Shared::new(buckets, own)
+    share(buckets, own)
 }
 
 fn boxed(buckets: Buckets<Box<u32>>, own: &Right) -> Shared<Box<u32>>
     ensures { result.reserved ≡ buckets.reserved }
 {
-    Shared::new(buckets, own)
+    share(buckets, own)
 }
 
 fn text(buckets: Buckets<String>, own: &Right) -> Shared<String>
     ensures { result.reserved ≡ buckets.reserved }
 {
     judge_sync::<String>();
-    Shared::new(buckets, own)
+    share(buckets, own)
 }
 
 fn cell(buckets: Buckets<Cell<u64>>, own: &Right) -> Shared<Cell<u64>>
     ensures { result.reserved ≡ buckets.reserved }
 {
     Cell::<u64>::judge();
-    Shared::new(buckets, own)
+    share(buckets, own)
 }
 
 fn ref_cell(buckets: Buckets<RefCell<String>>, own: &Right) -> Shared<RefCell<String>>
     ensures { result.reserved ≡ buckets.reserved }
 {
     RefCell::<String>::judge();
-    let shared = Shared::new(buckets, own);
+    let shared = share(buckets, own);
     crosses(&shared);
     shared
 }
@@ -52,23 +52,23 @@ fn generic<T>(buckets: Buckets<T>, own: &Right) -> Shared<T>
     requires judged { Judged T.row }
     ensures { (result.table ≡ own.now.table) × (result.reserved ≡ buckets.reserved) }
 {
-    Shared::new(buckets, own)
+    share(buckets, own)
 }
 
 fn sync<T: Send + Sync>(buckets: Buckets<T>, own: &Right) -> Shared<T>
     ensures { result.reserved ≡ buckets.reserved }
 {
-    Shared::new(buckets, own)
+    share(buckets, own)
 }
 
 fn cell_row(shared: &Shared<Cell<u64>>) -> Option<Row<'_, Cell<u64>>> {
-    shared.load(3, &TokenList::new())
+    shared.bucket(3).load(&TokenList::new())
 }
 
 fn slots(shared: &Shared<RefCell<String>>) -> usize
     ensures { shared.now.reserved ≤ result }
 {
-    shared.slots()
+    shared.slots_reached().0
 }
 
 fn owner_slots(shared: &mut Shared<RefCell<String>>) -> usize
@@ -81,7 +81,7 @@ fn owner_slots(shared: &mut Shared<RefCell<String>>) -> usize
 fn back(shared: Shared<RefCell<String>>) -> Buckets<RefCell<String>>
     ensures { result.reserved ≡ shared.reserved }
 {
-    shared.into_buckets()
+    shared.into_buckets_and_book().0
 }
 
 /// Buckets that are shared anew, by a caller that knows of the type what the buckets keep.
@@ -89,7 +89,7 @@ fn anew<T>(shared: Shared<T>, own: &Right) -> Shared<T>
     ensures { (result.table ≡ own.now.table) × (result.reserved ≡ shared.reserved) }
 {
     shared.judged();
-    Shared::new(shared.into_buckets(), own)
+    share(shared.into_buckets_and_book().0, own)
 }
 
 fn published<'a>(row: &Row<'a, String>, bucket: usize, index: usize) -> Option<&'a String>

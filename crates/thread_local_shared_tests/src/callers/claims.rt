@@ -6,10 +6,10 @@ ghost use Rattle.thread_local_base.specs.Place.{bucket_of, IsPlaceOf};
 
 use std::alloc::Global;
 use std::cell::{Cell, RefCell};
+use thread_local_base::Thread;
 use thread_local_bucket_pointers::Block;
 use thread_local_ids::{HeldId, Reached, Right, Token};
 use thread_local_shared_buckets::{Claim, SharedBucket};
-use thread_local_base::Thread;
 
 /// Publishes the value unless the slot holds one.
 fn offered<T: Send + Drop>(claim: &mut Claim<'_, T>, value: T)

@@ -29,11 +29,11 @@ module _ {V : Type 0} (of : ThreadLocalView) (claim : ClaimView V) (before : Lis
 pub lasting-requires : goal.lasting-requires
 lasting-requires g c = c.type_bounds.sync-T
 
-pub with_told-requires : goal.with_told-requires
-with_told-requires g c = (c.type_bounds.sync-T, lit< tt)
+pub new-requires : goal.new-requires
+new-requires g c = (c.type_bounds.sync-T, lit< tt)
 
-pub with_own_and_told-requires : goal.with_own_and_told-requires
-with_own_and_told-requires g c =
+pub with_own-requires : goal.with_own-requires
+with_own-requires g c =
     let found = c.in-Some.ensures in (
       c.type_bounds.sync-T,
       (lit< tt, (found.0 ∙ c.self.invariant.sharing ∙ sym (ap (λ (t : ThreadLocalView). t.sharing) c.table.view_is), found.2)),
@@ -47,7 +47,7 @@ returns-in-Some g c =
     let own : Some (owed c.in-Some.token.id c.in-Some.value.now) ≡ own_of c.args.self.now =
     own_held c.self.inside.table.now c.self.inside.claim c.self.inside.tenure.before c.in-Some.token.id c.in-Some.value.now found.1 found.3
     ∙ ap (λ (view : LocalView g.row.T.Denot). own_of view) c.self.view_is in
-    c.with_own_and_told.ensures ∙ (λ i. fresh_with (sharing i) (own i) true c.args.told)
+    c.with_own.ensures ∙ (λ i. fresh_with (sharing i) (own i) true c.args.told)
 
 pub returns-in-None : goal.returns-in-None
 returns-in-None g c =
@@ -56,4 +56,4 @@ returns-in-None g c =
     let own : None ≡ own_of c.args.self.now =
     own_none c.self.inside.table.now c.self.inside.claim c.self.inside.tenure.before c.in-None.ensures
     ∙ ap (λ (view : LocalView g.row.T.Denot). own_of view) c.self.view_is in
-    c.with_told.ensures ∙ (λ i. fresh_with (sharing i) (own i) true c.args.told)
+    c.new.ensures ∙ (λ i. fresh_with (sharing i) (own i) true c.args.told)

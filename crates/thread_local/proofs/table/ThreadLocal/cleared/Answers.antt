@@ -48,10 +48,10 @@ pub returns-clause-reserved : goal.returns-clause-reserved
 returns-clause-reserved g c =
     c.of.ensures.reserved
     ∙ c.clear.ensures.reserved
-    ∙ c.into_buckets-buckets.ensures
+    ∙ c.into_buckets_and_book.ensures.reserved
     ∙ ap (λ (t : ThreadLocalView). t.reserved) c.self.view_is
 
 pub returns-clause-grown : goal.returns-clause-grown
 returns-clause-grown g c =
     c.of.ensures.grown
-    ∙ grown_cleared c.clear.new.self c.into_buckets-buckets.result.reserved c.clear.ensures.reserved c.clear.ensures.stands
+    ∙ grown_cleared c.clear.new.self c.into_buckets_and_book.result.0.reserved c.clear.ensures.reserved c.clear.ensures.stands

@@ -1,5 +1,5 @@
 -- what the sharing isn't called
 use Rattle.thread_local.proofs.table.ThreadLocal.of.Given as goal
 
-abbrev pub ghost-new_apart : goal.ghost-new_apart
-ghost-new_apart g a = g.past
+abbrev pub ghost-new : goal.ghost-new
+ghost-new g a = g.past

@@ -1,6 +1,7 @@
 use Rattle.std.proofs.Common.{◌≡◌, ℕ, ◌+◌, ◌<◌, ◌≤◌, sym, ◌∙◌, subst, arith, ⊎_elim}
 use Rattle.std.proofs.lemmas.Bool.{cases_lt, or_parts}
 use Rattle.thread_local_ids.specs.TokenLists.{NoneIn}
+use Rattle.thread_local_shared_buckets.specs.Shared.{BucketView}
 use Rattle.thread_local_shared_buckets.proofs.shared.Shared.any_stands.Goals as goal
 use Rattle.thread_local_base.proofs.TakingLaws.{shows_none}
 
@@ -11,7 +12,8 @@ loop-at-preserved g c = λ none bucket low high.
     (λ (past : c.args.first + c.loop-at.at ≤ bucket).
     let same : c.args.first + c.loop-at.at ≡ bucket = omega arith in
     subst (λ (b : ℕ). NoneIn c.args.self.now.sharing b c.args.told.now.tokens) same
-    (c.load.ensures.told (shows_none c.load.result (sym c.is_some-any.ensures ∙ both.1))))
+    (subst (λ (d : BucketView). NoneIn d.sharing d.bucket c.args.told.now.tokens) c.bucket.ensures
+    (c.load.ensures.told (shows_none c.load.result (sym c.is_some-any.ensures ∙ both.1)))))
     (cases_lt bucket (c.args.first + c.loop-at.at))
 
 pub returns : goal.returns

@@ -1,6 +1,5 @@
--- the sharing may have any name
-use Rattle.std.proofs.Common.{None}
+-- what the new sharing isn't called
 use Rattle.thread_local_shared_buckets.proofs.shared.Shared.new.Given as goal
 
-abbrev pub ghost-new_apart : goal.ghost-new_apart
-ghost-new_apart g a = None
+abbrev pub ghost-of : goal.ghost-of
+ghost-of g a = g.past

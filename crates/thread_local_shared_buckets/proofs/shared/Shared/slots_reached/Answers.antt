@@ -5,11 +5,11 @@ use Rattle.std.proofs.Common.{◌≡◌, ◌≤◌, ◌<◌, ◌+◌, ◌-◌, �
 use Rattle.std.specs.Prelude.{max, nat_lt}
 use Rattle.std.proofs.Common.{add-one, arith, pow_mono, pow_pos, subst, ⊎_elim}
 use Rattle.std.proofs.Math.Nat.{two-pow-succ, le-max_left, le-max_right}
-use Rattle.std.proofs.lemmas.Bool.{cases_lt, ltb-true}
+use Rattle.std.proofs.lemmas.Bool.{cases_lt, ltb-true, lt-ltb}
 use Rattle.thread_local_base.specs.Place.{id_at}
 use Rattle.thread_local_base.specs.Owned.{AreOfFirstBuckets}
 use Rattle.thread_local_ids.specs.declared.reached.Reached.{Reached}
-use Rattle.thread_local_shared_buckets.specs.Shared.{ids_shown}
+use Rattle.thread_local_shared_buckets.specs.Shared.{BucketView, ids_shown, shown_by}
 use Rattle.thread_local_shared_buckets.proofs.shared.Shared.slots_reached.Goals as goal
 use Rattle.thread_local_shared_buckets.proofs.shared.Shared.slots_reached.Goals.{in-Some, in_default}
 
@@ -88,17 +88,22 @@ loop-bucket-preserved g c =
             most = after.most;
             least = after.least;
             all = after.all;
-            table = ap (λ (r : Reached). r.table) w.reached-is ∙ w.in-Some.ensures.shown.0;
+            table =
+                ap (λ (r : Reached). r.table) w.reached-is ∙ w.in-Some.ensures.shown.0
+                ∙ ap (λ (d : BucketView). d.table) c.bucket-in-loop-bucket.ensures;
             grown = λ grown.
                 allowed (nat_lt (id_at bucket 0) table.reserved) table.reserved bucket c.loop-bucket.slots c.match-reached.slots
                 w.bucket_size-slots.result c.match-reached.reached.ids refl first kept.most w.bucket_size-slots.ensures w.slots-is
-                (ap (λ (r : Reached). r.ids) w.reached-is ∙ w.in-Some.ensures.shown.1
+                (ap (λ (r : Reached). r.ids) w.reached-is ∙ w.in-Some.ensures.shown.1 ∙ ap shown_by c.bucket-in-loop-bucket.ensures
                 ∙ ap (λ (t : Bool). ids_shown t (nat_lt (id_at bucket 0) table.reserved) bucket) grown);
           })
       | in_default w ↦
           (let after : Counted table.reserved (bucket + 1) c.match-reached.slots =
           missing table.reserved bucket c.loop-bucket.slots c.match-reached.slots before w.slots-is
-          (λ low. let never : false ≡ true = w.in_default.ensures.reserved low in cc) in
+          (λ low.
+          let is : c.bucket-in-loop-bucket.result.now.reserved ≡ true =
+          ap (λ (d : BucketView). d.reserved) c.bucket-in-loop-bucket.ensures ∙ lt-ltb (id_at bucket 0) table.reserved low in
+          let never : false ≡ true = w.in_default.ensures.reserved is in cc) in
           record {
             most = after.most;
             least = after.least;

@@ -92,7 +92,7 @@ returns-clause-meets g c =
     m.told c.pass-found.ensures.stops)
     (subst (λ (o : Option ℕ). IsToldAt o to.raw found) same c.pass-found.ensures.told)
     (subst (λ (ts : List (TokenView _)). AllOf found.0.sharing (λ p. p.id ≡ found.0.id → p.value ≡ found.0.value) ts)
-    (c.pass-found.ensures.same ∙ m.told) c.agrees.ensures)
+    (c.list.ensures ∙ c.pass-found.ensures.same ∙ m.told) c.agrees.ensures)
 
 pub returns-clause-same : goal.returns-clause-same
 returns-clause-same g c = c.pass-found.ensures.same ∙ (meets g c).told

@@ -3,7 +3,7 @@ use Rattle.std.proofs.Common.{◌≡◌, ℕ, true, Some, ap, sym, ◌∙◌, li
 use Rattle.thread_local_base.specs.Place.{id_at, bucket_of, index_of}
 use Rattle.thread_local_base.proofs.PlaceLaws.{id_at-place}
 use Rattle.thread_local_shared_buckets.specs.Walks.{WalkView, fresh_with}
-use Rattle.thread_local_shared_buckets.proofs.iter.Iter.with_own_and_told.Goals as goal
+use Rattle.thread_local_shared_buckets.proofs.iter.Iter.with_own.Goals as goal
 
 at_place : (id bucket index : ℕ) → bucket ≡ bucket_of id → index ≡ index_of id → id_at bucket index ≡ id
 at_place id bucket index in_bucket at_index =
