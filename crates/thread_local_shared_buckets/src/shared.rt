@@ -13,7 +13,7 @@ ghost use Rattle.thread_local_shared_buckets.specs.Parts.{parts_own, parts_share
 ghost use Rattle.thread_local_shared_buckets.specs.Shared.{shown_by};
 
 use crate::parts::SharedParts;
-use crate::{Claim, Row, SharedBucket, replace_with};
+use crate::{Claim, Row, SharedBucket};
 use std::marker::{Move, Owns, PhantomData};
 use thread_local_bucket_pointers::BucketPointers;
 use thread_local_buckets::Buckets;
@@ -86,28 +86,16 @@ impl<T> Shared<T> {
     }
 
     /// Ends the sharing, and begins another one of the same buckets, as the buckets of the table
-    /// that the right belongs to.
+    /// that the right belongs to, with a name other than `past`. At run time it does nothing.
     pub fn renew(&mut self, own: &Right)
+        ghost past: { Option ℕ }
         requires judged { Judged T.row }
         ensures table { self.new.table ≡ own.now.table }
-        ensures sharing { IsSome self.new.sharing × (self.new.sharing ≢ self.old.sharing) }
+        ensures sharing { IsSome self.new.sharing × (self.new.sharing ≢ past) }
         ensures reserved { self.new.reserved ≡ self.old.reserved }
         ensures grown { self.old.table ≡ own.now.table → self.new.grown_by_ids ≡ self.old.grown_by_ids }
     {
-        replace_with(self, own, renewed)
-    }
-
-    /// `renew`, by value.
-    fn shared_again(self, own: &Right) -> Shared<T>
-        ghost past: { Option ℕ }
-        requires judged { Judged T.row }
-        ensures table { result.table ≡ own.now.table }
-        ensures sharing { IsSome result.sharing × (result.sharing ≢ past) }
-        ensures reserved { result.reserved ≡ self.reserved }
-        ensures grown { self.table ≡ own.now.table → result.grown_by_ids ≡ self.grown_by_ids }
-    {
         let _ = own;
-        self
     }
 
     /// Gives the buckets back to an owner, with all that was lent while they were shared.
@@ -282,17 +270,6 @@ impl<T> Shared<T> {
         }
         (slots, reached)
     }
-}
-
-/// What `renew` makes of the buckets.
-fn renewed<T>(shared: Shared<T>, own: &Right) -> (Shared<T>, ())
-    requires judged { Judged T.row }
-    ensures table { result.0.table ≡ own.now.table }
-    ensures sharing { IsSome result.0.sharing × (result.0.sharing ≢ shared.sharing) }
-    ensures reserved { result.0.reserved ≡ shared.reserved }
-    ensures grown { shared.table ≡ own.now.table → result.0.grown_by_ids ≡ shared.grown_by_ids }
-{
-    (shared.shared_again(own), ())
 }
 
 impl<T: Sync> Shared<T> {
