@@ -5,7 +5,7 @@ use Rattle.std.specs.Int.{div_ceil}
 use Rattle.std.proofs.lemmas.Bool.{both_ways, true_from_ne_false, cases_eq, cases_lt}
 use Rattle.std.proofs.lemmas.List.{length-replicate, length_push, length-take, get_or-set_same, get_or-set_other}
 use Rattle.thread_local_base.specs.Bits.{bits_of, IsNextUnset}
-use Rattle.thread_local_base.proofs.Words.{length-bits_of, get_or-bits_of, is_set_in-zeros}
+use Rattle.thread_local_base.proofs.WordBits.{length-bits_of, get_or-bits_of, is_set_in-zeros}
 use Rattle.thread_local_base.specs.Held.{is_held, least, HoldsAllBelow}
 use Rattle.thread_local_base.proofs.Views.{IsFreeFrom-set, HoldsAllBelow-set, HoldsAllBelow-hold, was_free, is_held-push, take-push}
 use Rattle.thread_local_base.specs.Entries.{AreEntries}

@@ -21,7 +21,7 @@ pub mod Bodies
 pub mod Names
 pub mod Pairs
 pub mod Word
-pub mod Words
+pub mod WordBits
 pub mod Opened
 pub mod Pointers
 pub mod Signs

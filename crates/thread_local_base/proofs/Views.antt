@@ -6,7 +6,7 @@ use Rattle.std.proofs.lemmas.List.{get_or-set_same, get_or-set_other, take-appen
 use Rattle.std.proofs.lemmas.Bool.{both_ways, cases_eq}
 use Rattle.thread_local_base.proofs.HeldLaws.{least_lower}
 use Rattle.thread_local_base.specs.Bits.{bits_of}
-use Rattle.thread_local_base.proofs.Words.{length-bits_of, get_or-bits_of, bits_of-append, is_set_in-push_zero}
+use Rattle.thread_local_base.proofs.WordBits.{length-bits_of, get_or-bits_of, bits_of-append, is_set_in-push_zero}
 use Rattle.thread_local_base.specs.Held.{is_held, least, with_least, HoldsAllBelow}
 
 -- no entry from the peak on is held

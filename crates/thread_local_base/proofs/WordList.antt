@@ -10,7 +10,7 @@ use Rattle.thread_local_base.specs.Bits.{bits_of, is_set, is_set_in, IsWordBut, 
 use Rattle.thread_local_base.proofs.Word.{is_set-zero}
 use Rattle.thread_local_base.specs.declared.words.Words.TheInside.{Inside}
 use Rattle.thread_local_base.specs.WordList.{words_of, AreWords}
-use Rattle.thread_local_base.proofs.Words.{bits_of-set, is_set_in-all_ones, next_unset, next_unset_from, none_behind}
+use Rattle.thread_local_base.proofs.WordBits.{bits_of-set, is_set_in-all_ones, next_unset, next_unset_from, none_behind}
 
 -- where there is a word, all of them are the first and the rest
 all_words : (count first : ℕ) (rest : List ℕ) → length rest ≡ count - 1 → 0 < count

@@ -13,7 +13,7 @@ use prog.Memory.{size, align, up, capped}
 use prog.Capped.{capped_is}
 use prog.Align.{up-ge, align_w, align-bytes}
 use Rattle.thread_local_base.specs.Bits.{is_set, is_set_in, IsWordBut}
-use Rattle.thread_local_base.proofs.Words.{is_set_in-set, is_set_in-zeros, get_or-push_zero, is_set_in-push_zero}
+use Rattle.thread_local_base.proofs.WordBits.{is_set_in-set, is_set_in-zeros, get_or-push_zero, is_set_in-push_zero}
 use Rattle.thread_local_bucket_pointers.specs.Slots.{empty_slots, slot_value, chunks, AreFlagsFrom, AreFlags, stride}
 use Rattle.thread_local_bucket_pointers.specs.Slots.{value_words, slots_ty, Fits, flag_word_at}
 

@@ -20,7 +20,7 @@ use denote.Steps.{nothing}
 use Rattle.std.specs.Sync.RawAtomic.{word}
 use Rattle.std.specs.Sync.RawAtomic.Pointer.{cell}
 use Rattle.thread_local_base.specs.Bits.{is_set, is_set_in, IsWordBut}
-use Rattle.thread_local_base.proofs.Words.{is_set_in-set}
+use Rattle.thread_local_base.proofs.WordBits.{is_set_in-set}
 use Rattle.thread_local_bucket_pointers.specs.Slots.{AreWords, each, heap_token, block_ty, word_offset, value_offset, flags_at, back}
 use Rattle.thread_local_bucket_pointers.proofs.Each.{Put, each_at, each_turned}
 use Rattle.thread_local_bucket_pointers.proofs.Flags.{in_chunks}

@@ -1,6 +1,6 @@
 use Rattle.std.proofs.Common.{◌*◌, arith, ⊎_elim, refl, get_or}
 use Rattle.std.proofs.lemmas.Bool.{cases_lt}
-use Rattle.thread_local_base.proofs.Words.{is_set_in-all_ones, next_unset, next_unset_from, none_behind}
+use Rattle.thread_local_base.proofs.WordBits.{is_set_in-all_ones, next_unset, next_unset_from, none_behind}
 use Rattle.thread_local_base.proofs.words.next_unset.Goals as goal
 
 pub loop-at-preserved : goal.loop-at-preserved

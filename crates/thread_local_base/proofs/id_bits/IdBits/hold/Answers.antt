@@ -1,7 +1,7 @@
 use Rattle.std.proofs.Common.{◌≡◌, ◌∙◌, ℕ, min, ◌*◌, ◌-◌, ◌^◌, ◌<◌, length, take, ap, sym, arith, refl, add-one}
 use Rattle.thread_local_base.specs.Held.{least, with_least}
 use Rattle.thread_local_base.specs.Bits.{bits_of}
-use Rattle.thread_local_base.proofs.Words.{length-bits_of}
+use Rattle.thread_local_base.proofs.WordBits.{length-bits_of}
 use Rattle.thread_local_base.proofs.IdBits.{in_room, held_at_peak, held_last, held_below_peak}
 use Rattle.thread_local_base.proofs.Views.{least-take, least_within, taken_at_peak, taken_below_peak}
 use Rattle.thread_local_base.proofs.id_bits.IdBits.hold.Goals as goal

@@ -1,7 +1,7 @@
 use Rattle.std.proofs.Common.{◌∙◌, length, ap, sym}
 use Rattle.thread_local_base.specs.Held.{is_held}
 use Rattle.thread_local_base.specs.Bits.{bits_of}
-use Rattle.thread_local_base.proofs.Words.{get_or-bits_of}
+use Rattle.thread_local_base.proofs.WordBits.{get_or-bits_of}
 use Rattle.thread_local_base.proofs.IdBits.{in_room, room_bounded}
 use Rattle.thread_local_base.proofs.Views.{is_held-take}
 use Rattle.thread_local_base.proofs.id_bits.IdBits.is_held.Goals as goal

@@ -2,7 +2,7 @@ use Rattle.std.proofs.Common.{◌∙◌, sym, ap, arith}
 use Rattle.thread_local_base.specs.Held.{least}
 use Rattle.thread_local_base.proofs.HeldLaws.{least_only}
 use Rattle.thread_local_base.specs.Bits.{bits_of}
-use Rattle.thread_local_base.proofs.Words.{length-bits_of}
+use Rattle.thread_local_base.proofs.WordBits.{length-bits_of}
 use Rattle.thread_local_base.proofs.Views.{least-take}
 use Rattle.thread_local_base.proofs.id_bits.IdBits.least_free.Goals as goal
 

@@ -1,7 +1,7 @@
 use Rattle.std.proofs.Common.{◌≤◌, ◌*◌, length, arith}
 use Rattle.std.proofs.lemmas.List.{length-take}
 use Rattle.thread_local_base.specs.Bits.{bits_of}
-use Rattle.thread_local_base.proofs.Words.{length-bits_of}
+use Rattle.thread_local_base.proofs.WordBits.{length-bits_of}
 use Rattle.thread_local_base.proofs.id_bits.IdBits.peak.Goals as goal
 
 pub returns : goal.returns

@@ -63,7 +63,7 @@ renew_spec 𝓤 𝓛 𝓜 𝓡 wired T L =
     use2 𝓛 (later (‵ (Sh.own_val s' us))) (shares_again 𝓛 R LR s table γ us) $ await ! tt $
     move ! (1 ∷ 0 ∷ 2 ∷ 3 ∷ 4 ∷ []) $ closes ! tt Sh s' us b o $
     sets ! (of_opd ! (unit_lit !)) refl (tt, tt) $
-    move ! (2 ∷ 0 ∷ 1 ∷ []) $ fjoin3 ! $ nothing ! $ nothing ! $ fjoin ! $ move ! (1 ∷ 0 ∷ []) $ fjoin ! $
+    move ! (3 ∷ 0 ∷ 1 ∷ []) $ fjoin3 ! $ nothing ! $ nothing ! $ fjoin ! $ move ! (1 ∷ 0 ∷ []) $ fjoin ! $
     -- [the reference; the tokens]
     move ! (1 ∷ 2 ∷ []) $ join ! $
     feq_i ! _ (vunit ∷ []) _ refl $
@@ -75,4 +75,4 @@ renew_spec 𝓤 𝓛 𝓜 𝓡 wired T L =
     knows ! (table ≡ table) refl $ join ! $
     -- [the facts; the result; the tokens; the reference]
     returns ! (look_at ! 0 refl) $ free_all ! refl $ keep ! (2 ∷ 3 ∷ 1 ∷ 0 ∷ []) $
-    by ! (leaves 𝓛 En hs c y vunit tt (s', (tt, tt)) (tt, (tt, tt)))))))
+    by ! (leaves 𝓛 En hs c y vunit tt (s', (tt, tt)) (tt, (tt, tt))))))))
