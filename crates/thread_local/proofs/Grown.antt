@@ -1,4 +1,4 @@
--- A table that is made or cleared has no bucket but reserved ones.
+-- A table that is made has no bucket but reserved ones.
 use Rattle.std.proofs.Common.{◌≡◌, ◌∙◌, ℕ, ◌<◌, ◌≤◌, ◌+◌, ◌-◌, ◌^◌, true, false, length, sym, ap, arith, add-one, pow_pos, pow_mono}
 use Rattle.std.specs.Prelude.{nat_lt}
 use Rattle.std.proofs.Math.Nat.{two-pow-succ}
@@ -17,12 +17,6 @@ grown_new {V} owned none =
     only_reserved_if owned (λ b there.
     let never : stands owned.contents b ≡ false = ap (λ c. stands c b) none ∙ ap (λ row. nat_lt 0 (length row)) (row-no_contents V b) in
     let clash : false ≡ true = sym never ∙ there in cc)
-
--- the reserved buckets stand
-pub grown_cleared : {V : Type 0} (owned : Owned V) (reserved : ℕ) → owned.reserved ≡ reserved
-    → ((b : ℕ) → stands owned.contents b ≡ nat_lt (id_at b 0) reserved) → only_reserved owned ≡ true
-grown_cleared owned reserved same kept =
-    only_reserved_if owned (λ b there. ap (λ n. nat_lt (id_at b 0) n) same ∙ sym (kept b) ∙ there)
 
 first_in : (b digits : ℕ) → b < digits → id_at b 0 < 2 ^ digits - 1
 first_in b digits low =

@@ -9,9 +9,6 @@ use Rattle.thread_local.specs.declared.error.SetError.TheVariants as sets
 pub same_some : {A : Type 0} {x y : A} → Some x ≡ Some y → x ≡ y
 same_some told = cc
 
-pub some_not_none : {A : Type 0} {x : A} → ◌≡◌ {A = Option A} (Some x) None → ⊥
-some_not_none told = cc
-
 pub false_not_true : ◌≡◌ {A = Bool} false true → ⊥
 false_not_true told = cc
 

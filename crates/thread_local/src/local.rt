@@ -301,18 +301,7 @@ impl<'a, T, R: Wait> Local<'a, T, R> {
             → (self.old.value ≡ None) × (self.old.known ≡ false) × (given ≡ value) × (self.new ≡ self.old) }
     {
         self.set(value)?;
-        Ok(self.token_held())
-    }
-
-    /// A token of what the slot was published with, where it holds a value.
-    fn token_held(&self) -> Token<T>
-        requires { self.now.value ≢ None }
-        ensures { token_of self.now ≡ Some result }
-    {
-        match self.token() {
-            Some(token) => token,
-            None => unreachable!(),
-        }
+        Ok(self.token().unwrap())
     }
 
     /// `get_or_try` without the value. Call it where the proof has to know what the `Local` knows

@@ -59,7 +59,6 @@ mod lends;
 /// What was done with the table's ids, in the order of its lock, is their history. A `Page` is a
 /// beginning of it, which has no bytes. Each `Local` has the page that ends with its take, and
 /// returns have theirs, so callers tell which id was taken or given back before which.
-#[derive(Drop)]
 pub struct ThreadLocal<T> {
     pub(crate) buckets: Shared<T>,
     pub(crate) ids: Lock<Ids>,
@@ -115,29 +114,25 @@ impl<T> ThreadLocal<T> {
         ensures room { result.room ≡ 0 }
         ensures grown { result.grown_by_ids ≡ true }
     {
-        let mut ids = Ids::new(alloc);
-        let right = ids.table_right();
-        ThreadLocal::of(alloc, Buckets::new(alloc), ids, right)
+        ThreadLocal::of(alloc, Buckets::new(alloc), Ids::new(alloc))
     }
 
-    /// Makes a table of an owner's buckets, their ids, and the table's right.
-    fn of(alloc: Global, buckets: Buckets<T>, ids: Ids, right: Right) -> ThreadLocal<T>
-        ghost past: { Option ℕ }
+    /// Makes a table of an owner's buckets and of ids of which nothing was done yet.
+    fn of(alloc: Global, buckets: Buckets<T>, mut ids: Ids) -> ThreadLocal<T>
         requires judged { Judged T.row }
-        requires right { (right.table ≡ ids.table) × (right.id ≡ 2 ^ 63 - 1) }
-        requires moves { ids.moves ≡ [] }
-        ensures table { result.table ≡ ids.table }
-        ensures room { result.room ≡ ids.room }
-        ensures sharing { IsSome result.sharing × (result.sharing ≢ past) }
+        requires ids { (ids.table_right_is_out ≡ false) × (ids.moves ≡ []) }
+        ensures sharing { IsSome result.sharing }
         ensures reserved { result.reserved ≡ buckets.reserved }
+        ensures room { result.room ≡ ids.room }
         ensures grown { result.grown_by_ids ≡ only_reserved buckets }
     {
+        let table_right = ids.table_right();
         let first = ids.page();
         let room = ids.room();
         ThreadLocal {
-            buckets: Shared::new(buckets, &right),
+            buckets: Shared::new(buckets, &table_right),
             ids: Lock::new(ids),
-            table_right: right,
+            table_right,
             first,
             room,
             alloc,
@@ -163,9 +158,8 @@ impl<T> ThreadLocal<T> {
         ensures not_too_large { result ≡ Err CapacityError.TooLarge → 2 ^ 63 ≤ capacity }
     {
         let buckets = Buckets::with_capacity(alloc, capacity)?;
-        let mut ids = Ids::with_room(alloc, capacity)?;
-        let right = ids.table_right();
-        Ok(ThreadLocal::of(alloc, buckets, ids, right))
+        let ids = Ids::with_room(alloc, capacity)?;
+        Ok(ThreadLocal::of(alloc, buckets, ids))
     }
 
     /// A `Local` with the least id that isn't held after what was done with the ids before: the
@@ -336,46 +330,46 @@ impl<T> ThreadLocal<T> {
         ensures reserved { self.new.reserved ≡ self.old.reserved }
         ensures grown { self.new.grown_by_ids ≡ true }
     {
-        replace_with(self, (), emptied);
-    }
-
-    /// `clear`, by value, with a name for the sharing other than `past`.
-    fn cleared(self) -> ThreadLocal<T>
-    where
-        T: Drop,
-        ghost past: { Option ℕ }
-        ensures table { result.table ≢ self.table }
-        ensures sharing { IsSome result.sharing × (result.sharing ≢ past) }
-        ensures reserved { result.reserved ≡ self.reserved }
-        ensures grown { result.grown_by_ids ≡ true }
-    {
-        let Self {
-            buckets,
-            ids,
-            table_right: mut old,
-            first: _,
-            room: _,
-            alloc,
-        } = self;
-        buckets.judged();
-        let mut buckets = buckets.into_buckets_and_book().0;
-        buckets.clear();
-        let mut ids = ids.into_inner();
-        ids.clear();
-        let mut fresh = ids.table_right();
-        old.apart(&mut fresh);
-        ThreadLocal::of(alloc, buckets, ids, fresh)
+        let (mut right, first, room) = replace_with(&mut self.ids, (), begun_anew);
+        self.table_right.apart(&mut right);
+        self.buckets.clear(&right);
+        self.table_right = right;
+        self.first = first;
+        self.room = room;
     }
 }
 
-/// What `clear` makes of a table.
-fn emptied<T: Drop>(table: ThreadLocal<T>, _: ()) -> (ThreadLocal<T>, ())
-    ensures table { result.0.table ≢ table.table }
-    ensures sharing { IsSome result.0.sharing × (result.0.sharing ≢ table.sharing) }
-    ensures reserved { result.0.reserved ≡ table.reserved }
-    ensures grown { result.0.grown_by_ids ≡ true }
+/// What `clear` makes of the ids under their lock: those of another table, with its right, its first
+/// page and its room.
+fn begun_anew(ids: Lock<Ids>, _: ()) -> (Lock<Ids>, (Right, Page, Room))
+    ensures tag { result.0.tag ≡ result.1.0.table }
+    ensures right { result.1.0.id ≡ 2 ^ 63 - 1 }
+    ensures first { (result.1.1.table ≡ result.1.0.table) × (result.1.1.moves ≡ []) }
+    ensures room { result.1.2.table ≡ result.1.0.table }
 {
-    (table.cleared(), ())
+    let mut ids = ids.into_inner();
+    ids.clear();
+    let right = ids.table_right();
+    let first = ids.page();
+    let room = ids.room();
+    (Lock::new(ids), (right, first, room))
+}
+
+// By hand, since a derived drop is proved anew in each program that drops a table.
+impl<T: Drop> Drop for ThreadLocal<T> {
+    #[inline]
+    fn drop(self) {
+        let Self {
+            buckets,
+            ids,
+            table_right: _,
+            first: _,
+            room: _,
+            alloc: _,
+        } = self;
+        drop(buckets);
+        drop(ids);
+    }
 }
 
 impl<T: Sync> ThreadLocal<T> {

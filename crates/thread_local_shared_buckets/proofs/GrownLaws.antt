@@ -32,6 +32,10 @@ so_both : (t r : Bool) → t ≡ true → r ≡ true → (if t then r else false
 so_both true r is so = so
 so_both false r is so = cc
 
+not_first : (t r : Bool) → t ≡ false → (if t then true else r) ≡ true → r ≡ true
+not_first true r is e = cc
+not_first false r is e = e
+
 among_so : (there among : Bool) → is_among there among ≡ true → there ≡ true → among ≡ true
 among_so true among e is = e
 among_so false among e is = cc
@@ -77,6 +81,12 @@ pub only_reserved_if : {V : Type 0} (owned : Owned V)
     → only_reserved owned ≡ true
 only_reserved_if owned so =
     all_among (λ bucket. nat_lt (id_at bucket 0) owned.reserved) (stands owned.contents) (λ b near there. so b there)
+
+-- where the reserved buckets alone stand
+pub only_reserved_stand : {V : Type 0} (owned : Owned V) (reserved : ℕ) → owned.reserved ≡ reserved
+    → ((b : ℕ) → stands owned.contents b ≡ nat_lt (id_at b 0) reserved) → only_reserved owned ≡ true
+only_reserved_stand owned reserved same kept =
+    only_reserved_if owned (λ b there. ap (λ n. nat_lt (id_at b 0) n) same ∙ sym (kept b) ∙ there)
 
 -- ---- what a row shows
 -- how many ids were held at once, by a bucket's row: none where it doesn't stand
@@ -218,6 +228,29 @@ module _ {V : Type 0} where
       λ k. ids_shown ((so refl).0 k) (sym (so refl).1 k) b in
       omega (arith, same)
 
+  -- a bucket that an owner leaves shows no more than before, whether no other than reserved ones is left
+  -- or not
+  left_shown : (s : TableView) (lent left : Owned V) → lent.reserved ≡ s.reserved → (i : ℕ) → i < 63
+      → (only : Bool) → only_reserved left ≡ only
+      → shown_in (bucket_view (view_with s lent left) i) (row left.contents i) ≤ shown_in (bucket_view s i) (row lent.contents i)
+  left_shown s lent left same i low true only =
+      let s' : TableView = view_with s lent left in
+      let none : shown_in (bucket_view s' i) (row left.contents i) ≡ 0 =
+      none_shown s'.grown_by_ids (nat_lt (id_at i 0) left.reserved) s.table left.reserved i s'.sharing (row left.contents i)
+      (λ there grown. stands_among (λ bucket. nat_lt (id_at bucket 0) left.reserved) (stands left.contents) only i low there) in
+      omega (arith, none)
+  left_shown s lent left same i low false only =
+      let s' : TableView = view_with s lent left in
+      shown_less s'.grown_by_ids s.grown_by_ids (nat_lt (id_at i 0) left.reserved) (nat_lt (id_at i 0) s.reserved) s.table s.table i
+      s'.sharing s.sharing (row left.contents i) (row lent.contents i) (λ grown.
+      let all = both_so s.grown_by_ids (adds_no_bucket lent left) (not_first (only_reserved left) _ only grown) in
+      let keeps = both_so (left.reserved == lent.reserved) (stand_among (stands lent.contents) (stands left.contents)) all.1 in
+      let as_many : left.reserved ≡ s.reserved = eqb-true left.reserved lent.reserved keeps.0 ∙ same in (
+        all.0,
+        ap (λ (n : ℕ). nat_lt (id_at i 0) n) as_many,
+        stands_among (stands lent.contents) (stands left.contents) keeps.1 i low,
+      ))
+
   -- an owner that had the buckets on loan leaves no bucket that shows more
   pub lent_shown : (s : TableView) (lent left : Owned V) → lent.reserved ≡ s.reserved → IsTable left.contents
       → ByNumber (length left.contents.rows) 0 (λ i j.
@@ -228,16 +261,7 @@ module _ {V : Type 0} where
       let is : j ≡ i = omega (arith, at) in
       let s' : TableView = view_with s lent left in
       let F : ℕ → Type 0 = λ k. shown_in (bucket_view s' k) (row left.contents i) ≤ shown_in (bucket_view s k) (row lent.contents i) in
-      subst F (sym is)
-      (shown_less s'.grown_by_ids s.grown_by_ids (nat_lt (id_at i 0) left.reserved) (nat_lt (id_at i 0) s.reserved) s.table s.table i
-      s'.sharing s.sharing (row left.contents i) (row lent.contents i) (λ grown.
-      let all = both_so s.grown_by_ids (adds_no_bucket lent left) grown in
-      let keeps = both_so (left.reserved == lent.reserved) (stand_among (stands lent.contents) (stands left.contents)) all.1 in
-      let as_many : left.reserved ≡ s.reserved = eqb-true left.reserved lent.reserved keeps.0 ∙ same in (
-        all.0,
-        ap (λ (n : ℕ). nat_lt (id_at i 0) n) as_many,
-        stands_among (stands lent.contents) (stands left.contents) keeps.1 i low,
-      )))
+      subst F (sym is) (left_shown s lent left same i low (only_reserved left) refl)
 
 -- a view of the same buckets in another sharing, of the table of this name
 abbrev pub view_again : TableView → ℕ → ℕ → TableView

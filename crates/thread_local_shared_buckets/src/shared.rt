@@ -46,12 +46,11 @@ impl<T> Move for Shared<T> {
 
 impl<T> Shared<T> {
     /// Lets threads share an owner's buckets, as the buckets of the table that the right belongs
-    /// to. The sharing gets a name other than `past`.
+    /// to. The sharing gets a name.
     pub fn new(buckets: Buckets<T>, own: &Right) -> Shared<T>
-        ghost past: { Option ℕ }
         requires judged { Judged T.row }
         ensures table { result.table ≡ own.now.table }
-        ensures sharing { IsSome result.sharing × (result.sharing ≢ past) }
+        ensures sharing { IsSome result.sharing }
         ensures reserved { result.reserved ≡ buckets.reserved }
         ensures grown { result.grown_by_ids ≡ only_reserved buckets }
     {
@@ -61,11 +60,10 @@ impl<T> Shared<T> {
 
     /// `new`, from an owner's pointers and the number of reserved slots.
     fn of(pointers: BucketPointers<T>, reserved: usize, own: &Right) -> Shared<T>
-        ghost past: { Option ℕ }
         requires judged { Judged T.row }
         requires owned { IsOwned (record { contents = pointers; reserved = reserved }) }
         ensures table { result.table ≡ own.now.table }
-        ensures sharing { IsSome result.sharing × (result.sharing ≢ past) }
+        ensures sharing { IsSome result.sharing }
         ensures reserved { result.reserved ≡ reserved }
         ensures grown { result.grown_by_ids ≡ only_reserved (record { contents = pointers; reserved = reserved }) }
     {
@@ -84,6 +82,25 @@ impl<T> Shared<T> {
         ensures grown { self.old.table ≡ own.now.table → self.new.grown_by_ids ≡ self.old.grown_by_ids }
     {
         let _ = own;
+    }
+
+    /// Drops every value, and frees every bucket that isn't reserved. From then on the buckets are
+    /// those of the table that the right belongs to, in a sharing with a name other than `past`.
+    pub fn clear(&mut self, own: &Right)
+    where
+        T: Drop,
+        ghost past: { Option ℕ }
+        ensures table { self.new.table ≡ own.now.table }
+        ensures sharing { IsSome self.new.sharing × (self.new.sharing ≢ past) }
+        ensures reserved { self.new.reserved ≡ self.old.reserved }
+        ensures grown { self.new.grown_by_ids ≡ true }
+    {
+        self.judged();
+        // The loan's end shows of the table that has the buckets then that reserved ones alone are
+        // left. So it is the new table already.
+        self.renew(own);
+        self.owner().clear();
+        self.renew(own);
     }
 
     /// Gives the buckets back to an owner, with all that was lent while they were shared, and with

@@ -14,23 +14,7 @@ fits capacity room large least =
 
 -- The search for these takes a second.
 pub of-requires : goal.of-requires
-of-requires g c = λ κs within.
-    let right = c.table_right-right.ensures.right in (
-      within,
-      (
-        lit< tt,
-        (
-          lit< tt,
-          (
-            c.requires.judged,
-            (
-              (right.0 ∙ sym c.table_right-right.ensures.same.1, right.1),
-              c.table_right-right.ensures.same.2 ∙ c.in_ok-ids.ensures.moves,
-            ),
-          ),
-        ),
-      ),
-    )
+of-requires g c = (lit< tt, (lit< tt, (c.requires.judged, (c.in_ok-ids.ensures.table_right, c.in_ok-ids.ensures.moves))))
 
 pub returns-clause-too_large : goal.returns-clause-too_large
 returns-clause-too_large g c = λ large. absurd (ok_not_err (c.in_ok-buckets.ensures.too_large large))
@@ -40,7 +24,7 @@ returns-in_err-ids-clause-too_large g c = λ large. absurd (ok_not_err (c.in_ok-
 
 pub returns-clause-room : goal.returns-clause-room
 returns-clause-room g c =
-    subst (λ (room : ℕ). c.args.capacity ≤ room) (sym (c.of.ensures.room ∙ c.table_right-right.ensures.same.3))
+    subst (λ (room : ℕ). c.args.capacity ≤ room) (sym c.of.ensures.room)
     (fits c.args.capacity c.in_ok-ids.ids.room (λ large. ok_not_err (c.in_ok-buckets.ensures.too_large large))
     c.in_ok-ids.ensures.made_room)
 
@@ -48,7 +32,7 @@ pub returns-clause-not_too_large : goal.returns-clause-not_too_large
 returns-clause-not_too_large g c = λ told. absurd (ok_not_err told)
 
 pub returns-clause-sharing : goal.returns-clause-sharing
-returns-clause-sharing g c = c.of.ensures.sharing.0
+returns-clause-sharing g c = c.of.ensures.sharing
 
 pub returns-clause-reserved : goal.returns-clause-reserved
 returns-clause-reserved g c = c.of.ensures.reserved ∙ c.in_ok-buckets.ensures.reserved

@@ -1,6 +1,6 @@
 -- `of` puts an owner's pointers beside the number, and begins a sharing: they are shared buckets at
 -- rest.
-use Rattle.std.proofs.Common.{Bool, Option, Some, IsSome, ◌≢◌, ◌≡◌, ℕ, ◌^◌, ◌<◌, List, [], ◌∷◌, ◌++◌, refl, sym, subst, w64}
+use Rattle.std.proofs.Common.{Bool, Some, None, IsSome, ◌≢◌, ◌≡◌, ℕ, ◌^◌, ◌<◌, List, [], ◌∷◌, ◌++◌, refl, sym, subst, w64}
 use mir.Syntax.{a_type, named}
 use mir.Val.{Val, vint, vptr, has_ty}
 use mir.MapTy.{inst_fn}
@@ -61,7 +61,7 @@ of_spec 𝓤 𝓛 𝓜 𝓡 wired T L =
       (Goes-dropped 𝓛 2 number yes (λ κs x f. refl), (Goes-dropped 𝓛 2 ref yes (λ κs x f. refl), tt)),
     )
     (#self inst) fn (code.unfolded 𝓤 𝓛.H 𝓜 𝓡 wired (T, tt)) (λ z are.
-    let w : Ws.Denot = z.0.3.0 in let n : ℕ = z.0.3.1.0 in let table : ℕ = z.0.3.1.1.0.now.table in let past : Option ℕ = z.1 in
+    let w : Ws.Denot = z.0.3.0 in let n : ℕ = z.0.3.1.0 in let table : ℕ = z.0.3.1.1.0.now.table in
     let got = one (layout Ws) z.0.4.0 (((pointers'.the_row_laws R LR).lawful 𝓛).typed w z.0.4.0 are.0) in
     let v : Val = got.0 in
     let fine : Good (layout Ws) v = got.2 in
@@ -85,8 +85,8 @@ of_spec 𝓤 𝓛 𝓜 𝓡 wired T L =
     suffices ! (Run us) (subst (λ (ws : List Val). ent 𝓤 (Run us) (Run ws))
     (sym (λ i. got.1 i ++ (are.1.0.0 i ++ (ref_is i ++ [])))) (id⊢ 𝓤 (Run us))) $
     enter ! 𝓣.C 𝓣.Λ fn us Post $ alloc_all ! (λ l. pass_all ! refl (fine, ((tt, record { fits = fits }), ((tt, tt), tt))) $
-    use0 𝓛 (later (some (λ (γ : GName). given (Some γ ≢ past) (‵ (source 𝓛 γ 0)))))
-    (via 𝓤 _ (source_new 𝓛 past) (basic 𝓛 _)) $
+    use0 𝓛 (later (some (λ (γ : GName). given (Some γ ≢ None) (‵ (source 𝓛 γ 0)))))
+    (via 𝓤 _ (source_new 𝓛 None) (basic 𝓛 _)) $
     await ! tt $ pick ! (λ γ. learn ! (λ new.
     let s : TableView = record { table = table; sharing = Some γ; reserved = n; grown_by_ids = only } in
     use1 𝓛 (later (‵ (rows_telling R (Some γ) 0 w.rows)))
@@ -94,10 +94,10 @@ of_spec 𝓤 𝓛 𝓜 𝓡 wired T L =
     await ! tt $ move ! (1 ∷ 0 ∷ []) $
     use2 𝓛 (‵ (Sh.own_val s (pair_val v n ∷ []))) (makes_shared 𝓛 R LR j s w v fits owned typed (λ e. e)) $
     sets ! (of_opd ! (get ! refl)) refl fine $ sets ! (agg ! (and_then ! (get ! refl) (and_then ! (get ! refl) (no_more !)))) refl typed.0 $
-    let Named : Type 0 = IsSome (Some γ) × (Some γ ≢ past) in
+    let Named : Type 0 = IsSome (Some γ) in
     knows ! (only ≡ only) refl $
     knows ! (n ≡ n) refl $ join ! $
-    knows ! Named (refl, new) $ join ! $
+    knows ! Named refl $ join ! $
     knows ! (table ≡ table) refl $ join ! $
     nothing ! $ nothing ! $ fjoin ! $ nothing ! $ fjoin ! $ nothing ! $ fjoin ! $
     -- [nothing; the facts; what is shared; the tokens]

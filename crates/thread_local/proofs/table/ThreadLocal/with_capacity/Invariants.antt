@@ -1,6 +1,0 @@
--- a new table's sharing may have any name
-use Rattle.std.proofs.Common.{None}
-use Rattle.thread_local.proofs.table.ThreadLocal.with_capacity.Given as goal
-
-abbrev pub ghost-of : goal.ghost-of
-ghost-of g a = None
