@@ -84,8 +84,30 @@ impl IdBits {
             return Ok(());
         }
         if !self.has_room(id) {
-            self.make_room(id)?;
+            return self.alloc_further(id);
         }
+        self.hold(id);
+        Ok(())
+    }
+
+    /// `alloc` of an id past the first 64, where there is no room for it. It stands apart, so that
+    /// `alloc` saves no registers.
+    #[cold]
+    #[inline(never)]
+    fn alloc_further(&mut self, id: usize) -> Result<(), LocalError>
+        requires least { id ≡ least self.old.held }
+        requires further { 64 ≤ id }
+        requires no_room { self.old.room ≤ id }
+        ensures ok { OnOk result (Takes self.old self.new id) }
+        ensures memory { result ≡ Err (LocalError.Memory alloc_error) → NeedsMemory self.old }
+        ensures exhausted { result ≡ Err LocalError.Exhausted → IsExhausted self.old }
+        ensures err { OnErr result (self.new ≡ self.old) }
+    {
+        let _ = &self.words;
+        if id >= IDS {
+            return Err(LocalError::Exhausted);
+        }
+        self.words.push_zero()?;
         self.hold(id);
         Ok(())
     }
@@ -110,29 +132,6 @@ impl IdBits {
         ensures { IsTrue result ↔ (id < self.now.room) }
     {
         id < IDS && id / 64 < self.words.len()
-    }
-
-    /// Makes room for the bit of an id past the first 64, for which there is none.
-    #[cold]
-    #[inline(never)]
-    fn make_room(&mut self, id: usize) -> Result<(), LocalError>
-        requires least { id ≡ least self.old.held }
-        requires further { 64 ≤ id }
-        requires no_room { self.old.room ≤ id }
-        ensures held { self.new.held ≡ self.old.held }
-        ensures room { self.old.room ≤ self.new.room }
-        ensures few { self.new.room ≤ self.old.room + 64 }
-        ensures ok { OnOk result ((id < self.new.room) × (id < 2 ^ 63 - 1)) }
-        ensures memory { result ≡ Err (LocalError.Memory alloc_error) → NeedsMemory self.old }
-        ensures exhausted { result ≡ Err LocalError.Exhausted → IsExhausted self.old }
-        ensures err { OnErr result (self.new ≡ self.old) }
-    {
-        let _ = &self.words;
-        if id >= IDS {
-            return Err(LocalError::Exhausted);
-        }
-        self.words.push_zero()?;
-        Ok(())
     }
 
     /// Marks the id as held.
