@@ -1,6 +1,6 @@
 -- What tells answers apart, as those of `set` and of the `get_or` family. A search among all that a
 -- function knows takes seconds for what these say at once.
-use Rattle.std.proofs.Common.{◌≡◌, Option, Some, None, Result, Ok, Err, Bool, true, false, alloc_error}
+use Rattle.std.proofs.Common.{◌≡◌, Some, Result, Ok, Err, Bool, true, false, alloc_error}
 use Rattle.thread_local.specs.declared.error.TryError.{TryError}
 use Rattle.thread_local.specs.declared.error.TryError.TheVariants as tries
 use Rattle.thread_local.specs.declared.error.SetError.{SetError}
