@@ -1,9 +1,10 @@
 //! What test crates share: values that count their drops, signals that threads wait for, a bound on
-//! memory, an allocator that refuses every request, and a look at what a value prints.
+//! memory, an allocator that refuses every request, and looks at what a value prints and is.
 #![tactic(auto)]
 
 pub mod counted;
 pub mod memory;
 pub mod printed;
 pub mod refusing;
+pub mod same;
 pub mod signals;
