@@ -37,21 +37,23 @@ pub fn work<R: Wait>(sums: &ThreadLocal<Cell<u64>>, runtime: &R, numbers: u64) -
 #[cfg(test)]
 mod tests {
     use super::*;
-    use std::test::Fail;
     use std::thread;
     use thread_local::table::Judge;
 
-    #[test]
-    fn workers_within_the_capacity_are_refused_nothing(rt: HostRuntime) -> Result<(), Fail> {
-        Cell::<u64>::judge();
-        let sums = ThreadLocal::with_capacity(rt.alloc(), 2)?;
-        let worked = thread::join(&rt, || work(&sums, &rt, 10), || work(&sums, &rt, 20));
-        assert_eq!(rt; worked, (true, true));
+    /// The sum of all workers' sums.
+    fn total(sums: ThreadLocal<Cell<u64>>) -> u64 {
         let mut total = 0u64;
         for sum in sums {
             total = total.saturating_add(sum.get());
         }
-        assert_eq!(rt; total, 265);
-        Ok(())
+        total
+    }
+
+    #[test]
+    fn workers_within_the_capacity_are_refused_nothing(rt: HostRuntime) {
+        Cell::<u64>::judge();
+        let sums = ThreadLocal::with_capacity(rt.alloc(), 2).expect(&rt, "memory for two slots");
+        let worked = thread::join(&rt, || work(&sums, &rt, 10), || work(&sums, &rt, 20));
+        assert!(rt; (worked, total(sums)) == ((true, true), 265));
     }
 }

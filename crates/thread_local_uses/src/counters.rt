@@ -64,34 +64,48 @@ pub fn count_pooled<R: Wait>(count: &mut Pooled<'_, u64, R>)
 #[cfg(test)]
 mod tests {
     use super::*;
-    use std::test::Fail;
     use std::thread;
     use thread_local_pool::Pool;
 
+    /// Counts in this thread's counters of both tables. Answers whether none was refused.
+    fn count_in_both<R: Wait>(
+        padded: &ThreadLocal<Padded<Cell<u64>>>,
+        plain: &ThreadLocal<Cell<u64>>,
+        rt: &R,
+        times: u64,
+    ) -> bool {
+        count_padded(padded, rt, times).is_ok() && count_plain(plain, rt, times).is_ok()
+    }
+
+    /// What all padded counters counted.
+    fn in_padded(counters: ThreadLocal<Padded<Cell<u64>>>) -> u64 {
+        let mut sum = 0u64;
+        for counter in counters {
+            sum = sum.wrapping_add(counter.get());
+        }
+        sum
+    }
+
+    /// What all plain counters counted.
+    fn in_plain(counters: ThreadLocal<Cell<u64>>) -> u64 {
+        let mut sum = 0u64;
+        for counter in counters {
+            sum = sum.wrapping_add(counter.get());
+        }
+        sum
+    }
+
     #[test]
-    fn padded_counters_count_as_plain_ones(rt: HostRuntime) -> Result<(), Fail> {
+    fn padded_counters_count_as_plain_ones(rt: HostRuntime) {
         let padded = padded(rt.alloc());
         let plain = plain(rt.alloc());
         let counted = thread::join(
             &rt,
-            || (
-                count_padded(&padded, &rt, 1000),
-                count_plain(&plain, &rt, 1000),
-            ),
-            || (
-                count_padded(&padded, &rt, 234),
-                count_plain(&plain, &rt, 234),
-            ),
+            || count_in_both(&padded, &plain, &rt, 1000),
+            || count_in_both(&padded, &plain, &rt, 234),
         );
-        let in_padded = padded
-            .into_iter()
-            .fold(0u64, |sum, counter| sum.wrapping_add(counter.get()));
-        let in_plain = plain
-            .into_iter()
-            .fold(0u64, |sum, counter| sum.wrapping_add(counter.get()));
-        assert_eq!(rt; counted, ((Ok(()), Ok(())), (Ok(()), Ok(()))));
-        assert_eq!(rt; (in_padded, in_plain), (1234, 1234));
-        Ok(())
+        let sums = (in_padded(padded), in_plain(plain));
+        assert!(rt; (counted, sums) == ((true, true), (1234, 1234)));
     }
 
     /// Adds one to a count that is below 1000. Answers what it is then.
@@ -104,10 +118,9 @@ mod tests {
     }
 
     #[test]
-    fn a_pooled_count_goes_on(rt: HostRuntime) -> Result<(), Fail> {
+    fn a_pooled_count_goes_on(rt: HostRuntime) {
         let counts = Pool::new(rt.alloc());
         let told = (count_once(&counts, &rt), count_once(&counts, &rt));
-        assert_eq!(rt; told, (Ok(1), Ok(2)));
-        Ok(())
+        assert!(rt; told == (Ok(1), Ok(2)));
     }
 }

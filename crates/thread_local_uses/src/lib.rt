@@ -1,19 +1,22 @@
-//! What a table is for: one short program for each use, as a user writes it.
+//! What a table is for: short programs with contracts or proofs, as a user writes them. They are read
+//! with their tests alone, so the check proves each once.
 #![tactic(auto)]
 
+#[cfg(test)]
 pub mod bounded;
+#[cfg(test)]
 pub mod cache;
+#[cfg(test)]
 pub mod counters;
-pub mod formatting;
-pub mod jobs;
+#[cfg(test)]
 pub mod mailbox;
-pub mod matcher;
+#[cfg(test)]
 pub mod meters;
-pub mod metrics;
+#[cfg(test)]
 pub mod posted;
-pub mod registry;
+#[cfg(test)]
 pub mod resumed;
-pub mod rounds;
+#[cfg(test)]
 pub mod snapshot;
-pub mod spans;
+#[cfg(test)]
 pub mod sums;

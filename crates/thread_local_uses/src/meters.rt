@@ -38,11 +38,21 @@ pub fn handle<R: Wait>(meters: &ThreadLocal<Meter>, rt: &R, sizes: &[u64]) -> bo
 #[cfg(test)]
 mod tests {
     use super::*;
-    use std::test::Fail;
     use std::thread;
 
+    /// How many requests of how many bytes all meters have.
+    fn metered(meters: ThreadLocal<Meter>) -> (u64, u64) {
+        let mut requests = 0u64;
+        let mut bytes = 0u64;
+        for meter in meters {
+            requests = requests.saturating_add(meter.requests.get());
+            bytes = bytes.saturating_add(meter.bytes.get());
+        }
+        (requests, bytes)
+    }
+
     #[test]
-    fn workers_meter_what_they_handle(rt: HostRuntime) -> Result<(), Fail> {
+    fn workers_meter_what_they_handle(rt: HostRuntime) {
         Meter::judge();
         let meters = ThreadLocal::<Meter>::new(rt.alloc());
         let handled = thread::join(
@@ -50,13 +60,6 @@ mod tests {
             || handle(&meters, &rt, &[5, 7]),
             || handle(&meters, &rt, &[30]),
         );
-        let mut requests = 0u64;
-        let mut bytes = 0u64;
-        for meter in meters {
-            requests = requests.saturating_add(meter.requests.get());
-            bytes = bytes.saturating_add(meter.bytes.get());
-        }
-        assert_eq!(rt; (handled, requests, bytes), ((true, true), 3, 42));
-        Ok(())
+        assert!(rt; (handled, metered(meters)) == ((true, true), (3, 42)));
     }
 }

@@ -62,28 +62,43 @@ pub fn relieve<'a, R: Wait>(
 #[cfg(test)]
 mod tests {
     use super::*;
-    use std::test::Fail;
     use std::thread;
 
-    #[test]
-    fn another_thread_goes_on(rt: HostRuntime) -> Result<(), Fail> {
-        let steps = ThreadLocal::new(rt.alloc());
-        let (begun, ()) = thread::join(&rt, || begin(&steps, &rt, 41), || {});
-        let begun = begun?;
-        let (resumed, ()) = thread::join(&rt, || resume(&steps, &rt, &begun), || {});
-        let first = steps.local(&rt)?;
-        let other = resume(&steps, &rt, &begun);
-        assert_eq!(rt; (resumed, other), (Ok(Some(41)), Ok(None)));
-        assert_eq!(rt; first.get().copied(), Some(41));
-        Ok(())
+    /// What a worker resumes that takes another id while the first is held, and what the first has.
+    fn resume_beside<R: Wait>(
+        steps: &ThreadLocal<u64>,
+        rt: &R,
+        begun: &Token<u64>,
+    ) -> Option<(Option<u64>, Option<u64>)>
+        requires sharing { begun.now.sharing ≡ steps.now.sharing }
+        requires named { IsSome steps.now.sharing }
+    {
+        let first = steps.local(rt).ok()?;
+        let other = resume(steps, rt, begun).ok()?;
+        Some((other, first.get().copied()))
     }
 
     #[test]
-    fn the_next_worker_has_the_id(rt: HostRuntime) -> Result<(), Fail> {
+    fn another_thread_goes_on(rt: HostRuntime) {
         let steps = ThreadLocal::new(rt.alloc());
-        let (first, second) = (steps.local(&rt)?, steps.local(&rt)?);
-        let next = relieve(&steps, &rt, first)?;
-        assert_eq!(rt; (second.id(), next.id()), (1, 0));
-        Ok(())
+        let (begun, ()) = thread::join(&rt, || begin(&steps, &rt, 41), || {});
+        let begun = begun.expect(&rt, "memory and an id");
+        let (resumed, ()) = thread::join(&rt, || resume(&steps, &rt, &begun).ok(), || {});
+        let beside = resume_beside(&steps, &rt, &begun);
+        assert!(rt; (resumed, beside) == (Some(Some(41)), Some((None, Some(41)))));
+    }
+
+    /// Of two workers the first is relieved. Answers the ids of the second and of the next.
+    fn relieve_first<R: Wait>(steps: &ThreadLocal<u64>, rt: &R) -> Option<(usize, usize)> {
+        let first = steps.local(rt).ok()?;
+        let second = steps.local(rt).ok()?;
+        let next = relieve(steps, rt, first).ok()?;
+        Some((second.id(), next.id()))
+    }
+
+    #[test]
+    fn the_next_worker_has_the_id(rt: HostRuntime) {
+        let steps = ThreadLocal::new(rt.alloc());
+        assert!(rt; relieve_first(&steps, &rt) == Some((1, 0)));
     }
 }

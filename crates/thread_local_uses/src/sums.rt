@@ -162,41 +162,63 @@ fn published<R: Threads + Wait + Sync>(
 #[cfg(test)]
 mod tests {
     use super::*;
-    use std::test::Fail;
 
     #[test]
-    fn workers_add_up_their_parts(rt: HostRuntime) -> Result<(), Fail> {
+    fn workers_add_up_their_parts(rt: HostRuntime) {
         let two = sum_of_parts(&rt, rt.alloc(), &[7, 35]);
         let none = sum_of_parts(&rt, rt.alloc(), &[]);
         let large = sum_of_parts(&rt, rt.alloc(), &[u64::MAX, 1, u64::MAX]);
-        assert_eq!(rt; (two, none), (Ok(42), Ok(0)));
-        assert_eq!(rt; large, Ok(36893488147419103231));
-        Ok(())
+        assert!(rt; (two, none, large) == (Ok(42), Ok(0), Ok(36893488147419103231)));
+    }
+
+    /// Two workers that hold their ids at once publish a part each. Answers the first one's token.
+    fn publish_two<R: Wait>(
+        sums: &ThreadLocal<u64>,
+        rt: &R,
+        first: u64,
+        second: u64,
+    ) -> Option<Token<u64>>
+        ensures { IfSome result (λ token. token.sharing ≡ sums.now.sharing) }
+    {
+        let (_first, token) = publish(sums, rt, first).ok()?;
+        let (_second, _) = publish(sums, rt, second).ok()?;
+        Some(token)
+    }
+
+    /// Whether two parts are published, and their sum.
+    fn sum_of_two<R: Wait>(
+        sums: ThreadLocal<u64>,
+        rt: &R,
+        first: u64,
+        second: u64,
+    ) -> (bool, Option<u64>) {
+        let published = publish_two(&sums, rt, first, second).is_some();
+        (published, checked_sum(sums.into_iter()))
     }
 
     #[test]
-    fn a_sum_past_64_bits_is_refused(rt: HostRuntime) -> Result<(), Fail> {
+    fn a_sum_past_64_bits_is_refused(rt: HostRuntime) {
         for (other, wanted) in [
             (35, Some(42)),
             (u64::MAX - 7, Some(u64::MAX)),
             (u64::MAX - 6, None),
         ] {
             let sums = ThreadLocal::new(rt.alloc());
-            let (first, _) = publish(&sums, &rt, 7)?;
-            let (second, _) = publish(&sums, &rt, other)?;
-            drop((first, second));
-            assert_eq!(rt; checked_sum(sums.into_iter()), wanted);
+            assert!(rt; sum_of_two(sums, &rt, 7, other) == (true, wanted));
         }
-        Ok(())
+    }
+
+    /// The total of two parts by the first one's token alone.
+    fn total_of_one<R: Wait>(sums: ThreadLocal<u64>, rt: &R) -> Option<Result<u128, SumError>>
+        requires named { IsSome sums.sharing }
+    {
+        let token = publish_two(&sums, rt, 7, 8)?;
+        Some(total(sums, &[token]))
     }
 
     #[test]
-    fn a_value_that_no_token_names_is_noticed(rt: HostRuntime) -> Result<(), Fail> {
+    fn a_value_that_no_token_names_is_noticed(rt: HostRuntime) {
         let sums = ThreadLocal::new(rt.alloc());
-        let (first, token) = publish(&sums, &rt, 7)?;
-        let (second, _) = publish(&sums, &rt, 8)?;
-        drop((first, second));
-        assert_eq!(rt; total(sums, &[token]), Err(SumError::Mixed));
-        Ok(())
+        assert!(rt; total_of_one(sums, &rt) == Some(Err(SumError::Mixed)));
     }
 }

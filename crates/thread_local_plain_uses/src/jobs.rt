@@ -81,24 +81,30 @@ pub fn work<R: Wait>(
 #[cfg(test)]
 mod tests {
     use super::*;
-    use std::test::Fail;
     use std::thread;
 
+    /// How many jobs all workers did.
+    fn done(workers: ThreadLocal<Kept>) -> u64 {
+        let mut done = 0u64;
+        for kept in workers {
+            done = done.wrapping_add(kept.into_inner().1);
+        }
+        done
+    }
+
     #[test]
-    fn two_workers_do_all_jobs(rt: HostRuntime) -> Result<(), Fail> {
+    fn two_workers_do_all_jobs(rt: HostRuntime) {
         let alloc = rt.alloc();
         let table = workers(alloc);
         let queue = Queue::new(&[123, 9, 1000, 99, 5]);
-        let (first, second) = thread::join(
+        let sums = thread::join(
             &rt,
-            || work(&table, &rt, alloc, &queue),
-            || work(&table, &rt, alloc, &queue),
+            || work(&table, &rt, alloc, &queue).ok(),
+            || work(&table, &rt, alloc, &queue).ok(),
         );
-        let sum = first?.wrapping_add(second?);
-        let done = table
-            .into_iter()
-            .fold(0u64, |done, kept| done.wrapping_add(kept.into_inner().1));
-        assert_eq!(rt; (sum, done), (39, 5));
-        Ok(())
+        let (Some(first), Some(second)) = sums else {
+            return assert!(rt; false, "a worker was refused memory or an id");
+        };
+        assert!(rt; (first.wrapping_add(second), done(table)) == (39, 5));
     }
 }

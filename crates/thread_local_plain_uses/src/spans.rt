@@ -46,7 +46,6 @@ pub fn leave_all(stacks: &mut ThreadLocal<Stack>) -> usize {
 #[cfg(test)]
 mod tests {
     use super::*;
-    use std::test::Fail;
     use std::thread;
 
     /// Enters the spans, and leaves one. It keeps its `Local` for the whole round.
@@ -66,7 +65,7 @@ mod tests {
     }
 
     #[test]
-    fn spans_that_are_left_open_are_found(rt: HostRuntime) -> Result<(), Fail> {
+    fn spans_that_are_left_open_are_found(rt: HostRuntime) {
         let alloc = rt.alloc();
         let mut table = stacks(alloc);
         let innermost = thread::join(
@@ -75,7 +74,6 @@ mod tests {
             || work(&table, &rt, alloc, &[40, 50]),
         );
         let open = (leave_all(&mut table), leave_all(&mut table));
-        assert_eq!(rt; (innermost, open), ((Some(3), Some(50)), (3, 0)));
-        Ok(())
+        assert!(rt; (innermost, open) == ((Some(3), Some(50)), (3, 0)));
     }
 }

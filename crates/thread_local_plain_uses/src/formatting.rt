@@ -36,18 +36,16 @@ pub fn size_on_page<R: Wait>(
 #[cfg(test)]
 mod tests {
     use super::*;
-    use std::test::Fail;
     use std::thread;
 
     #[test]
-    fn threads_format_their_lines(rt: HostRuntime) -> Result<(), Fail> {
+    fn threads_format_their_lines(rt: HostRuntime) {
         let pool = Pool::new(rt.alloc());
         let sizes = thread::join(
             &rt,
             || size_on_page(&pool, &rt, &["a < b", "b & c"]),
             || size_on_page(&pool, &rt, &["plain", ""]),
         );
-        assert_eq!(rt; sizes, (Ok(17), Ok(5)));
-        Ok(())
+        assert!(rt; sizes == (Ok(17), Ok(5)));
     }
 }
