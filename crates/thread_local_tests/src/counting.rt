@@ -2,13 +2,13 @@
 
 use crate::examples::{count, total};
 use std::cell::Cell;
-use std::test::Fail;
 use std::thread;
 use thread_local::ThreadLocal;
 use thread_local::table::Judge;
+use thread_local_test_helpers::same::assert_same;
 
 #[test]
-fn five_threads_count_to_five(rt: HostRuntime) -> Result<(), Fail> {
+fn five_threads_count_to_five(rt: HostRuntime) {
     Cell::<u64>::judge();
     let counters = ThreadLocal::new(rt.alloc());
     let shared = &counters;
@@ -18,6 +18,5 @@ fn five_threads_count_to_five(rt: HostRuntime) -> Result<(), Fail> {
             let _started = scope.spawn(move || count(shared, handle, 1)).is_ok();
         }
     });
-    assert_eq!(rt; total(counters), 5);
-    Ok(())
+    assert_same(&rt, total(counters), 5);
 }

@@ -2,10 +2,10 @@
 
 use std::alloc::{AllocError, Global};
 use std::error::Error;
-use std::test::Fail;
 use thread_local::buckets::CapacityError;
 use thread_local::local::{SetError, TryError};
 use thread_local::thread_id::LocalError;
+use thread_local_test_helpers::same::assert_same;
 
 /// Whether an error prints this text.
 fn says<E: Error>(error: &E, alloc: Global, text: &str) -> bool {
@@ -56,21 +56,21 @@ fn refused_an_id<E: From<LocalError>>() -> Result<(), E> {
 }
 
 #[test]
-fn errors_are_made_of_missing_memory(rt: HostRuntime) -> Result<(), Fail> {
+fn errors_are_made_of_missing_memory(rt: HostRuntime) {
     assert!(rt; matches!(refused::<LocalError>(), Err(LocalError::Memory(_))));
     assert!(rt; matches!(refused::<CapacityError>(), Err(CapacityError::Memory(_))));
     assert!(rt; matches!(refused::<TryError<u8>>(), Err(TryError::Memory(_))));
     assert!(rt; matches!(refused_an_id::<TryError<u8>>(), Err(TryError::Memory(_))));
-    Ok(())
 }
 
 #[test]
 fn errors_are_printed(rt: HostRuntime) {
-    assert_eq!(rt;
+    assert_same(
+        &rt,
         (
             refusals_are_told(rt.alloc()),
-            errors_of_values_are_told(rt.alloc())
+            errors_of_values_are_told(rt.alloc()),
         ),
-        ([true; 4], [true; 4])
+        ([true; 4], [true; 4]),
     );
 }

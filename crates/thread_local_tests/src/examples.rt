@@ -74,13 +74,13 @@ pub fn lasting<'a, R: Wait>(table: &'a ThreadLocal<u64>, rt: &'a R, value: u64) 
 #[cfg(test)]
 mod tests {
     use super::*;
-    use std::test::Fail;
     use std::thread;
     use thread_local::table::Judge;
     use thread_local::thread_id::Thread;
+    use thread_local_test_helpers::same::assert_same;
 
     #[test]
-    fn threads_count_and_their_owner_sums(rt: HostRuntime) -> Result<(), Fail> {
+    fn threads_count_and_their_owner_sums(rt: HostRuntime) {
         Cell::<u64>::judge();
         let counters = ThreadLocal::new(rt.alloc());
         let counted = thread::join(
@@ -88,42 +88,52 @@ mod tests {
             || count(&counters, &rt, 1000),
             || count(&counters, &rt, 234),
         );
-        assert_eq!(rt; counted, (Some(()), Some(())));
-        assert_eq!(rt; total(counters), 1234);
-        Ok(())
+        assert_same(&rt, counted, (Some(()), Some(())));
+        assert_same(&rt, total(counters), 1234);
     }
 
-    #[test]
-    fn a_second_closure_is_not_called(rt: HostRuntime) -> Result<(), Fail> {
-        let table = ThreadLocal::<u64>::new(rt.alloc());
-        let mut local = table.local(&rt)?;
-        assert_eq!(rt; local.get(), None);
-        assert_eq!(rt; first_stays(&mut local, 7)?, 7);
-        Ok(())
-    }
-
-    #[test]
-    fn counts_are_summed(rt: HostRuntime) -> Result<(), Fail> {
-        let mut counts = Buckets::new(rt.alloc());
-        for (id, count) in [(4, 40), (1, 10), (4, 7)] {
-            assert!(rt; counts.insert(Thread::new(id), count).is_ok());
+    /// What a new `Local`, which finds nothing, is told of 7.
+    fn first_of_a_new_one<R: Wait>(table: &ThreadLocal<u64>, rt: &R) -> Option<u64> {
+        let mut local = table.local(rt).ok()?;
+        match local.get() {
+            None => first_stays(&mut local, 7).ok(),
+            Some(_) => None,
         }
-        assert_eq!(rt; summed(counts), (2, 50));
-        Ok(())
     }
 
     #[test]
-    fn a_value_outlives_its_local(rt: HostRuntime) -> Result<(), Fail> {
+    fn a_second_closure_is_not_called(rt: HostRuntime) {
+        let table = ThreadLocal::<u64>::new(rt.alloc());
+        assert_same(&rt, first_of_a_new_one(&table, &rt), Some(7));
+    }
+
+    /// Counts of two ids, one of which is counted again. Answers whether none was refused.
+    fn count_two(counts: &mut Buckets<u64>) -> bool {
+        for (id, count) in [(4, 40), (1, 10), (4, 7)] {
+            if counts.insert(Thread::new(id), count).is_err() {
+                return false;
+            }
+        }
+        true
+    }
+
+    #[test]
+    fn counts_are_summed(rt: HostRuntime) {
+        let mut counts = Buckets::new(rt.alloc());
+        let counted = count_two(&mut counts);
+        assert_same(&rt, (counted, summed(counts)), (true, (2, 50)));
+    }
+
+    #[test]
+    fn a_value_outlives_its_local(rt: HostRuntime) {
         let table = ThreadLocal::<u64>::new(rt.alloc());
         let first = lasting(&table, &rt, 5);
         let second = lasting(&table, &rt, 6);
-        assert_eq!(rt; (first, second), (Some(&5), Some(&5)));
-        Ok(())
+        assert_same(&rt, (first, second), (Some(&5), Some(&5)));
     }
 
     #[test]
-    fn an_id_is_taken_again(rt: HostRuntime) -> Result<(), Fail> {
-        assert_eq!(rt; taken_again(rt.alloc())?, 0);
-        Ok(())
+    fn an_id_is_taken_again(rt: HostRuntime) {
+        assert_same(&rt, taken_again(rt.alloc()), Ok(0));
     }
 }

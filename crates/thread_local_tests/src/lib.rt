@@ -8,7 +8,8 @@ mod counting;
 mod drops;
 #[cfg(test)]
 mod errors;
-pub mod examples;
+#[cfg(test)]
+mod examples;
 #[cfg(test)]
 mod misuse;
 #[cfg(test)]

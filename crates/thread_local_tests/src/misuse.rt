@@ -3,12 +3,12 @@
 
 use std::alloc::Global;
 use std::sync::Wait;
-use std::test::Fail;
 use std::thread;
 use std::thread::Threads;
 use thread_local::ThreadLocal;
 use thread_local::local::Local;
 use thread_local_shared_buckets::Claim;
+use thread_local_test_helpers::same::assert_same;
 
 /// A claim is handed on as one of a bucket of these values.
 fn handed_on<'s, 'a>(claim: Claim<'a, &'static u64>) -> Claim<'a, &'static u64> {
@@ -93,28 +93,45 @@ fn with_two_locals<R: Wait>(table: &ThreadLocal<u32>, rt: &R) -> Option<[Option<
     Some([first_answer(&mut second), made_apart(&mut first, &second)])
 }
 
-#[test]
-fn the_programs_run(rt: HostRuntime) -> Result<(), Fail> {
-    let table = ThreadLocal::<u32>::new(rt.alloc());
+/// What the programs tell that use one table.
+fn of_one_table<R: Wait>(
+    table: ThreadLocal<u32>,
+    rt: &R,
+) -> ([Option<u32>; 3], Option<[Option<u32>; 2]>, Option<usize>) {
     let alone = [
-        found_before_the_drop(&table, &rt),
-        made_before_the_drop(&table, &rt),
-        found_before_the_drop(&table, &rt),
+        found_before_the_drop(&table, rt),
+        made_before_the_drop(&table, rt),
+        found_before_the_drop(&table, rt),
     ];
-    let together = with_two_locals(&table, &rt);
-    let made = made_of_numbers(rt.alloc());
-    let by_another = looked_at_by_another(&rt, rt.alloc());
-    let owned = owned_at_last(table, &rt);
-    let mut other = ThreadLocal::<u32>::new(rt.alloc());
-    let walked = (
-        walked_while_shared(rt.alloc()),
-        item_before_the_clear(&mut other),
+    let together = with_two_locals(&table, rt);
+    (alone, together, owned_at_last(table, rt))
+}
+
+/// What the programs tell that have a table of their own, or one that nobody used.
+fn of_other_tables<R: Wait + Threads + Sync>(
+    rt: &R,
+    alloc: Global,
+) -> ([usize; 2], Option<bool>, Option<u32>) {
+    let mut other = ThreadLocal::<u32>::new(alloc);
+    let item = item_before_the_clear(&mut other);
+    (
+        [made_of_numbers(alloc), walked_while_shared(alloc)],
+        looked_at_by_another(rt, alloc),
+        item,
+    )
+}
+
+#[test]
+fn the_programs_run(rt: HostRuntime) {
+    let table = ThreadLocal::<u32>::new(rt.alloc());
+    assert_same(
+        &rt,
+        of_one_table(table, &rt),
+        ([None, Some(1), Some(1)], Some([Some(2), Some(1)]), Some(3)),
     );
-    assert_eq!(rt; walked, (0, None));
-    assert_eq!(rt; alone, [None, Some(1), Some(1)]);
-    assert_eq!(rt;
-        (together, made, by_another, owned),
-        (Some([Some(2), Some(1)]), 0, Some(true), Some(3))
+    assert_same(
+        &rt,
+        of_other_tables(&rt, rt.alloc()),
+        ([0; 2], Some(true), None),
     );
-    Ok(())
 }

@@ -3,37 +3,50 @@
 use crate::numbers::publishes;
 use std::mem::forget;
 use std::sync::Wait;
-use std::test::Fail;
 use thread_local::ThreadLocal;
 use thread_local::local::Local;
 use thread_local_shared_buckets::{Entries, Iter};
+use thread_local_test_helpers::same::assert_same;
 
 /// Whether a walk gives these values and then none, and again none.
-fn gives(walk: Iter<'_, u32>, expected: &[u32]) -> bool {
-    let mut walk = walk;
+pub fn gives(mut walk: Iter<'_, u32>, expected: &[u32]) -> bool {
+    gives_next(&mut walk, expected) && gives_none(&mut walk)
+}
+
+/// Whether a walk gives these values next.
+fn gives_next(walk: &mut Iter<'_, u32>, expected: &[u32]) -> bool {
     for value in expected {
-        if walk.next() != Some(value) {
+        if walk.next().copied() != Some(*value) {
             return false;
         }
     }
+    true
+}
+
+/// Whether a walk gives none, and again none.
+fn gives_none(walk: &mut Iter<'_, u32>) -> bool {
     walk.next().is_none() && walk.next().is_none()
 }
 
 /// Whether a walk tells no bound, and then gives a value.
 fn goes_on(walk: &mut Iter<'_, u32>, value: u32) -> bool {
-    walk.size_hint() == (0, None) && walk.next() == Some(&value)
+    walk.size_hint() == (0, None) && walk.next().copied() == Some(value)
 }
 
 /// Whether a walk tells no bound, and then gives none, and again none.
 fn ends(walk: &mut Iter<'_, u32>) -> bool {
-    walk.size_hint() == (0, None) && walk.next().is_none() && walk.next().is_none()
+    walk.size_hint() == (0, None) && gives_none(walk)
 }
 
 /// The second of two `Local`s publishes 2, and the first 1 once a walk has passed it. Answers
 /// whether that walk gives 2 alone, and the next one both.
 fn publish_behind<R: Wait>(table: &ThreadLocal<u32>, rt: &R) -> Option<[bool; 5]> {
-    let mut first = table.local(rt).ok()?;
-    let mut second = table.local(rt).ok()?;
+    let Ok(mut first) = table.local(rt) else {
+        return None;
+    };
+    let Ok(mut second) = table.local(rt) else {
+        return None;
+    };
     let before = publishes(&mut second, 2);
     let mut walk = table.iter();
     Some([
@@ -46,17 +59,20 @@ fn publish_behind<R: Wait>(table: &ThreadLocal<u32>, rt: &R) -> Option<[bool; 5]
 }
 
 #[test]
-fn a_walk_gives_what_was_published_before_it_and_ahead_of_it(rt: HostRuntime) -> Result<(), Fail> {
+fn a_walk_gives_what_was_published_before_it_and_ahead_of_it(rt: HostRuntime) {
     let table = ThreadLocal::<u32>::new(rt.alloc());
-    assert_eq!(rt; publish_behind(&table, &rt), Some([true; 5]));
-    Ok(())
+    assert_same(&rt, publish_behind(&table, &rt), Some([true; 5]));
 }
 
 /// The first of two `Local`s publishes 1, and the second 2 once a walk has given 1. Answers whether
 /// that walk gives both.
 fn publish_ahead<R: Wait>(table: &ThreadLocal<u32>, rt: &R) -> Option<[bool; 5]> {
-    let mut first = table.local(rt).ok()?;
-    let mut second = table.local(rt).ok()?;
+    let Ok(mut first) = table.local(rt) else {
+        return None;
+    };
+    let Ok(mut second) = table.local(rt) else {
+        return None;
+    };
     let before = publishes(&mut first, 1);
     let mut walk = table.iter();
     Some([
@@ -69,10 +85,9 @@ fn publish_ahead<R: Wait>(table: &ThreadLocal<u32>, rt: &R) -> Option<[bool; 5]>
 }
 
 #[test]
-fn a_walk_gives_what_is_published_ahead_of_it(rt: HostRuntime) -> Result<(), Fail> {
+fn a_walk_gives_what_is_published_ahead_of_it(rt: HostRuntime) {
     let table = ThreadLocal::<u32>::new(rt.alloc());
-    assert_eq!(rt; publish_ahead(&table, &rt), Some([true; 5]));
-    Ok(())
+    assert_same(&rt, publish_ahead(&table, &rt), Some([true; 5]));
 }
 
 /// Two `Local`s publish 1 and 2. Answers whether they do, and the walk of the second gives both.
@@ -87,7 +102,9 @@ fn gives_three<R: Wait>(local: &Local<'_, u32, R>) -> bool {
 
 /// How many values the walk of a new `Local` gives.
 fn count_of_a_new_one<R: Wait>(table: &ThreadLocal<u32>, rt: &R) -> Option<usize> {
-    let local = table.local(rt).ok()?;
+    let Ok(local) = table.local(rt) else {
+        return None;
+    };
     Some(local.iter().count())
 }
 
@@ -98,9 +115,15 @@ fn three_walk<R: Wait>(
     table: &ThreadLocal<u32>,
     rt: &R,
 ) -> Option<(bool, bool, [bool; 3], Option<usize>)> {
-    let mut first = table.local(rt).ok()?;
-    let mut second = table.local(rt).ok()?;
-    let mut third = table.local(rt).ok()?;
+    let Ok(mut first) = table.local(rt) else {
+        return None;
+    };
+    let Ok(mut second) = table.local(rt) else {
+        return None;
+    };
+    let Ok(mut third) = table.local(rt) else {
+        return None;
+    };
     Some((
         publish_two(&mut first, &mut second),
         publishes(&mut third, 3),
@@ -114,20 +137,27 @@ fn three_walk<R: Wait>(
 }
 
 #[test]
-fn the_walk_of_a_local_gives_its_own_value_among_the_others(rt: HostRuntime) -> Result<(), Fail> {
+fn the_walk_of_a_local_gives_its_own_value_among_the_others(rt: HostRuntime) {
     let table = ThreadLocal::<u32>::new(rt.alloc());
-    assert_eq!(rt;
+    assert_same(
+        &rt,
         three_walk(&table, &rt),
-        Some((true, true, [true; 3], Some(3)))
+        Some((true, true, [true; 3], Some(3))),
     );
-    Ok(())
+}
+
+/// Whether this value was given with this id.
+fn is_entry(found: Option<(usize, &u32)>, expected: (usize, u32)) -> bool {
+    match found {
+        Some((id, value)) => (id, *value) == expected,
+        None => false,
+    }
 }
 
 /// Whether a walk gives these values with their ids and then none, and again none.
-fn gives_entries<T: Sync + PartialEq>(walk: Entries<'_, T>, expected: &[(usize, T)]) -> bool {
-    let mut walk = walk;
-    for (id, value) in expected {
-        if walk.size_hint() != (0, None) || walk.next() != Some((*id, value)) {
+fn gives_entries(mut walk: Entries<'_, u32>, expected: &[(usize, u32)]) -> bool {
+    for entry in expected {
+        if walk.size_hint() != (0, None) || !is_entry(walk.next(), *entry) {
             return false;
         }
     }
@@ -137,9 +167,15 @@ fn gives_entries<T: Sync + PartialEq>(walk: Entries<'_, T>, expected: &[(usize, 
 /// Three `Local`s publish 1 to 3, the second last. Answers whether the walks of the table and of
 /// the second give ids 0 and 2, then all three, and a walk that goes on with ids the rest.
 fn three_entries<R: Wait>(table: &ThreadLocal<u32>, rt: &R) -> Option<[bool; 6]> {
-    let mut first = table.local(rt).ok()?;
-    let mut second = table.local(rt).ok()?;
-    let mut third = table.local(rt).ok()?;
+    let Ok(mut first) = table.local(rt) else {
+        return None;
+    };
+    let Ok(mut second) = table.local(rt) else {
+        return None;
+    };
+    let Ok(mut third) = table.local(rt) else {
+        return None;
+    };
     let apart = publishes(&mut third, 3) && publishes(&mut first, 1);
     let two = gives_entries(table.entries(), &[(0, 1), (2, 3)]);
     let filled = publishes(&mut second, 2);
@@ -157,11 +193,14 @@ fn three_entries<R: Wait>(table: &ThreadLocal<u32>, rt: &R) -> Option<[bool; 6]>
 }
 
 #[test]
-fn values_come_with_the_ids_of_their_slots(rt: HostRuntime) -> Result<(), Fail> {
+fn values_come_with_the_ids_of_their_slots(rt: HostRuntime) {
     let table = ThreadLocal::<u32>::new(rt.alloc());
-    assert!(rt; gives_entries(table.entries(), &[]));
-    assert_eq!(rt; three_entries(&table, &rt), Some([true; 6]));
-    Ok(())
+    let before = gives_entries(table.entries(), &[]);
+    assert_same(
+        &rt,
+        (before, three_entries(&table, &rt)),
+        (true, Some([true; 6])),
+    );
 }
 
 /// Whether the walks over a table, and those of a `Local`, give nothing.
@@ -173,10 +212,9 @@ fn all_give_none<R: Wait>(table: &ThreadLocal<u32>, rt: &R) -> bool {
 }
 
 #[test]
-fn a_table_without_values_gives_none(rt: HostRuntime) -> Result<(), Fail> {
+fn a_table_without_values_gives_none(rt: HostRuntime) {
     let table = ThreadLocal::<u32>::new(rt.alloc());
     assert!(rt; all_give_none(&table, &rt));
-    Ok(())
 }
 
 /// The first `Local` of the eleventh bucket publishes a number, while those of the ten buckets before
@@ -188,7 +226,9 @@ fn publish_past_ten_buckets<R: Wait>(
     for _ in 0..1023 {
         forget(table.local(rt).ok()?);
     }
-    let mut local = table.local(rt).ok()?;
+    let Ok(mut local) = table.local(rt) else {
+        return None;
+    };
     Some((
         local.id(),
         publishes(&mut local, 5),
@@ -198,20 +238,22 @@ fn publish_past_ten_buckets<R: Wait>(
 }
 
 #[test]
-fn a_walk_passes_ten_missing_buckets(rt: HostRuntime) -> Result<(), Fail> {
+fn a_walk_passes_ten_missing_buckets(rt: HostRuntime) {
     let mut table = ThreadLocal::<u32>::new(rt.alloc());
     let found = publish_past_ten_buckets(&table, &rt);
     // No bucket but that of 1024 slots was made.
-    assert_eq!(rt;
+    assert_same(
+        &rt,
         (found, table.slots()),
-        (Some((1023, true, true, true)), 1024)
+        (Some((1023, true, true, true)), 1024),
     );
-    Ok(())
 }
 
 /// What a new `Local` holds once it has published a number.
 fn published<R: Wait>(table: &ThreadLocal<u32>, rt: &R, number: u32) -> Option<u32> {
-    let mut local = table.local(rt).ok()?;
+    let Ok(mut local) = table.local(rt) else {
+        return None;
+    };
     local.get_or(|| number).ok().copied()
 }
 
@@ -224,12 +266,18 @@ fn sum(table: &ThreadLocal<u32>) -> u32 {
     sum
 }
 
+/// What three new `Local`s hold, one after another, that publish 1, 2 and 3.
+fn three_published<R: Wait>(table: &ThreadLocal<u32>, rt: &R) -> [Option<u32>; 3] {
+    [
+        published(table, rt, 1),
+        published(table, rt, 2),
+        published(table, rt, 3),
+    ]
+}
+
 #[test]
-fn a_table_is_walked_by_a_for_loop(rt: HostRuntime) -> Result<(), Fail> {
+fn a_table_is_walked_by_a_for_loop(rt: HostRuntime) {
     let table = ThreadLocal::<u32>::new(rt.alloc());
-    for number in 1..4 {
-        assert_eq!(rt; published(&table, &rt, number), Some(1));
-    }
-    assert_eq!(rt; sum(&table), 1);
-    Ok(())
+    let published = three_published(&table, &rt);
+    assert_same(&rt, (published, sum(&table)), ([Some(1); 3], 1));
 }

@@ -4,7 +4,6 @@
 use std::alloc::Global;
 use std::collections::{BTreeMap, BTreeSet};
 use std::sync::Wait;
-use std::test::Fail;
 use thread_local::ThreadLocal;
 use thread_local::local::Local;
 
@@ -52,6 +51,18 @@ impl Expected {
         MOST_HELD
     }
 
+    /// A number that wasn't used before, and the value that stands at an id once it was asked for with
+    /// that number.
+    fn asked(&mut self, id: usize) -> Option<(u64, u64)> {
+        let number = self.used;
+        self.used = self.used.wrapping_add(1);
+        if let Some(standing) = self.values.get(&id) {
+            return Some((number, *standing));
+        }
+        self.values.insert(id, number).ok()?;
+        Some((number, number))
+    }
+
     /// The slots of the buckets in which a value stands.
     fn slots(&self) -> usize {
         let mut slots = 0usize;
@@ -78,14 +89,16 @@ fn take<'a, R: Wait>(
     table: &'a ThreadLocal<u64>,
     expected: &mut Expected,
     held: &mut Held<'a, R>,
-) -> Result<bool, Fail> {
+) -> Option<bool> {
     let id = expected.least();
-    let local = table.local(rt)?;
+    let Ok(local) = table.local(rt) else {
+        return None;
+    };
     let found = local.get() == expected.values.get(&id);
-    expected.held.insert(id)?;
-    held.ids.push(id)?;
-    held.locals.push(local)?;
-    Ok(found)
+    expected.held.insert(id).ok()?;
+    held.ids.push(id).ok()?;
+    held.locals.push(local).ok()?;
+    Some(found)
 }
 
 /// Asks a `Local` for its value, with a number that wasn't used before. Answers whether it is the
@@ -94,14 +107,9 @@ fn publish<R: Wait>(
     expected: &mut Expected,
     id: usize,
     local: &mut Local<'_, u64, R>,
-) -> Result<bool, Fail> {
-    let number = expected.used;
-    expected.used = expected.used.wrapping_add(1);
-    if !expected.values.contains_key(&id) {
-        expected.values.insert(id, number)?;
-    }
-    let got = *local.get_or(|| number)?;
-    Ok(Some(&got) == expected.values.get(&id))
+) -> Option<bool> {
+    let (number, standing) = expected.asked(id)?;
+    Some(local.get_or(|| number) == Ok(&standing))
 }
 
 /// One move. Answers whether the table did what was expected.
@@ -110,7 +118,7 @@ fn step<'a, R: Wait>(
     table: &'a ThreadLocal<u64>,
     expected: &mut Expected,
     held: &mut Held<'a, R>,
-) -> Result<bool, Fail> {
+) -> Option<bool> {
     let count = held.locals.len();
     let number = expected.next_number();
     if count == 0 || count < MOST_HELD && number % 8 < 3 {
@@ -122,11 +130,11 @@ fn step<'a, R: Wait>(
             expected.held.remove(&held.ids.swap_remove(index));
         }
         held.locals.swap_remove(index);
-        return Ok(true);
+        return Some(true);
     }
     match (held.ids.get(index), held.locals.get_mut(index)) {
         (Some(id), Some(local)) => publish(expected, *id, local),
-        _ => Ok(false),
+        _ => Some(false),
     }
 }
 
@@ -148,7 +156,7 @@ fn thousand<R: Wait>(
     rt: &R,
     table: &ThreadLocal<u64>,
     expected: &mut Expected,
-) -> Result<bool, Fail> {
+) -> Option<bool> {
     let mut held = Held {
         ids: Vec::new(alloc),
         locals: Vec::new(alloc),
@@ -156,14 +164,14 @@ fn thousand<R: Wait>(
     for _ in 0..10 {
         for _ in 0..100 {
             if !step(rt, table, expected, &mut held)? {
-                return Ok(false);
+                return Some(false);
             }
         }
         if !is_walked(table, expected) {
-            return Ok(false);
+            return Some(false);
         }
     }
-    Ok(true)
+    Some(true)
 }
 
 /// Whether an owner's walk knows how many values stand, and gives them by ascending id.
@@ -180,17 +188,28 @@ fn is_lent(table: &mut ThreadLocal<u64>, expected: &Expected) -> bool {
     found.next().is_none()
 }
 
+/// A thousand moves on a table without values, which the owner walks over and clears then. Answers
+/// whether all was as expected.
+fn round<R: Wait>(
+    alloc: Global,
+    rt: &R,
+    table: &mut ThreadLocal<u64>,
+    expected: &mut Expected,
+) -> bool {
+    let moved = thousand(alloc, rt, table, expected) == Some(true);
+    let lent = is_lent(table, expected);
+    let as_many_slots = table.slots() == expected.slots();
+    table.clear();
+    expected.held.clear();
+    expected.values.clear();
+    moved && lent && as_many_slots
+}
+
 #[test]
-fn moves_made_by_a_rule_leave_what_a_set_and_a_map_say(rt: HostRuntime) -> Result<(), Fail> {
+fn moves_made_by_a_rule_leave_what_a_set_and_a_map_say(rt: HostRuntime) {
     let mut table = ThreadLocal::<u64>::new(rt.alloc());
     let mut expected = Expected::new(rt.alloc());
     for _ in 0..10 {
-        assert!(rt; thousand(rt.alloc(), &rt, &table, &mut expected)?);
-        let lent = is_lent(&mut table, &expected);
-        assert_eq!(rt; (lent, table.slots()), (true, expected.slots()));
-        table.clear();
-        expected.held.clear();
-        expected.values.clear();
+        assert!(rt; round(rt.alloc(), &rt, &mut table, &mut expected));
     }
-    Ok(())
 }
