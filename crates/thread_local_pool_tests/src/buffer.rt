@@ -3,8 +3,8 @@ ghost use Rattle.std.specs.Prelude.{◌≡◌, [], IfOk};
 
 use std::alloc::{AllocError, Global};
 use std::sync::Wait;
-use std::test::Fail;
 use thread_local_pool::{Buffer, Pool};
+use thread_local_test_helpers::same::assert_same;
 
 /// What is written to an empty buffer is what stands in it.
 fn one_byte<R: Wait>(buffer: &mut Buffer<'_, R>, byte: u8) -> Result<usize, AllocError>
@@ -31,26 +31,35 @@ fn has_room<R: Wait>(buffer: &Buffer<'_, R>) -> bool {
 
 /// Whether a new buffer is empty, and has room for 1000 bytes.
 fn another_has_room<R: Wait>(pool: &Pool<Vec<u8>>, rt: &R) -> Option<bool> {
-    let buffer = pool.buffer(rt).ok()?;
+    let Ok(buffer) = pool.buffer(rt) else {
+        return None;
+    };
     Some(has_room(&buffer))
 }
 
 /// How many bytes a new buffer holds, and for how many it has room.
 pub fn measure_another<R: Wait>(pool: &Pool<Vec<u8>>, rt: &R) -> Option<(usize, usize)> {
-    let buffer = pool.buffer(rt).ok()?;
+    let Ok(buffer) = pool.buffer(rt) else {
+        return None;
+    };
     let bytes = buffer.bytes();
     Some((bytes.len(), bytes.capacity()))
 }
 
+/// Puts 1000 bytes into a new buffer. Answers whether it was empty.
+fn fill_another<R: Wait>(pool: &Pool<Vec<u8>>, rt: &R) -> Option<bool> {
+    fill(pool.buffer(rt).ok()?, 1000).ok()
+}
+
 #[test]
-fn a_buffer_keeps_its_room(rt: HostRuntime) -> Result<(), Fail> {
+fn a_buffer_keeps_its_room(rt: HostRuntime) {
     let pool = Pool::new(rt.alloc());
-    let filled = fill(pool.buffer(&rt)?, 1000);
-    assert_eq!(rt;
+    let filled = fill_another(&pool, &rt);
+    assert_same(
+        &rt,
         (filled, another_has_room(&pool, &rt)),
-        (Ok(true), Some(true))
+        (Some(true), Some(true)),
     );
-    Ok(())
 }
 
 /// Four buffers that are held at once.
@@ -61,7 +70,9 @@ fn take_four<'a, R: Wait>(
 ) -> Option<Vec<Buffer<'a, R>>> {
     let mut buffers = Vec::new(alloc);
     for _ in 0..4 {
-        let buffer = pool.buffer(rt).ok()?;
+        let Ok(buffer) = pool.buffer(rt) else {
+            return None;
+        };
         buffers.push(buffer).ok()?;
     }
     Some(buffers)
@@ -93,20 +104,23 @@ fn measure_four_and_a_fifth<R: Wait>(
 }
 
 #[test]
-fn four_buffers_keep_their_room_and_a_fifth_has_none(rt: HostRuntime) -> Result<(), Fail> {
+fn four_buffers_keep_their_room_and_a_fifth_has_none(rt: HostRuntime) {
     let pool = Pool::new(rt.alloc());
-    assert_eq!(rt; fill_four(&pool, &rt, rt.alloc()), Some(4));
-    assert_eq!(rt;
-        measure_four_and_a_fifth(&pool, &rt, rt.alloc()),
-        Some((true, Some((0, 0))))
+    let empty = fill_four(&pool, &rt, rt.alloc());
+    let measured = measure_four_and_a_fifth(&pool, &rt, rt.alloc());
+    assert_same(
+        &rt,
+        (empty, measured),
+        (Some(4), Some((true, Some((0, 0))))),
     );
-    Ok(())
 }
 
 /// Of a vector that the pool has, how many bytes it holds and whether it has room for 1000. None
 /// where the pool had none.
 fn measure_what_was_left<R: Wait>(pool: &Pool, rt: &R, alloc: Global) -> Option<(usize, bool)> {
-    let bytes = pool.get(rt, || Vec::new(alloc)).ok()?;
+    let Ok(bytes) = pool.get(rt, || Vec::new(alloc)) else {
+        return None;
+    };
     if bytes.is_new() {
         return None;
     }
@@ -114,14 +128,14 @@ fn measure_what_was_left<R: Wait>(pool: &Pool, rt: &R, alloc: Global) -> Option<
 }
 
 #[test]
-fn a_dropped_buffer_leaves_no_byte(rt: HostRuntime) -> Result<(), Fail> {
+fn a_dropped_buffer_leaves_no_byte(rt: HostRuntime) {
     let pool = Pool::new(rt.alloc());
-    let filled = fill(pool.buffer(&rt)?, 1000);
-    assert_eq!(rt;
+    let filled = fill_another(&pool, &rt);
+    assert_same(
+        &rt,
         (filled, measure_what_was_left(&pool, &rt, rt.alloc())),
-        (Ok(true), Some((0, true)))
+        (Some(true), Some((0, true))),
     );
-    Ok(())
 }
 
 /// A struct that holds a pool of bytes.
@@ -131,24 +145,24 @@ struct Bytes {
 }
 
 #[test]
-fn a_pool_without_a_type_is_one_of_bytes(rt: HostRuntime) -> Result<(), Fail> {
+fn a_pool_without_a_type_is_one_of_bytes(rt: HostRuntime) {
     let bytes = Bytes {
         pool: Pool::new(rt.alloc()),
     };
-    assert_eq!(rt; measure_another(&bytes.pool, &rt), Some((0, 0)));
-    Ok(())
+    assert_same(&rt, measure_another(&bytes.pool, &rt), Some((0, 0)));
 }
 
 /// What is told when 5 is written to a new buffer, and whether it stands there.
 fn write_five<R: Wait>(pool: &Pool<Vec<u8>>, rt: &R) -> Option<(usize, bool)> {
-    let mut buffer = pool.buffer(rt).ok()?;
+    let Ok(mut buffer) = pool.buffer(rt) else {
+        return None;
+    };
     let count = one_byte(&mut buffer, 5).ok()?;
     Some((count, buffer.bytes().as_slice() == [5].as_slice()))
 }
 
 #[test]
-fn what_is_written_stands(rt: HostRuntime) -> Result<(), Fail> {
+fn what_is_written_stands(rt: HostRuntime) {
     let pool = Pool::new(rt.alloc());
-    assert_eq!(rt; write_five(&pool, &rt), Some((1, true)));
-    Ok(())
+    assert_same(&rt, write_five(&pool, &rt), Some((1, true)));
 }

@@ -5,14 +5,16 @@ use std::alloc::Global;
 use std::cell::Cell;
 use std::default::MadeWith;
 use std::sync::Wait;
-use std::test::Fail;
 use thread_local::cached::{CachedIntoIter, CachedIterMut, CachedThreadLocal};
 use thread_local::local::{Local, TryError};
 use thread_local_test_helpers::printed::prints;
+use thread_local_test_helpers::same::assert_same;
 
 /// What a new `Local` finds, and what it is told when it publishes 3.
 fn publish_three<R: Wait>(table: &CachedThreadLocal<u32>, rt: &R) -> Option<[Option<u32>; 2]> {
-    let mut local = table.local(rt).ok()?;
+    let Ok(mut local) = table.local(rt) else {
+        return None;
+    };
     Some([local.get().copied(), local.get_or(|| 3).ok().copied()])
 }
 
@@ -33,23 +35,27 @@ fn moves_out_none(values: CachedIntoIter<u32>) -> bool {
 }
 
 #[test]
-fn a_deprecated_table_is_walked_and_cleared(rt: HostRuntime) -> Result<(), Fail> {
+fn a_deprecated_table_is_walked_and_cleared(rt: HostRuntime) {
     let mut table = CachedThreadLocal::<u32>::new(rt.alloc());
     let published = publish_three(&table, &rt);
     let lent = lends_three(table.iter_mut());
     table.clear();
     let moved_out = moves_out_none(table.into_iter());
-    assert_eq!(rt;
+    assert_same(
+        &rt,
         (published, lent, moved_out),
-        (Some([None, Some(3)]), true, true)
+        (Some([None, Some(3)]), true, true),
     );
-    Ok(())
 }
 
 /// Whether two `Local`s that are held at once publish cells of 1 and 2.
 fn publish_cells<R: Wait>(table: &CachedThreadLocal<Cell<u32>>, rt: &R) -> Option<[bool; 2]> {
-    let mut first = table.local(rt).ok()?;
-    let mut second = table.local(rt).ok()?;
+    let Ok(mut first) = table.local(rt) else {
+        return None;
+    };
+    let Ok(mut second) = table.local(rt) else {
+        return None;
+    };
     Some([
         first.get_or(|| Cell::new(1)).is_ok(),
         second.get_or(|| Cell::new(2)).is_ok(),
@@ -74,15 +80,15 @@ fn moves_out_two(values: CachedIntoIter<Cell<u32>>) -> bool {
 }
 
 #[test]
-fn values_of_a_deprecated_table_are_written_and_moved_out(rt: HostRuntime) -> Result<(), Fail> {
+fn values_of_a_deprecated_table_are_written_and_moved_out(rt: HostRuntime) {
     let mut table = CachedThreadLocal::<Cell<u32>>::made_with(rt.alloc());
     let published = publish_cells(&table, &rt);
     add_ten(&mut table);
-    assert_eq!(rt;
+    assert_same(
+        &rt,
         (published, moves_out_two(table.into_iter())),
-        (Some([true; 2]), true)
+        (Some([true; 2]), true),
     );
-    Ok(())
 }
 
 /// Whether a closure's error is told as such and publishes nothing, and what is told when the next
@@ -101,8 +107,12 @@ fn ask_the_locals_of_a_deprecated_table<R: Wait>(
     rt: &R,
     alloc: Global,
 ) -> Option<[bool; 4]> {
-    let mut first = table.local(rt).ok()?;
-    let mut second = table.local(rt).ok()?;
+    let Ok(mut first) = table.local(rt) else {
+        return None;
+    };
+    let Ok(mut second) = table.local(rt) else {
+        return None;
+    };
     let is_shown_empty = prints(&first, alloc, "ThreadLocal { local_data: None }");
     let tried = try_twice(&mut first) == (true, Some(4));
     let is_shown_with_four = prints(&first, alloc, "ThreadLocal { local_data: Some(4) }");
@@ -111,28 +121,31 @@ fn ask_the_locals_of_a_deprecated_table<R: Wait>(
 }
 
 #[test]
-fn the_locals_of_a_deprecated_table_have_each_call(rt: HostRuntime) -> Result<(), Fail> {
+fn the_locals_of_a_deprecated_table_have_each_call(rt: HostRuntime) {
     let table = CachedThreadLocal::<u32>::new(rt.alloc());
-    assert_eq!(rt;
+    assert_same(
+        &rt,
         ask_the_locals_of_a_deprecated_table(&table, &rt, rt.alloc()),
-        Some([true; 4])
+        Some([true; 4]),
     );
-    Ok(())
 }
 
 /// Shows that two `Local`s of a deprecated table have two ids.
 fn have_two_ids<R: Wait>(table: &CachedThreadLocal<u32>, rt: &R) -> Option<(usize, usize)>
     ensures { IfSome result (λ ids. ids.0 ≢ ids.1) }
 {
-    let mut first = table.local(rt).ok()?;
-    let mut second = table.local(rt).ok()?;
+    let Ok(mut first) = table.local(rt) else {
+        return None;
+    };
+    let Ok(mut second) = table.local(rt) else {
+        return None;
+    };
     first.apart(&mut second);
     Some((first.id(), second.id()))
 }
 
 #[test]
-fn two_locals_of_a_deprecated_table_have_two_ids(rt: HostRuntime) -> Result<(), Fail> {
+fn two_locals_of_a_deprecated_table_have_two_ids(rt: HostRuntime) {
     let table = CachedThreadLocal::<u32>::new(rt.alloc());
-    assert_eq!(rt; have_two_ids(&table, &rt), Some((0, 1)));
-    Ok(())
+    assert_same(&rt, have_two_ids(&table, &rt), Some((0, 1)));
 }

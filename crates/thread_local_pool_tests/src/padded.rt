@@ -3,9 +3,11 @@ ghost use Rattle.std.specs.Prelude.{◌≡◌};
 
 use std::cell::Cell;
 use std::mem::size_of;
-use std::test::Fail;
+use std::sync::Wait;
 use thread_local::table::Judge;
 use thread_local::{Padded, ThreadLocal};
+use thread_local_test_helpers::printed::prints;
+use thread_local_test_helpers::same::assert_same;
 
 /// What is written to a padded value is what it holds then.
 fn swapped<T>(value: T, other: T) -> (T, T)
@@ -16,46 +18,58 @@ fn swapped<T>(value: T, other: T) -> (T, T)
     (old, padded.into_inner())
 }
 
-#[test]
-fn a_padded_value_is_the_value(rt: HostRuntime) -> Result<(), Fail> {
+/// What a padded value of 5 is to whoever borrows it, and to whoever takes it apart.
+fn five_twice() -> (u32, u32) {
     let padded = Padded::from(5u32);
-    assert_eq!(rt;
-        (swapped(1u8, 2), *padded, padded.into_inner()),
-        ((1, 2), 5, 5)
-    );
-    assert_eq!(rt; Padded::<u64>::default().into_inner(), 0);
-    assert_eq!(rt;
-        format!(in rt.alloc(); "{:?}", Padded::new(5))?.as_str(),
-        "Padded { value: 5 }"
-    );
-    Ok(())
+    (*padded, padded.into_inner())
 }
 
 #[test]
-fn a_slot_has_room_on_both_sides(rt: HostRuntime) -> Result<(), Fail> {
+fn a_padded_value_is_the_value(rt: HostRuntime) {
+    let default = Padded::<u64>::default().into_inner();
+    assert_same(
+        &rt,
+        (swapped(1u8, 2), five_twice(), default),
+        ((1, 2), (5, 5), 0),
+    );
+    assert!(rt; prints(&Padded::new(5), rt.alloc(), "Padded { value: 5 }"));
+}
+
+#[test]
+fn a_slot_has_room_on_both_sides(rt: HostRuntime) {
     let sizes = (
         size_of::<Padded<u8>>(),
         size_of::<Padded<Cell<u64>>>(),
         size_of::<Padded<[u64; 3]>>(),
     );
-    assert_eq!(rt; sizes, (128, 128, 144));
-    Ok(())
+    assert_same(&rt, sizes, (128, 128, 144));
+}
+
+/// Whether two `Local`s that are held at once publish padded cells, the first of which is set to 10.
+fn publish_two<R: Wait>(table: &ThreadLocal<Padded<Cell<u64>>>, rt: &R) -> Option<bool> {
+    let Ok(mut first) = table.local(rt) else {
+        return None;
+    };
+    let Ok(mut second) = table.local(rt) else {
+        return None;
+    };
+    first.get_or(|| Padded::new(Cell::new(1))).ok()?.set(10);
+    Some(second.get_or(|| Padded::new(Cell::new(2))).is_ok())
+}
+
+/// The values of a table, as digits to the base of 100.
+fn moved_out(table: ThreadLocal<Padded<Cell<u64>>>) -> u64 {
+    let mut digits = 0u64;
+    for cell in table {
+        digits = digits.wrapping_mul(100).wrapping_add(cell.get());
+    }
+    digits
 }
 
 #[test]
-fn a_table_keeps_padded_cells(rt: HostRuntime) -> Result<(), Fail> {
+fn a_table_keeps_padded_cells(rt: HostRuntime) {
     Padded::<Cell<u64>>::judge();
     let table = ThreadLocal::new(rt.alloc());
-    {
-        let mut first = table.local(&rt)?;
-        let mut second = table.local(&rt)?;
-        first.get_or(|| Padded::new(Cell::new(1)))?.set(10);
-        second.get_or(|| Padded::new(Cell::new(2)))?;
-    }
-    let kept = table.into_iter().fold(
-        0,
-        |sum: u64, cell| sum.wrapping_mul(100).wrapping_add(cell.get()),
-    );
-    assert_eq!(rt; kept, 1002);
-    Ok(())
+    let published = publish_two(&table, &rt);
+    assert_same(&rt, (published, moved_out(table)), (Some(true), 1002));
 }

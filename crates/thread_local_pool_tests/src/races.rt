@@ -4,7 +4,6 @@ use crate::buffer::fill;
 use std::sync::Wait;
 use std::sync::atomic::AtomicU64;
 use std::sync::atomic::Ordering::SeqCst;
-use std::test::Fail;
 use std::thread;
 use std::thread::Threads;
 use thread_local::thread_id::LocalError;
@@ -39,10 +38,9 @@ fn made_by_three<R: Wait + Threads + Sync>(pool: &Pool<u64>, rt: &R) -> Option<u
 }
 
 #[test]
-fn as_many_values_are_made_as_are_held_at_once(rt: HostRuntime) -> Result<(), Fail> {
+fn as_many_values_are_made_as_are_held_at_once(rt: HostRuntime) {
     let made = made_by_three(&Pool::new(rt.alloc()), &rt);
     assert!(rt; matches!(made, Some(1..=3)));
-    Ok(())
 }
 
 /// Takes buffers one after another, as many as are asked for, and puts ten bytes into each. Answers
@@ -77,14 +75,14 @@ fn four_threads<R: Wait + Threads + Sync>(pool: &Pool<Vec<u8>>, rt: &R) -> bool 
     taken.0 && taken.1
 }
 
+/// Eight threads take a hundred buffers each.
+fn eight_threads<R: Wait + Threads + Sync>(pool: &Pool<Vec<u8>>, rt: &R) -> bool {
+    let taken = thread::join(rt, || four_threads(pool, rt), || four_threads(pool, rt));
+    taken.0 && taken.1
+}
+
 #[test]
-fn eight_threads_get_empty_buffers(rt: HostRuntime) -> Result<(), Fail> {
+fn eight_threads_get_empty_buffers(rt: HostRuntime) {
     let pool = Pool::new(rt.alloc());
-    let taken = thread::join(
-        &rt,
-        || four_threads(&pool, &rt),
-        || four_threads(&pool, &rt),
-    );
-    assert_eq!(rt; taken, (true, true));
-    Ok(())
+    assert!(rt; eight_threads(&pool, &rt));
 }

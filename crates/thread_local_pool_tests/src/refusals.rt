@@ -4,9 +4,9 @@ use std::io::Print;
 use std::sync::Wait;
 use std::sync::atomic::AtomicU64;
 use std::sync::atomic::Ordering::SeqCst;
-use std::test::Fail;
 use thread_local::thread_id::LocalError;
 use thread_local_pool::{Buffer, Pool, Pooled};
+use thread_local_test_helpers::same::assert_same;
 
 /// A value of the pool, the second time where the first was refused, which is told. Answers None
 /// where the refusal called the closure, or the second time is refused.
@@ -37,10 +37,9 @@ fn two_at_once<R: Wait + Print>(pool: &Pool<u64>, rt: &R) -> Option<(u64, u64, u
 }
 
 #[test]
-fn a_value_that_was_refused_is_had_the_second_time(rt: HostRuntime) -> Result<(), Fail> {
+fn a_value_that_was_refused_is_had_the_second_time(rt: HostRuntime) {
     let pool = Pool::new(rt.alloc());
-    assert_eq!(rt; two_at_once(&pool, &rt), Some((0, 1, 2)));
-    Ok(())
+    assert_same(&rt, two_at_once(&pool, &rt), Some((0, 1, 2)));
 }
 
 /// A buffer, asked for once more where memory was refused.
@@ -63,8 +62,7 @@ fn lengths_of_two<R: Wait + Print>(pool: &Pool<Vec<u8>>, rt: &R) -> Option<[usiz
 }
 
 #[test]
-fn a_buffer_that_was_refused_is_had_the_second_time(rt: HostRuntime) -> Result<(), Fail> {
+fn a_buffer_that_was_refused_is_had_the_second_time(rt: HostRuntime) {
     let pool = Pool::new(rt.alloc());
-    assert_eq!(rt; lengths_of_two(&pool, &rt), Some([0, 0]));
-    Ok(())
+    assert_same(&rt, lengths_of_two(&pool, &rt), Some([0, 0]));
 }
