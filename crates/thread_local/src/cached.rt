@@ -14,9 +14,9 @@ use std::alloc::Global;
 use std::default::MadeWith;
 use std::marker::Model;
 use std::sync::Wait;
+use thread_local_base::LocalError;
 use thread_local_buckets::{IntoIter, IterMut};
 use thread_local_judged::Judge;
-use thread_local_base::LocalError;
 
 /// A table with fewer calls. Deprecated: use `ThreadLocal`. Each call is the table's: it waits,
 /// takes memory, refuses and drops values where the table's does. What Rust's crate offers for the

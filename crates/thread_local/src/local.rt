@@ -20,9 +20,9 @@ use std::default::MadeWith;
 use std::fmt;
 use std::marker::Model;
 use std::sync::Wait;
+use thread_local_base::Thread;
 use thread_local_ids::{HeldId, Page, Right, Tenure, Token, Told};
 use thread_local_shared_buckets::{Claim, Iter, Tokens};
-use thread_local_base::Thread;
 
 // `get_or` and `get_or_default` stand in local/lends.rt.
 mod lends;

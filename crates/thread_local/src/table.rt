@@ -18,14 +18,14 @@ use std::alloc::Global;
 use std::default::MadeWith;
 use std::marker::Model;
 use std::sync::Wait;
+use thread_local_base::LocalError;
+use thread_local_base::walk::walk_lists_the_map;
 pub use thread_local_buckets::CapacityError;
 use thread_local_buckets::{Buckets, EntriesMut, IntoEntries, IntoIter, IterMut};
 use thread_local_ids::{Ids, Lock, Right, Room};
 pub use thread_local_ids::{Book, Page, Token, Told};
 pub use thread_local_judged::{Judge, judge_sync, judge_value};
-use thread_local_base::walk::walk_lists_the_map;
 use thread_local_shared_buckets::{Entries, Iter, Shared, Tokens, replace_with};
-use thread_local_base::LocalError;
 
 // `buckets_mut`, `drain` and `get_mut` stand in table/lends.rt.
 mod lends;

@@ -7,8 +7,8 @@ use std::sync::{Mutex, Wait};
 use std::thread::Threads;
 use std::time::{Clock, Instant};
 use std::{io, thread};
-use thread_local_ids::{Ids, Lock};
 use thread_local_base::ThreadIdManager;
+use thread_local_ids::{Ids, Lock};
 
 /// Prints the times of `pairs` pairs, five times. Each of four threads does a fourth of them.
 pub(crate) fn compare<R: Clock + Threads + Wait + Sync + Print>(

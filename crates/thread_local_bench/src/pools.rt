@@ -9,9 +9,9 @@ use std::time::{Clock, Duration, Instant};
 use std::{io, thread};
 use thread_local::local::Local;
 use thread_local::{Padded, ThreadLocal};
+use thread_local_base::LocalError;
 use thread_local_judged::Judge;
 use thread_local_pool::Pool;
-use thread_local_base::LocalError;
 
 /// The round in which so many threads used values so often, if the values say so. An operation is
 /// one use of each thread.

@@ -4,8 +4,8 @@ use crate::Round;
 use std::alloc::{AllocError, Global};
 use std::io;
 use std::time::{Clock, Instant};
-use thread_local_buckets::Buckets;
 use thread_local_base::Thread;
+use thread_local_buckets::Buckets;
 
 /// What a table is filled with.
 pub(crate) trait Value: Drop {

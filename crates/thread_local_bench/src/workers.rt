@@ -8,8 +8,8 @@ use std::thread::Threads;
 use std::time::{Clock, Duration, Instant};
 use std::{io, thread};
 use thread_local::{Padded, ThreadLocal};
-use thread_local_judged::Judge;
 use thread_local_base::LocalError;
+use thread_local_judged::Judge;
 
 /// Adds each `workers`-th number below `end`, from the worker's own on, to the worker's counter,
 /// where `end` is a multiple of `workers`.

@@ -12,11 +12,11 @@ use std::thread;
 use std::thread::Threads;
 use thread_local::ThreadLocal;
 use thread_local::local::{Local, SetError};
+use thread_local_base::Thread;
 use thread_local_buckets::Buckets;
 use thread_local_ids::Token;
 use thread_local_judged::{Judge, judge_sync};
 use thread_local_shared_buckets::Tokens;
-use thread_local_base::Thread;
 
 /// Publishes a value with a new `Local`, and answers a token of what the slot holds.
 fn told<T: Send + Drop, R: Wait>(table: &ThreadLocal<T>, rt: &R, value: T) -> Option<Token<T>>

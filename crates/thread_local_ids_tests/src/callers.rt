@@ -3,8 +3,8 @@ ghost use Rattle.std.specs.Prelude.{◌≡◌, IfOk};
 
 use std::alloc::Global;
 use std::test::Fail;
-use thread_local_ids::Ids;
 use thread_local_base::LocalError;
+use thread_local_ids::Ids;
 
 /// The six ids of three takes, the returns of 1 and of 0, and three takes more.
 fn least_ids_come_again(

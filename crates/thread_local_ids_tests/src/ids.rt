@@ -7,8 +7,8 @@ use std::sync::Wait;
 use std::test::Fail;
 use std::thread;
 use std::thread::Threads;
-use thread_local_ids::{HeldId, Ids, Lock, Right, Tenure};
 use thread_local_base::LocalError;
+use thread_local_ids::{HeldId, Ids, Lock, Right, Tenure};
 
 /// What a take answers.
 type Taken = (HeldId, Right, Tenure);

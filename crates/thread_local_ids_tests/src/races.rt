@@ -7,8 +7,8 @@ use std::sync::atomic::Ordering::SeqCst;
 use std::test::Fail;
 use std::thread;
 use std::thread::Threads;
-use thread_local_ids::{Ids, Lock};
 use thread_local_base::LocalError;
+use thread_local_ids::{Ids, Lock};
 
 /// Takes an id and gives it back, `times` times. Answers how often another thread had the same id
 /// at that moment, or that memory ran out.

@@ -2,8 +2,8 @@
 
 use std::alloc::{AllocError, Global};
 use std::test::Fail;
-use thread_local_test_helpers::memory::take_all;
 use thread_local_base::ThreadIdManager;
+use thread_local_test_helpers::memory::take_all;
 
 /// How many ids a manager gives without memory, each the least, of as many as are asked for.
 fn count_given(

@@ -4,8 +4,8 @@
 //! as it does else, or with the error that says so.
 
 use std::alloc::AllocError;
-use thread_local_buckets::Buckets;
 use thread_local_base::Thread;
+use thread_local_buckets::Buckets;
 
 mod callers;
 mod drains;

@@ -1,10 +1,10 @@
 //! Buffers of a pool: what they hold when they are handed out, and what room they bring along.
 ghost use Rattle.std.specs.Prelude.{◌≡◌, [], IfOk};
 
+use crate::same::assert_same;
 use std::alloc::{AllocError, Global};
 use std::sync::Wait;
 use thread_local_pool::{Buffer, Pool};
-use thread_local_test_helpers::same::assert_same;
 
 /// What is written to an empty buffer is what stands in it.
 fn one_byte<R: Wait>(buffer: &mut Buffer<'_, R>, byte: u8) -> Result<usize, AllocError>

@@ -1,6 +1,7 @@
 //! The deprecated name of a table, in use.
 ghost use Rattle.std.specs.Prelude.{◌≢◌, IfSome};
 
+use crate::same::assert_same;
 use std::alloc::Global;
 use std::cell::Cell;
 use std::default::MadeWith;
@@ -8,7 +9,6 @@ use std::sync::Wait;
 use thread_local::cached::{CachedIntoIter, CachedIterMut, CachedThreadLocal};
 use thread_local::local::{Local, TryError};
 use thread_local_test_helpers::printed::prints;
-use thread_local_test_helpers::same::assert_same;
 
 /// What a new `Local` finds, and what it is told when it publishes 3.
 fn publish_three<R: Wait>(table: &CachedThreadLocal<u32>, rt: &R) -> Option<[Option<u32>; 2]> {

@@ -1,11 +1,11 @@
 //! Values and buffers that are dropped, and some that are forgotten.
 
 use crate::buffer::measure_another;
+use crate::same::{assert_same, no_drop};
 use std::mem::forget;
 use std::sync::Wait;
 use thread_local_pool::{Pool, Pooled};
-use thread_local_test_helpers::counted::{Counted, Drops, dropped, no_drop};
-use thread_local_test_helpers::same::assert_same;
+use thread_local_test_helpers::counted::{Counted, Drops, dropped};
 
 /// A value that counts its drop, and counts that it is made.
 fn counted<'a, R: Wait>(

@@ -17,4 +17,6 @@ mod races;
 #[cfg(test)]
 mod refusals;
 #[cfg(test)]
+mod same;
+#[cfg(test)]
 mod without_memory;

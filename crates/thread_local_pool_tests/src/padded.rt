@@ -1,13 +1,13 @@
 //! Padded values: their size, the way in, and the way to the value.
 ghost use Rattle.std.specs.Prelude.{◌≡◌};
 
+use crate::same::assert_same;
 use std::cell::Cell;
 use std::mem::size_of;
 use std::sync::Wait;
 use thread_local::table::Judge;
 use thread_local::{Padded, ThreadLocal};
 use thread_local_test_helpers::printed::prints;
-use thread_local_test_helpers::same::assert_same;
 
 /// What is written to a padded value is what it holds then.
 fn swapped<T>(value: T, other: T) -> (T, T)

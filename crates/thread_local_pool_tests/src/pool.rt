@@ -1,12 +1,12 @@
 //! Values of a pool: who makes them, how often, and what comes back.
 ghost use Rattle.std.specs.Prelude.{◌≡◌, true, IfOk, IfSome};
 
+use crate::same::assert_same;
 use std::alloc::Global;
 use std::mem::forget;
 use std::sync::Wait;
 use thread_local::thread_id::LocalError;
 use thread_local_pool::Pool;
-use thread_local_test_helpers::same::assert_same;
 
 /// A new value is what the closure made, and what is written to one stands in it.
 fn seven_or_another<R: Wait>(pool: &Pool<u32>, rt: &R) -> Result<bool, LocalError>

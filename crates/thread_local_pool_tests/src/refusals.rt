@@ -1,12 +1,12 @@
 //! Values and buffers that are refused memory: the tests hold whichever request is refused.
 
+use crate::same::assert_same;
 use std::io::Print;
 use std::sync::Wait;
 use std::sync::atomic::AtomicU64;
 use std::sync::atomic::Ordering::SeqCst;
 use thread_local::thread_id::LocalError;
 use thread_local_pool::{Buffer, Pool, Pooled};
-use thread_local_test_helpers::same::assert_same;
 
 /// A value of the pool, the second time where the first was refused, which is told. Answers None
 /// where the refusal called the closure, or the second time is refused.

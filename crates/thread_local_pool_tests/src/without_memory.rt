@@ -1,11 +1,11 @@
 //! Buffers where no memory is left.
 
+use crate::same::assert_same;
 use std::alloc::{AllocError, Global};
 use std::sync::Wait;
 use thread_local::thread_id::LocalError;
 use thread_local_pool::Pool;
 use thread_local_test_helpers::memory::take_all;
-use thread_local_test_helpers::same::assert_same;
 
 /// Whether a buffer is refused memory.
 fn is_buffer_refused<R: Wait>(pool: &Pool<Vec<u8>>, rt: &R) -> bool {

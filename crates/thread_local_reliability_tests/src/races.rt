@@ -11,8 +11,8 @@ use std::thread;
 use std::thread::{Threads, yield_now};
 use thread_local::ThreadLocal;
 use thread_local::local::Local;
-use thread_local_test_helpers::signals::LOOKS;
 use thread_local_base::LocalError;
+use thread_local_test_helpers::signals::LOOKS;
 
 /// How many walks are made beside a race at most.
 const WALKS: u32 = 100_000;

@@ -14,8 +14,8 @@ use std::sync::Wait;
 use std::test::Fail;
 use thread_local::ThreadLocal;
 use thread_local::local::{Local, SetError, TryError};
-use thread_local_buckets::{CapacityError, IntoIter};
 use thread_local_base::LocalError;
+use thread_local_buckets::{CapacityError, IntoIter};
 
 /// A call that publishes a value.
 #[derive(Clone, Copy, PartialEq, Eq)]

@@ -9,9 +9,9 @@ use std::sync::Wait;
 use std::test::Fail;
 use thread_local::ThreadLocal;
 use thread_local::local::{Local, TryError};
+use thread_local_base::LocalError;
 use thread_local_buckets::CapacityError;
 use thread_local_test_helpers::memory::take_all;
-use thread_local_base::LocalError;
 
 /// A table of numbers with this capacity.
 fn with_capacity(alloc: Global, capacity: usize) -> Result<ThreadLocal<u32>, CapacityError> {

@@ -8,8 +8,8 @@ use crate::locals::{lends, numbers, publish_and_forget, published_by_another};
 use std::alloc::{AllocError, Global};
 use std::test::Fail;
 use thread_local::ThreadLocal;
-use thread_local_buckets::{Buckets, IterMut};
 use thread_local_base::Thread;
+use thread_local_buckets::{Buckets, IterMut};
 
 /// How many values a walk lends, and their sum.
 fn lent(walk: IterMut<'_, u32>) -> (usize, u128)

@@ -1,18 +1,12 @@
 //! Values that count their drops.
 
 use std::alloc::{AllocError, Global};
-use std::process::Abort;
 use std::sync::Arc;
 use std::sync::atomic::AtomicU64;
 use std::sync::atomic::Ordering::SeqCst;
 
 /// What counts the drops of values.
 pub type Drops = Arc<AtomicU64, Global>;
-
-/// A count of no drop. Ends the test where memory is out.
-pub fn no_drop<R: Abort>(rt: &R, alloc: Global) -> Drops {
-    Arc::new(alloc, AtomicU64::new(0)).expect(rt, "memory for a count")
-}
 
 /// How many drops were counted.
 pub fn dropped(drops: &Drops) -> u64 {

@@ -6,5 +6,4 @@ pub mod counted;
 pub mod memory;
 pub mod printed;
 pub mod refusing;
-pub mod same;
 pub mod signals;

@@ -1,11 +1,11 @@
 //! Threads that count in a table, each in its own cell.
 
 use crate::examples::{count, total};
+use crate::same::assert_same;
 use std::cell::Cell;
 use std::thread;
 use thread_local::ThreadLocal;
 use thread_local::table::Judge;
-use thread_local_test_helpers::same::assert_same;
 
 #[test]
 fn five_threads_count_to_five(rt: HostRuntime) {

@@ -2,14 +2,14 @@
 
 mod forgotten;
 
+use crate::same::{assert_same, no_drop};
 use std::alloc::Global;
 use std::sync::Wait;
 use thread_local::ThreadLocal;
 use thread_local::local::Local;
 use thread_local_judged::judge_sync;
-use thread_local_test_helpers::counted::{Counted, Drops, dropped, no_drop};
+use thread_local_test_helpers::counted::{Counted, Drops, dropped};
 use thread_local_test_helpers::memory::take_all_but;
-use thread_local_test_helpers::same::assert_same;
 
 /// A table of values that count their drops.
 fn of_counted(alloc: Global) -> ThreadLocal<Counted> {

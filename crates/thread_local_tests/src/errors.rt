@@ -1,11 +1,11 @@
 //! What errors print, and what `?` makes of memory that was refused.
 
+use crate::same::assert_same;
 use std::alloc::{AllocError, Global};
 use std::error::Error;
 use thread_local::buckets::CapacityError;
 use thread_local::local::{SetError, TryError};
 use thread_local::thread_id::LocalError;
-use thread_local_test_helpers::same::assert_same;
 
 /// Whether an error prints this text.
 fn says<E: Error>(error: &E, alloc: Global, text: &str) -> bool {

@@ -74,10 +74,10 @@ pub fn lasting<'a, R: Wait>(table: &'a ThreadLocal<u64>, rt: &'a R, value: u64) 
 #[cfg(test)]
 mod tests {
     use super::*;
+    use crate::same::assert_same;
     use std::thread;
     use thread_local::table::Judge;
     use thread_local::thread_id::Thread;
-    use thread_local_test_helpers::same::assert_same;
 
     #[test]
     fn threads_count_and_their_owner_sums(rt: HostRuntime) {

@@ -17,6 +17,8 @@ mod numbers;
 #[cfg(test)]
 mod printed;
 #[cfg(test)]
+mod same;
+#[cfg(test)]
 mod shared_walks;
 #[cfg(test)]
 mod walks;

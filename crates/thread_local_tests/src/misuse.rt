@@ -1,6 +1,7 @@
 //! Programs that use a table as they may. Each is a line away from ones that must not compile:
 //! `tools/misuse` changes that line, and compares why the compiler refuses the program then.
 
+use crate::same::assert_same;
 use std::alloc::Global;
 use std::sync::Wait;
 use std::thread;
@@ -8,7 +9,6 @@ use std::thread::Threads;
 use thread_local::ThreadLocal;
 use thread_local::local::Local;
 use thread_local_shared_buckets::Claim;
-use thread_local_test_helpers::same::assert_same;
 
 /// A claim is handed on as one of a bucket of these values.
 fn handed_on<'s, 'a>(claim: Claim<'a, &'static u64>) -> Claim<'a, &'static u64> {

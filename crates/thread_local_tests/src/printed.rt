@@ -1,13 +1,13 @@
 //! Walks print their cursor, and a `Local` its value.
 
 use crate::numbers::{publish_held, publishes};
+use crate::same::assert_same;
 use std::alloc::Global;
 use std::sync::Wait;
 use thread_local::ThreadLocal;
 use thread_local_buckets::IterMut;
 use thread_local_shared_buckets::Iter;
 use thread_local_test_helpers::printed::prints;
-use thread_local_test_helpers::same::assert_same;
 
 /// The cursor before the first value.
 const FRESH: &str = "Iter { raw: RawIter { yielded: 0, bucket: 0, bucket_size: 1, index: 0 } }";

@@ -1,12 +1,12 @@
 //! Walks over tables that threads share.
 
 use crate::numbers::publishes;
+use crate::same::assert_same;
 use std::mem::forget;
 use std::sync::Wait;
 use thread_local::ThreadLocal;
 use thread_local::local::Local;
 use thread_local_shared_buckets::{Entries, Iter};
-use thread_local_test_helpers::same::assert_same;
 
 /// Whether a walk gives these values and then none, and again none.
 pub fn gives(mut walk: Iter<'_, u32>, expected: &[u32]) -> bool {

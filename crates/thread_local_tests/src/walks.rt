@@ -1,14 +1,14 @@
 //! Walks of an owner.
 
 use crate::numbers::{publish_held, publishes};
+use crate::same::assert_same;
 use crate::shared_walks::gives;
 use std::sync::Wait;
 use std::thread;
 use std::thread::Threads;
 use thread_local::ThreadLocal;
-use thread_local_buckets::{IntoIter, IterMut};
-use thread_local_test_helpers::same::assert_same;
 use thread_local_base::LocalError;
+use thread_local_buckets::{IntoIter, IterMut};
 
 /// Three `Local`s that were taken in order publish 1, 2 and 3, each in a thread of its own, which
 /// the end of the scope joins. Answers whether the threads were started.

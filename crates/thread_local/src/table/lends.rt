@@ -11,9 +11,9 @@ ghost use Rattle.thread_local.specs.Owners.{KeepsReserved};
 ghost use Rattle.thread_local.specs.contracts.table.ThreadLocal.{the_row};
 
 use super::ThreadLocal;
-use thread_local_buckets::{Buckets, Drain};
 use thread_local_base::Thread;
 use thread_local_base::manager::IDS;
+use thread_local_buckets::{Buckets, Drain};
 
 impl<T> ThreadLocal<T> {
     /// The buckets, for the exclusive owner. A contract knows the number of reserved slots, and not

@@ -8,8 +8,8 @@ ghost use Rattle.thread_local_base.specs.Owner.{with_published};
 use std::alloc::{AllocError, Global};
 use std::cell::Cell;
 use std::test::Fail;
-use thread_local_buckets::Buckets;
 use thread_local_base::Thread;
+use thread_local_buckets::Buckets;
 
 /// A caller at any type: a value that is inserted is what the walk gives first.
 fn inserted_and_taken<T: Send + Drop>(alloc: Global, value: T) -> Result<Option<T>, T> {

@@ -4,9 +4,9 @@ use super::insert;
 use super::walks::{has_left, three};
 use std::alloc::{AllocError, Global};
 use std::test::Fail;
+use thread_local_base::Thread;
 use thread_local_buckets::Buckets;
 use thread_local_test_helpers::printed::prints;
-use thread_local_base::Thread;
 
 /// Whether a drain gives three values, counted down, and then nothing for good.
 fn drains(buckets: &mut Buckets<u32>, values: [u32; 3]) -> bool {

@@ -11,9 +11,9 @@ use std::mem::forget;
 use std::sync::atomic::AtomicU64;
 use std::sync::atomic::Ordering::SeqCst;
 use std::test::Fail;
+use thread_local_base::Thread;
 use thread_local_buckets::Buckets;
 use thread_local_test_helpers::memory::take_all_but;
-use thread_local_base::Thread;
 
 struct Counted<'a> {
     number: u32,

@@ -5,8 +5,8 @@ use std::alloc::{AllocError, Global};
 use std::cell::Cell;
 use std::io::Print;
 use std::test::Fail;
-use thread_local_buckets::{Buckets, CapacityError, IntoIter};
 use thread_local_base::Thread;
+use thread_local_buckets::{Buckets, CapacityError, IntoIter};
 
 #[test]
 fn a_capacity_reserves_whole_buckets(rt: HostRuntime) -> Result<(), Fail> {

@@ -3,9 +3,9 @@
 use super::insert;
 use std::alloc::{AllocError, Global};
 use std::test::Fail;
+use thread_local_base::Thread;
 use thread_local_buckets::Buckets;
 use thread_local_test_helpers::memory::{take_all, take_all_but};
-use thread_local_base::Thread;
 
 /// What an insert without memory answers, how many slots there are then, what the same insert
 /// answers with memory, and how many there are then.

@@ -7,8 +7,8 @@ use std::thread;
 use std::thread::Threads;
 use thread_local::ThreadLocal;
 use thread_local::local::Local;
-use thread_local_shared_buckets::Iter;
 use thread_local_base::{Thread, bucket_size};
+use thread_local_shared_buckets::Iter;
 
 /// How many `Local`s publish during a walk.
 const LOCALS: u64 = 24;

@@ -1,11 +1,11 @@
 //! `Local`s and walks that are forgotten, and a walk that is dropped at once.
 
 use super::{of_counted, publish};
+use crate::same::{assert_same, no_drop};
 use std::mem::forget;
 use std::sync::Wait;
 use thread_local::ThreadLocal;
-use thread_local_test_helpers::counted::{Counted, Drops, dropped, no_drop};
-use thread_local_test_helpers::same::assert_same;
+use thread_local_test_helpers::counted::{Counted, Drops, dropped};
 
 /// `Local`s each publish a counted value and are forgotten, as many as are asked for. Answers
 /// whether all did.
