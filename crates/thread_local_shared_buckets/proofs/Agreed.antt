@@ -27,7 +27,7 @@ use Rattle.thread_local_shared_buckets.proofs.Inside.{Next, quietly}
 use Rattle.thread_local_shared_buckets.proofs.Inside as inside
 use Rattle.thread_local_shared_buckets.proofs.SlotSteps as general
 use Rattle.thread_local_shared_buckets.specs.Known.{HasLooked}
-use Rattle.thread_local_shared_buckets.specs.Claims.{ClaimFields, IsOf, IsKept, value_at, has_slot, has, has_at, claim_owns}
+use Rattle.thread_local_shared_buckets.specs.Claims.{ClaimFields, IsOf, IsStateOf, value_at, has_slot, has, has_at, claim_owns}
 use Rattle.thread_local_shared_buckets.proofs.Moves as moves
 use Rattle.thread_local_shared_buckets.proofs.Early as early
 use Rattle.thread_local_base.proofs.Signs.{signs}
@@ -217,7 +217,7 @@ module _ {M : Type 1} {𝓤 : Ura M} (𝓛 : Logic 𝓤) (R : RattleType) (x : R
           fpack ! StandingBlock (has_slot R z.0 z.1 β c (Some y)) s $
           move ! (2 ∷ 0 ∷ []) $ fjoin ! $ nothing ! $ fpack ! (IsOf R table c z.0) (λ _. ftrue) of $
           fjoin ! $ fpack ! (BucketView × Turn) (has_at R β table c (Holding y)) z $
-          nothing ! $ fpack ! (IsKept R state (Holding y)) (λ _. ftrue) kept_so $ fjoin ! $
+          nothing ! $ fpack ! (IsStateOf R state (Holding y)) (λ _. ftrue) kept_so $ fjoin ! $
           check !
           (ap (λ (o : Option R.Denot).
           elim o as (λ _. Learnt R.Denot) [ None ↦ Vacant | Some v ↦ Holding v ])

@@ -11,7 +11,7 @@ use Rattle.thread_local_shared_buckets.specs.declared.steps.Walk.{Walk}
 use Rattle.thread_local_shared_buckets.specs.Positions.{resting, owed, lies_in, OwnIsTold}
 use Rattle.thread_local_shared_buckets.specs.Positions.{IsAhead, IsSharedWalk, MovesBehind}
 use Rattle.thread_local_shared_buckets.specs.AtHand.{IsRowOf}
-use Rattle.thread_local_shared_buckets.specs.AtHand.{IsKept, IsWalk, GoesOn}
+use Rattle.thread_local_shared_buckets.specs.AtHand.{OwnIsAtHand, IsWalk, GoesOn}
 use Rattle.thread_local_ids.specs.TokenLists.{AllOf, NoneIn}
 use Rattle.thread_local_shared_buckets.specs.Positions.{IsBehind}
 use Rattle.thread_local_shared_buckets.proofs.ToldLaws.{unmarked, skips}
@@ -20,7 +20,7 @@ use Rattle.thread_local_shared_buckets.proofs.WalkLaws.{own_after_bucket}
 use Rattle.thread_local_shared_buckets.proofs.BitLaws.{none_set}
 
 module _ {V : Type 0} where
-  none_kept : (w : Walk V) (own : Option (Own V)) → w.chunks ≡ 0 → IfSome own (IsKept w)
+  none_kept : (w : Walk V) (own : Option (Own V)) → w.chunks ≡ 0 → IfSome own (OwnIsAtHand w)
   none_kept w None none = tt
   none_kept w (Some own) none = λ same seen. absurd (omega arith)
 

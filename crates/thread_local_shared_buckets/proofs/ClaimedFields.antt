@@ -33,7 +33,7 @@ use Rattle.thread_local_bucket_pointers.proofs.Flags.{uncapped}
 use Rattle.thread_local_shared_buckets.specs.Shared.{BucketView, len, first}
 use Rattle.thread_local_base.specs.Fact.{fact}
 use Rattle.thread_local_shared_buckets.specs.Known.{value_held}
-use Rattle.thread_local_shared_buckets.specs.Claims.{claim_fields, flag_word_of, IsKept, shows_value, claim_shares}
+use Rattle.thread_local_shared_buckets.specs.Claims.{claim_fields, flag_word_of, IsStateOf, shows_value, claim_shares}
 use Rattle.thread_local_shared_buckets.specs.declared.claimed.ClaimedSlot as claim_value
 use Rattle.thread_local_shared_buckets.specs.contracts.claimed.ClaimedSlot as claim
 
@@ -110,7 +110,7 @@ claim_ref R = RefOf (0 ∷ []) tt (claim_at R) (λ _. tt)
 -- keeps at run time
 module _ {M : Type 1} {𝓤 : Ura M} {𝓛 : Logic 𝓤} {K : Type 0} {Γ : List (Item 𝓤)} {G : Goal 𝓤 𝓛.H} where
   pub splits_ref : K → (a : NamedLft) (R : RattleType) (κ : Lft) (h : claim_value.ClaimedSlot R.Denot) (b o : ℕ)
-      → Step K 𝓛 (‵ (fact (IsKept R h.state h.learnt))
+      → Step K 𝓛 (‵ (fact (IsStateOf R h.state h.learnt))
       ∷ ‵ (shows_value R a.lft (claim_fields h.id h.index h.bucket h.at h.sharing h.reserved)
       (value_held h.learnt) κ)
       ∷ ‵ (hidden_shr (FieldsType a R) κ (fields_of a R (kept_of h)) b o) ∷ Γ)

@@ -17,7 +17,7 @@ use Rattle.thread_local_base.specs.Fact.{fact}
 use Rattle.thread_local_shared_buckets.specs.Shared.{BucketView, Turn, StandingBlock, Sized, block_code, len, bucket_invariant, kept, loaded}
 use Rattle.thread_local_shared_buckets.proofs.Loads.{part, reaches}
 use Rattle.thread_local_base.specs.Learnt.{Vacant}
-use Rattle.thread_local_shared_buckets.specs.Claims.{ClaimFields, claim_fields, IsOf, IsKept, value_at, has_slot, has_at, claim_owns}
+use Rattle.thread_local_shared_buckets.specs.Claims.{ClaimFields, claim_fields, IsOf, IsStateOf, value_at, has_slot, has_at, claim_owns}
 use Rattle.thread_local_shared_buckets.proofs.ClaimSteps as steps
 use Rattle.thread_local_base.proofs.Signs.{signs}
 use Rattle.thread_local_shared_buckets.proofs.Inside.{placed}
@@ -79,4 +79,4 @@ module _ {M : Type 1} {𝓤 : Ura M} (𝓛 : Logic 𝓤) (R : RattleType) (d : B
       move ! (3 ∷ 2 ∷ []) $ fjoin ! $ fjoin ! $ nothing ! $
       fpack ! (IsOf R table Now d) (λ _. ftrue) of $ fjoin ! $
       fpack ! (BucketView × Turn) (has_at R β table Now Vacant) (d, t) $
-      nothing ! $ fpack ! (IsKept R 1 Vacant) (λ _. ftrue) refl $ fjoin ! $ move ! (1 ∷ 0 ∷ []) $ now ! $ done !))
+      nothing ! $ fpack ! (IsStateOf R 1 Vacant) (λ _. ftrue) refl $ fjoin ! $ move ! (1 ∷ 0 ∷ []) $ now ! $ done !))

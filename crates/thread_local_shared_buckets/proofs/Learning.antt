@@ -14,7 +14,7 @@ use Rattle.thread_local_base.specs.Learnt.{Learnt, Unknown, Missing, Standing, V
 use Rattle.thread_local_base.specs.Fact.{fact}
 use Rattle.thread_local_shared_buckets.specs.Shared.{BucketView, Turn, StandingBlock}
 use Rattle.thread_local_shared_buckets.specs.Known.{HasLooked, MayLook, looked_in_vain, state_by, value_held, found_as}
-use Rattle.thread_local_shared_buckets.specs.Claims.{ClaimFields, has_slot, has, claims_side, IsKept}
+use Rattle.thread_local_shared_buckets.specs.Claims.{ClaimFields, has_slot, has, claims_side, IsStateOf}
 
 pub known_as : {X : Type 0} (v : Option X) → HasLooked (found_as v)
 known_as None = tt
@@ -53,7 +53,7 @@ holding Standing e = cc
 holding Vacant e = cc
 
 -- the flag tells whether the slot holds a value
-pub kept_as : (R : RattleType) (v : Option R.Denot) (set : Bool) → set ≡ is_some v → IsKept R (state_by set) (found_as v)
+pub kept_as : (R : RattleType) (v : Option R.Denot) (set : Bool) → set ≡ is_some v → IsStateOf R (state_by set) (found_as v)
 kept_as R None set e = ap state_by e
 kept_as R (Some x) set e = ap state_by e
 

@@ -39,7 +39,7 @@ use Rattle.thread_local_shared_buckets.specs.Shared.{pinned, tracked_value, age,
 use Rattle.thread_local_shared_buckets.specs.Shared as slots
 use Rattle.thread_local_base.specs.Learnt.{Learnt, Unknown, Missing, Standing, Vacant, Holding}
 use Rattle.thread_local_shared_buckets.specs.Known.{value_held}
-use Rattle.thread_local_shared_buckets.specs.Claims.{ClaimFields, has_slot, IsKept, IsOf, has_at, claim_owns, value_at, lasts}
+use Rattle.thread_local_shared_buckets.specs.Claims.{ClaimFields, has_slot, IsStateOf, IsOf, has_at, claim_owns, value_at, lasts}
 use Rattle.thread_local_shared_buckets.specs.Claims.{shows_value, claim_shares}
 use Rattle.thread_local_base.proofs.Signs.{signs}
 
@@ -66,8 +66,8 @@ pub claim_laws : (β : Lft) (R : RattleType) → RowLaws R
     → (c : ClaimFields) (l : Learnt R.Denot) (state : ℕ)
     → ShrLaws (claim_shares R β c l state)
 claim_laws β R L c l state =
-    beside_shr_laws (said (fact (IsKept R state l))) (shows_value R β c (value_held l))
-    (said_shr_laws (fact (IsKept R state l)) (λ _. tt)) (shown_laws β R L c (value_held l))
+    beside_shr_laws (said (fact (IsStateOf R state l))) (shows_value R β c (value_held l))
+    (said_shr_laws (fact (IsStateOf R state l)) (λ _. tt)) (shown_laws β R L c (value_held l))
 
 module _ {M : Type 1} {𝓤 : Ura M} (𝓛 : Logic 𝓤) where
   open 𝓛 use {H, A}
@@ -109,7 +109,7 @@ module _ {M : Type 1} {𝓤 : Ura M} (𝓛 : Logic 𝓤) where
     abbrev pub Saw : Fml
     Saw = fex (Judged R) Seen
 
-    module _ (told : IsKept R state l) (z : BucketView × Turn) (of : IsOf R table c z.0)
+    module _ (told : IsStateOf R state l) (z : BucketView × Turn) (of : IsOf R table c z.0)
         (s : StandingBlock) (at : c.at ≡ value_at R s.at c.index) where
       abbrev d : BucketView
       d = z.0
@@ -163,7 +163,7 @@ module _ {M : Type 1} {𝓤 : Ura M} (𝓛 : Logic 𝓤) where
           fpack ! StandingBlock (has_slot R d t β c v) s $ move ! (1 ∷ 0 ∷ []) $ fjoin ! $
           anything ! $ fpack ! (IsOf R table c d) (λ _. ftrue) of $ fjoin ! $
           fpack ! (BucketView × Turn) At z $ anything ! $
-          fpack ! (IsKept R state l) (λ _. ftrue) told $ fjoin ! $ done !
+          fpack ! (IsStateOf R state l) (λ _. ftrue) told $ fjoin ! $ done !
 
       there : ◌≡◌ {A = ℕ × ℕ} (sb, se) (b, e)
       there = λ i. (block_of (sym at i), count_of (sym at i))
@@ -266,7 +266,7 @@ module _ {M : Type 1} {𝓤 : Ura M} (𝓛 : Logic 𝓤) where
 
     lends_at : (q : Share)
         → ⟦ fbor ν C ⟧ ∗ A.lft ν q
-        ⊢ H.⇛ ((⟦ fact (IsKept R state l) ⟧ ∗ ⟦ fact (InBlock c.at) ⟧ ∗ ⟦ Tells ⟧ ∗ ⟦ Saw ⟧)
+        ⊢ H.⇛ ((⟦ fact (IsStateOf R state l) ⟧ ∗ ⟦ fact (InBlock c.at) ⟧ ∗ ⟦ Tells ⟧ ∗ ⟦ Saw ⟧)
         ∗ A.lft ν q)
     lends_at q =
         qed 𝓛 (‵ (fbor ν C) ∷ ‵ (flft ν q) ∷ []) ∵ updating ! $ bor_open ! tt $ move ! (1 ∷ []) $
@@ -286,7 +286,7 @@ module _ {M : Type 1} {𝓤 : Ura M} (𝓛 : Logic 𝓤) where
         -- [what was seen; the token; what is told]
         move ! (2 ∷ 0 ∷ []) $ join ! $ anything ! $
         fpack ! (InBlock c.at) (λ _. ftrue) (subst (λ (u : Ptr). InBlock u) (sym at) tt) $ join ! $
-        anything ! $ fpack ! (IsKept R state l) (λ _. ftrue) told $ join ! $ join ! $ now ! $ keep ! (0 ∷ []) $ done !)))))))
+        anything ! $ fpack ! (IsStateOf R state l) (λ _. ftrue) told $ join ! $ join ! $ now ! $ keep ! (0 ∷ []) $ done !)))))))
 
   module _ (β : Lft) (R : RattleType) (L : RowLaws R) (l : Lft) (le : Incl l β)
       (shares : Shares 𝓛 R l) (table : ℕ) (c : ClaimFields) (state : ℕ) where
@@ -298,10 +298,10 @@ module _ {M : Type 1} {𝓤 : Ura M} (𝓛 : Logic 𝓤) where
     ve = count_of c.at
 
     -- what a claim keeps at run time is true of it
-    told_of : (t : Learnt R.Denot) → ⟦ claim_owns R β table c t state ⟧ ⊢ monad.fact 𝓤 (IsKept R state t)
+    told_of : (t : Learnt R.Denot) → ⟦ claim_owns R β table c t state ⟧ ⊢ monad.fact 𝓤 (IsStateOf R state t)
     told_of t =
         qed 𝓛 (‵ (claim_owns R β table c t state) ∷ []) ∵ fsplit ! $
-        fpick ! (λ told. by ! (fact_i 𝓤 (IsKept R state t) _ told))
+        fpick ! (λ told. by ! (fact_i 𝓤 (IsStateOf R state t) _ told))
 
     module _ (x : R.Denot) (κ : Lft) where
       abbrev ν : Lft
@@ -332,7 +332,7 @@ module _ {M : Type 1} {𝓤 : Ura M} (𝓛 : Logic 𝓤) where
       P = claim_owns R β table c t state
 
       abbrev Φ : Type 0
-      Φ = IsKept R state t
+      Φ = IsStateOf R state t
 
       keeps_at : (κ : Lft) (q : Share) → A.bor κ P ∗ A.lft κ q ⊢ H.⇛ (⟦ fact Φ ⟧ ∗ A.lft κ q)
       keeps_at κ q = qed 𝓛 (‵ (fbor κ P) ∷ ‵ (flft κ q) ∷ []) ∵ updating ! $ bor_open ! tt $ move ! (1 ∷ []) $
@@ -353,7 +353,7 @@ module _ {M : Type 1} {𝓤 : Ura M} (𝓛 : Logic 𝓤) where
     lends_claim (Holding x) = λ κ ts inc sp.
         let ν : Lft = κ ++ β in
         let P : Fml = claim_owns R β table c (Holding x) state in
-        let Told : Fml = fact (IsKept R state (Holding x)) in
+        let Told : Fml = fact (IsStateOf R state (Holding x)) in
         let In : Fml = fact (InBlock c.at) in
         let sm : Incl (span ts) ν = ⊑_meet (span ts) κ β sp (Incl-trans inc le) in
         let within : Incl ν β = meet_⊑_right κ β in

@@ -10,8 +10,8 @@ use Rattle.thread_local_shared_buckets.specs.declared.steps.Own.{Own}
 use Rattle.thread_local_shared_buckets.specs.declared.steps.Walk.{Walk}
 use Rattle.thread_local_shared_buckets.specs.Positions.{lies_in, is_at, own_index}
 use Rattle.thread_local_shared_buckets.specs.Positions.{IsAhead}
-use Rattle.thread_local_shared_buckets.specs.AtHand.{LiesOutside, IsRead, IsAlone, LooksAt, HasLooked, IsRowOf, slot_of}
-use Rattle.thread_local_shared_buckets.specs.AtHand.{IsKept, IsWalk, LooksIn, IsMarked, IsFoundAt, FindsTokens}
+use Rattle.thread_local_shared_buckets.specs.AtHand.{LiesOutside, IsRead, IsAlone, LooksAt, HasLookedOn, IsRowOf, slot_of}
+use Rattle.thread_local_shared_buckets.specs.AtHand.{OwnIsAtHand, IsWalk, LooksIn, IsMarked, IsFoundAt, FindsTokens}
 use Rattle.thread_local_ids.specs.TokenLists.{AllOf, NoneIn}
 use Rattle.thread_local_shared_buckets.specs.Positions.{IsBehind}
 use Rattle.thread_local_shared_buckets.proofs.ToldLaws.{found_all, marked_on, all_behind}
@@ -54,7 +54,7 @@ module _ {V : Type 0} where
                   let never : true ≡ false = sym so ∙ apart in cc;
             };
         kept =
-            subst (λ (o : Option (Own V)). IfSome o (IsKept to)) (sym is) (λ _ seen.
+            subst (λ (o : Option (Own V)). IfSome o (OwnIsAtHand to)) (sym is) (λ _ seen.
             let base : (chunks - 1) * 64 ≤ i = omega arith in
             let bit : i - (chunks - 1) * 64 ≡ i % 64 = omega arith in (
               base,
@@ -97,8 +97,8 @@ module _ {V : Type 0} where
 
   kept_read : (w to : Walk V) (of : BucketView) (own : Option (Own V)) (seen : Seen V)
       → to.raw.bucket ≡ w.raw.bucket
-      → IfSome own (IsKept w) → w.rest ≡ 0 → IsRead of (own_index own w.raw.bucket) w.chunks seen to.chunks to.rest
-      → IfSome own (IsKept to)
+      → IfSome own (OwnIsAtHand w) → w.rest ≡ 0 → IsRead of (own_index own w.raw.bucket) w.chunks seen to.chunks to.rest
+      → IfSome own (OwnIsAtHand to)
   kept_read w to of None seen stays kept none read = tt
   kept_read w to of (Some own) seen stays kept none read = λ same within_seen.
       let here : own.thread.bucket ≡ w.raw.bucket = same ∙ stays in
@@ -246,7 +246,7 @@ module _ {V : Type 0} where
 
   looked_by : (w : Walk V) (row : Option (Row V)) (seen : Option (Seen V)) (chunks flags : ℕ) → IsWalk w → w.rest ≡ 0
       → w.raw.bucket < 63 → IfSome row (IsRowOf w.buckets.now.sharing w.raw.bucket)
-      → HasLooked row (own_index w.own w.raw.bucket) w.chunks (seen, chunks, flags)
+      → HasLookedOn row (own_index w.own w.raw.bucket) w.chunks (seen, chunks, flags)
       → Finds w (seen, chunks, flags)
       → LooksIn w (after_look w row seen chunks flags)
   looked_by w row None chunks flags walk none low of x finds =
@@ -257,12 +257,12 @@ module _ {V : Type 0} where
   pub looked_on : (w : Walk V) (row : Option (Row V)) (own : Option ℕ) (x : Option (Seen V) × ℕ × ℕ) → IsWalk w → w.rest ≡ 0
       → w.raw.bucket < 63 → IfSome row (IsRowOf w.buckets.now.sharing w.raw.bucket)
       → own ≡ own_index w.own w.raw.bucket
-      → HasLooked row own w.chunks x
+      → HasLookedOn row own w.chunks x
       → FindsTokens row w.chunks w.told x
       → (row ≡ None → NoneIn w.buckets.now.sharing w.raw.bucket w.told)
       → LooksIn w (after_look w row x.0 x.1 x.2)
   looked_on w row own x walk none low of is looked finds absent =
-      looked_by w row x.0 x.1 x.2 walk none low of (subst (λ (o : Option ℕ). HasLooked row o w.chunks x) is looked)
+      looked_by w row x.0 x.1 x.2 walk none low of (subst (λ (o : Option ℕ). HasLookedOn row o w.chunks x) is looked)
       (found_all w.buckets.now.sharing w.raw.bucket w.chunks w.told x row of finds absent)
 
   -- a look at a chunk of the row finds a flag
@@ -272,7 +272,7 @@ module _ {V : Type 0} where
       → ((k : ℕ) → from ≤ k → k < chunk → LiesOutside own k)
       → IfSome own (λ index. index / 64 ≡ chunk → IsWordBut word given (index % 64) true)
       → (LiesOutside own chunk → word ≡ given) → word ≢ 0
-      → HasLooked row own from (Some seen, chunk + 1, word)
+      → HasLookedOn row own from (Some seen, chunk + 1, word)
   read_at row r own from chunk given word seen is of at flags later inside none adds other some =
       subst (λ (u : Option (Row V)). LooksAt u own from seen (chunk + 1) word) (sym is) record {
         of = of;

@@ -11,10 +11,10 @@ use Rattle.thread_local_bucket_pointers.specs.declared.cursor.RawIter.{RawIter}
 use Rattle.thread_local_shared_buckets.specs.declared.steps.Own.{Own}
 use Rattle.thread_local_shared_buckets.specs.declared.steps.Walk.{Walk}
 use Rattle.thread_local_shared_buckets.specs.Walks.{Yields}
-use Rattle.thread_local_shared_buckets.specs.Positions.{resting, past, owed, is_at, Found, OwnIsTold}
+use Rattle.thread_local_shared_buckets.specs.Positions.{resting, past, owed, is_at, Item, OwnIsTold}
 use Rattle.thread_local_shared_buckets.specs.Positions.{IsToldAt, IsSharedWalk}
 use Rattle.thread_local_shared_buckets.specs.AtHand.{IsSetIn, IsGivenBy, slot_of, HasSeen, IsAtHand}
-use Rattle.thread_local_shared_buckets.specs.AtHand.{IsKept, IsWalk}
+use Rattle.thread_local_shared_buckets.specs.AtHand.{OwnIsAtHand, IsWalk}
 use Rattle.thread_local_shared_buckets.proofs.WalkLaws.{few, IsBefore, given_found, Gave, gave_own}
 use Rattle.thread_local_shared_buckets.proofs.ToldLaws.{marked_later}
 use Rattle.thread_local_shared_buckets.proofs.BitLaws.{both_if, both_so, by_test, later, stays_set}
@@ -26,7 +26,7 @@ module _ {V : Type 0} where
   set_in sharing bucket chunks bit None h = h
   set_in sharing bucket chunks bit (Some seen) h = h.3
 
-  told_seen : (sharing : Option ℕ) (raw : RawIter) (chunks bit : ℕ) (x : Found V) (seen : Option (Seen V))
+  told_seen : (sharing : Option ℕ) (raw : RawIter) (chunks bit : ℕ) (x : Item V) (seen : Option (Seen V))
       → HasSeen sharing raw.bucket chunks bit seen → IfSome seen (IsGivenBy bit x)
       → IsToldAt sharing (past raw ((chunks - 1) * 64 + bit)) x
   told_seen sharing raw chunks bit x None h given = absurd h
@@ -57,12 +57,12 @@ module _ {V : Type 0} where
         by = λ apart. there.by (same bit on.higher apart);
       }
 
-  pub record Passed (w : Walk V) (x : Found V) (to : Walk V) : Type 0 where
+  pub record Passed (w : Walk V) (x : Item V) (to : Walk V) : Type 0 where
     pub walk : IsWalk to
     pub gives : Yields (resting w.raw) (option_map owed w.own) x.1.now (resting to.raw) (option_map owed to.own)
     pub told : IsToldAt w.buckets.now.sharing to.raw x
 
-  passed_own : (w : Walk V) (low rest : ℕ) (own : Own V) (x : Found V) → w.own ≡ Some own → IsWalk w
+  passed_own : (w : Walk V) (low rest : ℕ) (own : Own V) (x : Item V) → w.own ≡ Some own → IsWalk w
       → IsLowestSet w.rest low → IsWordBut rest w.rest low false
       → is_at (Some own) w.raw.bucket (slot_of w low) ≡ true
       → x.0 ≡ own.witness → x.1.now ≡ own.value.now
@@ -108,7 +108,7 @@ module _ {V : Type 0} where
       }
 
   -- the own value lies behind the lowest flag at hand, if its flag is another one
-  before_own : (w : Walk V) (low : ℕ) (own : Option (Own V)) → 0 < w.chunks → IfSome own (IsKept w)
+  before_own : (w : Walk V) (low : ℕ) (own : Option (Own V)) → 0 < w.chunks → IfSome own (OwnIsAtHand w)
       → IsLowestSet w.rest low → is_at own w.raw.bucket (slot_of w low) ≡ false
       → IfSome own (IsBefore w.raw (slot_of w low))
   before_own w low None some kept lowest apart = tt
@@ -133,10 +133,10 @@ module _ {V : Type 0} where
       (λ (behind : w.chunks * 64 ≤ own.thread.index). omega arith)
       (cases_lt own.thread.index (w.chunks * 64))
 
-  kept_later : (w : Walk V) (low rest : ℕ) (own : Option (Own V)) → 0 < w.chunks → IfSome own (IsKept w)
+  kept_later : (w : Walk V) (low rest : ℕ) (own : Option (Own V)) → 0 < w.chunks → IfSome own (OwnIsAtHand w)
       → IsLowestSet w.rest low → IsWordBut rest w.rest low false
       → is_at own w.raw.bucket (slot_of w low) ≡ false
-      → IfSome own (IsKept (after_pass w low rest own))
+      → IfSome own (OwnIsAtHand (after_pass w low rest own))
   kept_later w low rest None some kept lowest but apart = tt
   kept_later w low rest (Some own) some kept lowest but apart = λ same seen.
       let here = kept same seen in
@@ -151,7 +151,7 @@ module _ {V : Type 0} where
       cc) in
       (here.0, stays_set rest w.rest low bit but small other here.1)
 
-  passed_seen : (w : Walk V) (low rest : ℕ) (x : Found V) → IsWalk w → IsLowestSet w.rest low
+  passed_seen : (w : Walk V) (low rest : ℕ) (x : Item V) → IsWalk w → IsLowestSet w.rest low
       → IsWordBut rest w.rest low false → is_at w.own w.raw.bucket (slot_of w low) ≡ false
       → IfSome w.seen (IsGivenBy low x)
       → Passed w x (after_pass w low rest w.own)
@@ -179,17 +179,17 @@ module _ {V : Type 0} where
       }
 
   -- what `take` ensures
-  abbrev pub TakesOwn : Option (Own V) → ℕ → ℕ → Found V → Option (Own V) → Type 0
+  abbrev pub TakesOwn : Option (Own V) → ℕ → ℕ → Item V → Option (Own V) → Type 0
   TakesOwn own bucket index x left =
       is_at own bucket index ≡ true
       → (left ≡ None) × IfSome own (λ o. (x.0 ≡ o.witness) × (x.1.now ≡ o.value.now))
 
-  abbrev pub TakesSeen : Option (Own V) → Option (Seen V) → ℕ → ℕ → ℕ → Found V → Option (Own V) → Type 0
+  abbrev pub TakesSeen : Option (Own V) → Option (Seen V) → ℕ → ℕ → ℕ → Item V → Option (Own V) → Type 0
   TakesSeen own seen bucket index bit x left =
       is_at own bucket index ≡ false
       → (left ≡ own) × IfSome seen (IsGivenBy bit x)
 
-  passed_one : (w : Walk V) (low rest : ℕ) (own left : Option (Own V)) (x : Found V) → w.own ≡ own → IsWalk w
+  passed_one : (w : Walk V) (low rest : ℕ) (own left : Option (Own V)) (x : Item V) → w.own ≡ own → IsWalk w
       → IsLowestSet w.rest low → IsWordBut rest w.rest low false
       → is_at own w.raw.bucket (slot_of w low) ≡ true
       → TakesOwn own w.raw.bucket (slot_of w low) x left
@@ -200,7 +200,7 @@ module _ {V : Type 0} where
       subst (λ (o : Option (Own V)). Passed w x (after_pass w low rest o)) (sym taken.0)
       (passed_own w low rest own x is walk lowest but at taken.1.0 taken.1.1)
 
-  pub passed : (w : Walk V) (low rest : ℕ) (left : Option (Own V)) (x : Found V) → IsWalk w
+  pub passed : (w : Walk V) (low rest : ℕ) (left : Option (Own V)) (x : Item V) → IsWalk w
       → IsLowestSet w.rest low → IsWordBut rest w.rest low false
       → TakesOwn w.own w.raw.bucket (slot_of w low) x left
       → TakesSeen w.own w.seen w.raw.bucket (slot_of w low) low x left
@@ -214,7 +214,7 @@ module _ {V : Type 0} where
       (passed_seen w low rest x walk lowest but apart given.1))
 
   -- the same, by the place and the index that the code has
-  pub passed_by : (w : Walk V) (low rest : ℕ) (left : Option (Own V)) (x : Found V) (index : ℕ) (raw : RawIter)
+  pub passed_by : (w : Walk V) (low rest : ℕ) (left : Option (Own V)) (x : Item V) (index : ℕ) (raw : RawIter)
       → raw ≡ past w.raw index → index ≡ slot_of w low → IsWalk w
       → IsLowestSet w.rest low → IsWordBut rest w.rest low false
       → TakesOwn w.own w.raw.bucket index x left

@@ -15,7 +15,7 @@ use Rattle.thread_local_shared_buckets.specs.declared.seen.Seen.{Seen}
 use Rattle.thread_local_shared_buckets.specs.declared.steps.Own.{Own}
 use Rattle.thread_local_shared_buckets.specs.declared.steps.Walk.{Walk}
 use Rattle.thread_local_shared_buckets.specs.Walks.{Meets}
-use Rattle.thread_local_shared_buckets.specs.Positions.{Found, resting, past, Skips, Stops, IsBehind, IsToldAt}
+use Rattle.thread_local_shared_buckets.specs.Positions.{Item, resting, past, Skips, Stops, IsBehind, IsToldAt}
 use Rattle.thread_local_shared_buckets.specs.AtHand.{IsRowOf, IsFoundAt, FindsTokens, slot_of, IsMarked, IsWalk}
 use Rattle.thread_local_shared_buckets.proofs.BitLaws.{none_set, stays_set}
 use Rattle.thread_local_shared_buckets.proofs.WalkLaws.{later_bucket}
@@ -195,7 +195,7 @@ module _ {V : Type 0} where
   meets_none sharing tokens from to end in_range all = λ named k d near same.
       meet_none from to (slice_index_or tokens k d) end (in_range k d near) (all named k d near same)
 
-  meet_some : (from met to : RawIter) (x : Found V) (p : TokenView V) → Skips from met p.id → Stops met to p.id
+  meet_some : (from met to : RawIter) (x : Item V) (p : TokenView V) → Skips from met p.id → Stops met to p.id
       → cursor_id (resting to) ≡ suc x.0.id → x.0.value ≡ x.1.now → (p.id ≡ x.0.id → p.value ≡ x.0.value)
       → Meets (resting from) (Some x.1) (resting to) p
   meet_some from met to x p (inl low) stop at value agrees = λ ahead below. absurd (omega arith)
@@ -203,7 +203,7 @@ module _ {V : Type 0} where
       let last : cursor_id (resting to) ≡ suc p.id = stop high below in
       (last, agrees (omega arith) ∙ value)
 
-  pub meets_some : (sharing : Option ℕ) (tokens : List (TokenView V)) (from met to : RawIter) (x : Found V)
+  pub meets_some : (sharing : Option ℕ) (tokens : List (TokenView V)) (from met to : RawIter) (x : Item V)
       → AllOf sharing (λ p. Skips from met p.id) tokens → AllOf sharing (λ p. Stops met to p.id) tokens
       → IsToldAt sharing to x → AllOf x.0.sharing (λ p. p.id ≡ x.0.id → p.value ≡ x.0.value) tokens
       → AllOf sharing (Meets (resting from) (Some x.1) (resting to)) tokens

@@ -12,7 +12,7 @@ use Rattle.thread_local_shared_buckets.specs.Steps.{Leads}
 use Rattle.thread_local_shared_buckets.specs.Walks.{Owed, YieldsOwn, Yields, Ends}
 use Rattle.thread_local_bucket_pointers.specs.Cursor.{next_bucket}
 use Rattle.thread_local_ids.specs.declared.witness.Witness.{Witness}
-use Rattle.thread_local_shared_buckets.specs.Positions.{resting, past, owed, lies_in, Found, OwnIsTold}
+use Rattle.thread_local_shared_buckets.specs.Positions.{resting, past, owed, lies_in, Item, OwnIsTold}
 use Rattle.thread_local_shared_buckets.specs.Positions.{IsToldAt, IsAhead, IsSharedWalk}
 use Rattle.thread_local_shared_buckets.proofs.StepLaws.{resting_at, looking_at, leads_then, leads_on, leads_to_slot}
 
@@ -160,13 +160,13 @@ module _ {V : Type 0} where
   few raw own walk = let all = bounded (resting raw) walk.fits in let low = walk.yielded in omega arith
 
   -- a call gave a value of the sharing of this name
-  pub record Gave (name : Option ℕ) (raw : RawIter) (own : Option (Own V)) (x : Found V) (to : RawIter) (left : Option (Own V)) : Type 0 where
+  pub record Gave (name : Option ℕ) (raw : RawIter) (own : Option (Own V)) (x : Item V) (to : RawIter) (left : Option (Own V)) : Type 0 where
     pub walk : IsSharedWalk to left
     pub gives : Yields (resting raw) (option_map owed own) x.1.now (resting to) (option_map owed left)
     pub told : IsToldAt name to x
 
   -- the own value's witness tells of the id that was passed with it
-  own_told_at : (name : Option ℕ) (raw to : RawIter) (own : Own V) (x : Found V)
+  own_told_at : (name : Option ℕ) (raw to : RawIter) (own : Own V) (x : Item V)
       → OwnIsTold name own → lies_in (Some own) raw.bucket ≡ true
       → x.0 ≡ own.witness → x.1.now ≡ own.value.now → to ≡ past raw own.thread.index
       → IsToldAt name to x
@@ -182,7 +182,7 @@ module _ {V : Type 0} where
         value = ap (λ (w : Witness V). w.value) witness ∙ told.value ∙ sym value;
       }
 
-  pub gave_own : (name : Option ℕ) (raw : RawIter) (own : Own V) (x : Found V) → IsSharedWalk raw (Some own)
+  pub gave_own : (name : Option ℕ) (raw : RawIter) (own : Own V) (x : Item V) → IsSharedWalk raw (Some own)
       → raw.bucket < 63 → OwnIsTold name own → lies_in (Some own) raw.bucket ≡ true
       → x.0 ≡ own.witness → x.1.now ≡ own.value.now
       → Gave name raw (Some own) x (past raw own.thread.index) None

@@ -10,7 +10,7 @@ use Rattle.thread_local_shared_buckets.specs.declared.steps.Own.{Own}
 use Rattle.thread_local_shared_buckets.specs.declared.steps.Walk.{Walk}
 use Rattle.thread_local_ids.specs.TokenLists.{AllOf}
 use Rattle.thread_local_ids.specs.Views.{TokenView}
-use Rattle.thread_local_shared_buckets.specs.Positions.{Found, resting, lies_in, is_at, OwnIsTold, IsSharedWalk}
+use Rattle.thread_local_shared_buckets.specs.Positions.{Item, resting, lies_in, is_at, OwnIsTold, IsSharedWalk}
 use Rattle.thread_local_shared_buckets.specs.Positions.{Skips, IsBehind}
 use Rattle.thread_local_shared_buckets.specs.Steps.{Leads}
 
@@ -33,7 +33,7 @@ module _ {V : Type 0} where
   IsSetIn (Some seen) bit = is_set seen.flags bit ≡ true
 
   -- it gave this value of the slot with this bit
-  pub record IsGivenBy (bit : ℕ) (found : Found V) (seen : Seen V) : Type 0 where
+  pub record IsGivenBy (bit : ℕ) (found : Item V) (seen : Seen V) : Type 0 where
     pub sharing : found.0.sharing ≡ seen.of.sharing
     pub id : found.0.id ≡ id_at seen.of.bucket (seen.chunk * 64 + bit)
     pub value : found.0.value ≡ found.1.now
@@ -56,8 +56,8 @@ module _ {V : Type 0} where
   LooksAt None own from seen chunks flags = ⊥
   LooksAt (Some row) own from seen chunks flags = IsRead row.of own from seen chunks flags
 
-  abbrev pub HasLooked : Option (Row V) → Option ℕ → ℕ → Option (Seen V) × ℕ × ℕ → Type 0
-  HasLooked row own from x = MatchOption x.0 (IsAlone own from x.1 x.2) (λ seen. LooksAt row own from seen x.1 x.2)
+  abbrev pub HasLookedOn : Option (Row V) → Option ℕ → ℕ → Option (Seen V) × ℕ × ℕ → Type 0
+  HasLookedOn row own from x = MatchOption x.0 (IsAlone own from x.1 x.2) (λ seen. LooksAt row own from seen x.1 x.2)
 
   -- where looks at a bucket's chunks from this one on found a flag, the id's flag is at hand, if the id
   -- lies in the chunks that were looked at; where none did, it doesn't lie in these chunks
@@ -98,8 +98,8 @@ module _ {V : Type 0} where
     pub by : is_at walk.own walk.raw.bucket (slot_of walk bit) ≡ false → HasSeen walk.buckets.now.sharing walk.raw.bucket walk.chunks bit walk.seen
 
   -- if the own value lies in the chunks that the walk has seen of its bucket, its flag is at hand
-  abbrev pub IsKept : Walk V → Own V → Type 0
-  IsKept walk own =
+  abbrev pub OwnIsAtHand : Walk V → Own V → Type 0
+  OwnIsAtHand walk own =
       own.thread.bucket ≡ walk.raw.bucket → own.thread.index < walk.chunks * 64
       → ((walk.chunks - 1) * 64 ≤ own.thread.index)
       × (is_set walk.rest (own.thread.index - (walk.chunks - 1) * 64) ≡ true)
@@ -118,7 +118,7 @@ module _ {V : Type 0} where
     pub seen_to : w.raw.index ≤ w.chunks * 64
     pub row : IfSome w.row (IsRowOf w.buckets.now.sharing w.raw.bucket)
     pub at_hand : (bit : ℕ) → bit < 64 → is_set w.rest bit ≡ true → IsAtHand w bit
-    pub kept : IfSome w.own (IsKept w)
+    pub kept : IfSome w.own (OwnIsAtHand w)
     pub marked : AllOf w.buckets.now.sharing (λ p. IsMarked w p.id) w.told
 
   -- 3. What single steps of a call do.

@@ -85,8 +85,8 @@ module _ (R : RattleType) where
     has (Holding x) = fex StandingBlock (has_slot (Some x))
 
   -- the number that a claim keeps at run time is that of what it has learnt
-  abbrev pub IsKept : ℕ → Learnt R.Denot → Type 0
-  IsKept state l = state ≡ state_of l
+  abbrev pub IsStateOf : ℕ → Learnt R.Denot → Type 0
+  IsStateOf state l = state ≡ state_of l
 
   -- the claim is of this bucket, and its id is the one at its index there
   abbrev pub IsOf : ℕ → ClaimFields → BucketView → Type 0
@@ -100,7 +100,7 @@ module _ (R : RattleType) where
     has_at z = fsep (fact (IsOf table c z.0)) (fsep (kept R z.0 z.1 (block_of c.bucket) (count_of c.bucket + 0) β) (has z.0 z.1 β c l))
 
     abbrev pub claim_owns : ℕ → Fml
-    claim_owns state = fsep (fact (IsKept state l)) (fex (BucketView × Turn) has_at)
+    claim_owns state = fsep (fact (IsStateOf state l)) (fex (BucketView × Turn) has_at)
 
   -- a `&` to the value for as long as the bucket is borrowed, where it names no thread
   abbrev pub lasts : Lft → ℕ → ℕ → R.Denot → Judged R → Lft → Fml
@@ -117,4 +117,4 @@ module _ (R : RattleType) where
       (beside (some (Judged R) (lasts β b e x)) (said (tells R c.sharing c.id (Some x)))))
 
   abbrev pub claim_shares : Lft → ClaimFields → Learnt R.Denot → ℕ → Lft → Fml
-  claim_shares β c l state = beside (said (fact (IsKept state l))) (shows_value β c (value_held l))
+  claim_shares β c l state = beside (said (fact (IsStateOf state l))) (shows_value β c (value_held l))

@@ -47,8 +47,8 @@ pub record MovesBehind (from : RawIter) (owed : Bool) (to : RawIter) : Type 0 wh
   pub first : to.index ≡ 0
 
 -- what a walk gives: a value, and a witness that its slot was published with it
-abbrev pub Found : Type 0 → Type 0
-Found V = Witness V × Bor V
+abbrev pub Item : Type 0 → Type 0
+Item V = Witness V × Bor V
 
 module _ {V : Type 0} where
   -- an own value with its id
@@ -79,7 +79,7 @@ module _ {V : Type 0} where
 
   -- the witness tells of the id that the walk has just passed that its slot was published with the
   -- value, in this sharing
-  pub record IsToldAt (name : Option ℕ) (to : RawIter) (found : Found V) : Type 0 where
+  pub record IsToldAt (name : Option ℕ) (to : RawIter) (found : Item V) : Type 0 where
     pub sharing : found.0.sharing ≡ name
     pub id : cursor_id (resting to) ≡ suc found.0.id
     pub value : found.0.value ≡ found.1.now

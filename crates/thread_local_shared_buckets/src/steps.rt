@@ -7,7 +7,7 @@ ghost use Rattle.thread_local_ids.specs.TokenLists.{AllOf, NoneIn};
 ghost use Rattle.thread_local_shared_buckets.specs.Walks.{Meets};
 ghost use Rattle.thread_local_shared_buckets.specs.Positions.{lies_in, is_at, own_index, IsToldAt, MovesBehind};
 ghost use Rattle.thread_local_shared_buckets.specs.Positions.{YieldsFrom, EndsFrom, resting, Stops, IsBehind};
-ghost use Rattle.thread_local_shared_buckets.specs.AtHand.{LiesOutside, IsSetIn, IsGivenBy, HasLooked, IsWalk, LooksIn, GoesOn, Reaches, FindsTokens};
+ghost use Rattle.thread_local_shared_buckets.specs.AtHand.{LiesOutside, IsSetIn, IsGivenBy, HasLookedOn, IsWalk, LooksIn, GoesOn, Reaches, FindsTokens};
 
 use crate::shared::Shared;
 use crate::{Row, Seen};
@@ -117,7 +117,7 @@ fn look_on<'a, T>(
     requires shareable { Shareable T.row }
     requires of { IfSome row.now (λ r. (r.of.bucket < 63) × (size ≡ 2 ^ r.of.bucket)) }
     requires size { size < 2 ^ 63 }
-    ensures looked { HasLooked row.now own from result }
+    ensures looked { HasLookedOn row.now own from result }
     ensures told { FindsTokens row.now from told.now.tokens result }
 {
     if let Some(row) = row {

@@ -40,7 +40,7 @@ use Rattle.thread_local_base.specs.Learnt.{Learnt, Missing, Vacant, Finds}
 use Rattle.thread_local_shared_buckets.specs.Known.{HasLooked, MayLook, looked_in_vain, state_by, found_as}
 use Rattle.thread_local_shared_buckets.proofs.Learning.{known_as, not_missing, kept_as, state_by-fits, state_by-flag}
 use Rattle.thread_local_shared_buckets.proofs.Learning.{finds_nothing, finds_slot, unfound, found as found_in}
-use Rattle.thread_local_shared_buckets.specs.Claims.{ClaimFields, flag_word_of, claim_fields, IsOf, IsKept, claims_side, value_at, has, has_slot, has_at}
+use Rattle.thread_local_shared_buckets.specs.Claims.{ClaimFields, flag_word_of, claim_fields, IsOf, IsStateOf, claims_side, value_at, has, has_slot, has_at}
 use Rattle.thread_local_shared_buckets.specs.contracts.claimed.ClaimedSlot as claim
 use Rattle.thread_local_shared_buckets.specs.contracts.claimed.ClaimedSlot.find.{ended, clauses, Key.name as #self}
 use Rattle.thread_local_shared_buckets.proofs.Early.{comes}
@@ -162,7 +162,7 @@ find_spec 𝓤 𝓛 𝓜 𝓡 wired X L =
     nothing ! $ fpack ! (block_ptr wb wo ≡ block_ptr wb wo) (λ _. ftrue) refl $ fjoin ! $
     move ! (4 ∷ 2 ∷ []) $ fjoin ! $ fjoin ! $ nothing ! $
     fpack ! (IsOf R h.table pl' d) (λ _. ftrue) (tt, of.1, of.2, of.3, of.4, of.5, of.6) $ fjoin ! $
-    fpack ! (BucketView × Turn) (has_at R β h.table pl' gone) z $ nothing ! $ fpack ! (IsKept R 0 gone) (λ _. ftrue) refl $ fjoin ! $
+    fpack ! (BucketView × Turn) (has_at R β h.table pl' gone) z $ nothing ! $ fpack ! (IsStateOf R 0 gone) (λ _. ftrue) refl $ fjoin ! $
     use0 𝓛 (‵ ((FieldsType ℓ R).own_val (fields_of ℓ R m) (value_of m ∷ [])))
     (made ℓ R 𝓛 m (lit< tt)) $
     fjoin ! $ move ! (1 ∷ 4 ∷ []) $ join ! $ move ! (1 ∷ []) $
@@ -260,7 +260,7 @@ find_spec 𝓤 𝓛 𝓜 𝓡 wired X L =
     move ! (3 ∷ 2 ∷ []) $ fjoin ! $ fjoin ! $ nothing ! $
     fpack ! (IsOf R h.table pl' d) (λ _. ftrue) (tt, of.1, of.2, of.3, of.4, of.5, of.6) $ fjoin ! $
     fpack ! (BucketView × Turn) (has_at R β h.table pl' (found_as v')) z $ nothing ! $
-    fpack ! (IsKept R seen (found_as v')) (λ _. ftrue) (kept_as R v' set known.0) $ fjoin ! $
+    fpack ! (IsStateOf R seen (found_as v')) (λ _. ftrue) (kept_as R v' set known.0) $ fjoin ! $
     use0 𝓛 (‵ ((FieldsType ℓ R).own_val (fields_of ℓ R m) (value_of m ∷ [])))
     (made ℓ R 𝓛 m seen_fits) $
     fjoin ! $ move ! (1 ∷ 2 ∷ []) $ join ! $ move ! (1 ∷ []) $

@@ -23,7 +23,7 @@ use Rattle.thread_local_ids.proofs.right.Right.lay_down.Met as layer_met
 use Rattle.thread_local_shared_buckets.specs.Shared.{BucketView, Turn}
 use Rattle.thread_local_shared_buckets.specs.contracts.shared_bucket.SharedBucket as one_bucket
 use Rattle.thread_local_base.specs.Learnt.{Learnt, Unknown}
-use Rattle.thread_local_shared_buckets.specs.Claims.{ClaimFields, claim_fields, IsOf, IsKept, has_at}
+use Rattle.thread_local_shared_buckets.specs.Claims.{ClaimFields, claim_fields, IsOf, IsStateOf, has_at}
 use Rattle.thread_local_shared_buckets.specs.contracts.claimed.ClaimedSlot as claim
 use Rattle.thread_local_shared_buckets.specs.contracts.claimed.ClaimedSlot.hold.{ended, clauses, Key.name as #self}
 use Rattle.thread_local_shared_buckets.proofs.ClaimedFields.{Kept, value_of, FieldsType, fields_of, made, typed}
@@ -90,7 +90,7 @@ hold_spec 𝓤 𝓛 𝓜 𝓡 wired X L =
     fpack ! (IsOf R r.table pl d) (λ _. ftrue)
     (tt, j, sym same, is_id ∙ omega arith, near, refl, refl) $
     fjoin ! $ fpack ! (BucketView × Turn) (has_at R κ r.table pl no) (d, t) $
-    nothing ! $ fpack ! (IsKept R 0 no) (λ _. ftrue) refl $ fjoin ! $
+    nothing ! $ fpack ! (IsStateOf R 0 no) (λ _. ftrue) refl $ fjoin ! $
     use0 𝓛 (‵ ((FieldsType ℓ R).own_val (fields_of ℓ R m) (value_of m ∷ [])))
     (made ℓ R 𝓛 m (lit< tt)) $
     fjoin ! $

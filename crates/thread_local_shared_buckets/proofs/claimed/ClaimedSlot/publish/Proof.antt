@@ -43,7 +43,7 @@ use Rattle.thread_local_shared_buckets.specs.Shared.{bucket_invariant}
 use Rattle.thread_local_shared_buckets.proofs.Rested.{publishes}
 use Rattle.thread_local_ids.specs.Told.{tells}
 use Rattle.thread_local_base.specs.Learnt.{Learnt, Vacant, Holding}
-use Rattle.thread_local_shared_buckets.specs.Claims.{ClaimFields, flag_word_of, claim_fields, IsOf, IsKept, value_at, has, has_slot, has_at}
+use Rattle.thread_local_shared_buckets.specs.Claims.{ClaimFields, flag_word_of, claim_fields, IsOf, IsStateOf, value_at, has, has_slot, has_at}
 use Rattle.thread_local_shared_buckets.specs.contracts.claimed.ClaimedSlot as claim
 use Rattle.thread_local_shared_buckets.specs.contracts.claimed.ClaimedSlot.publish.{ended, clauses, Key.name as #self}
 use Rattle.thread_local_shared_buckets.proofs.ClaimSteps as steps
@@ -263,7 +263,7 @@ publish_spec 𝓤 𝓛 𝓜 𝓡 wired X L =
     nothing ! $
     fpack ! (IsOf R h.table pl' d) (λ _. ftrue) (of.0, of.1, of.2, of.3, of.4, of.5, of.6) $
     fjoin ! $ fpack ! (BucketView × Turn) (has_at R β h.table pl' (Holding x)) z $ nothing ! $
-    fpack ! (IsKept R 2 (Holding x)) (λ _. ftrue) refl $ fjoin ! $
+    fpack ! (IsStateOf R 2 (Holding x)) (λ _. ftrue) refl $ fjoin ! $
     use0 𝓛 (‵ ((FieldsType ℓ R).own_val (fields_of ℓ R k) (value_of k ∷ [])))
     (made ℓ R 𝓛 k (lit< tt)) $
     fjoin ! $ move ! (1 ∷ 2 ∷ []) $ join ! $ move ! (1 ∷ []) $

@@ -1,6 +1,6 @@
 use Rattle.thread_local_ids.specs.Views.{TokenView}
 use Rattle.thread_local_ids.specs.TokenLists.{NoneIn}
-use Rattle.thread_local_shared_buckets.specs.AtHand.{FindsTokens, HasLooked, IsRowOf, IsWalk, LooksIn}
+use Rattle.thread_local_shared_buckets.specs.AtHand.{FindsTokens, HasLookedOn, IsRowOf, IsWalk, LooksIn}
 use Rattle.thread_local_shared_buckets.specs.Positions.{own_index}
 use Rattle.thread_local_shared_buckets.specs.Shared.{BucketView}
 use Rattle.thread_local_shared_buckets.specs.TableView.{TableView, bucket_view}
@@ -28,13 +28,13 @@ module _ {V : Type 0} where
 
   looked : (w met : Walk V) → Loaded w met → (own : Option ℕ) (x : Option (Seen V) × ℕ × ℕ) → IsWalk w → w.rest ≡ 0
       → w.raw.bucket < 63 → own ≡ own_index met.own met.raw.bucket
-      → HasLooked met.row own met.chunks x
+      → HasLookedOn met.row own met.chunks x
       → FindsTokens met.row met.chunks met.told x
       → LooksIn w (record met { seen = x.0; chunks = x.1; rest = x.2 })
   looked w met loaded own x walk none low =
       subst (λ (t : Walk V).
       own ≡ own_index t.own t.raw.bucket
-      → HasLooked t.row own t.chunks x
+      → HasLookedOn t.row own t.chunks x
       → FindsTokens t.row t.chunks t.told x
       → LooksIn w (record t { seen = x.0; chunks = x.1; rest = x.2 })) (sym loaded.is)
       (λ at looks finds. looked_on w loaded.row own x walk none low loaded.of at looks finds loaded.absent)
