@@ -4,6 +4,7 @@ ghost use Rattle.thread_local_base.specs.Buckets.{values};
 ghost use Rattle.thread_local_base.specs.Walk.{walk};
 ghost use Rattle.thread_local_buckets.specs.IterMut.{iter_mut_rest};
 
+use crate::compare::expect_same;
 use crate::locals::{lends, numbers, publish_and_forget, published_by_another};
 use std::alloc::{AllocError, Global};
 use std::test::Fail;
@@ -80,14 +81,15 @@ fn an_owner_finds_and_puts_values_in_a_table(rt: HostRuntime) -> Result<(), Fail
     put(&mut table, 30)?;
     let found = counted_twice(&mut table);
     let are_lent = lends(&mut table, &[7, 30]);
-    assert_eq!(rt;
+    expect_same(
+        &rt,
         (published, found, are_lent, three_moved_out(table)),
         (
             Some([None, Some(7), Some(7)]),
             ((2, 37), 2),
             true,
-            [Some(7), Some(30), None]
-        )
+            [Some(7), Some(30), None],
+        ),
     );
     Ok(())
 }
@@ -149,14 +151,15 @@ fn an_owner_finds_ids_and_drains_a_table(rt: HostRuntime) -> Result<(), Fail> {
     let first = (forgotten, first_two(&mut table));
     let taken = drained_twice(&mut table);
     let next = published_by_another(&table, &rt, 8);
-    assert_eq!(rt;
+    expect_same(
+        &rt,
         (first, taken, next, first_id(table)),
         (
             (Some(7), [Some((0, 7)), Some((2, 30))]),
             (true, false, 1 + 2),
             Some([None, Some(8), Some(8)]),
-            Some(1)
-        )
+            Some(1),
+        ),
     );
     Ok(())
 }
@@ -172,9 +175,10 @@ fn a_table_is_drained_of_each_value(rt: HostRuntime) -> Result<(), Fail> {
     let mut table = numbers(rt.alloc());
     let forgotten = publish_and_forget(&table, &rt, 7);
     put(&mut table, 30)?;
-    assert_eq!(rt;
+    expect_same(
+        &rt,
         (forgotten, first_three_drained(&mut table)),
-        (Some(7), [Some(7), Some(30), None])
+        (Some(7), [Some(7), Some(30), None]),
     );
     Ok(())
 }
@@ -208,9 +212,8 @@ fn slots_of_two(alloc: Global) -> Option<(bool, usize, usize, usize)> {
 }
 
 #[test]
-fn cleared_buckets_have_the_reserved_slots(rt: HostRuntime) -> Result<(), Fail> {
-    assert_eq!(rt; slots_of_two(rt.alloc()), Some((true, 1 + 2 + 4, 3, 3)));
-    Ok(())
+fn cleared_buckets_have_the_reserved_slots(rt: HostRuntime) {
+    expect_same(&rt, slots_of_two(rt.alloc()), Some((true, 1 + 2 + 4, 3, 3)));
 }
 
 /// Writes the value at an id, and answers what stood there. The table keeps its name and its
@@ -238,9 +241,10 @@ fn an_owner_reaches_a_value_by_its_id(rt: HostRuntime) -> Result<(), Fail> {
     let written = [2, 0, 3, 9223372036854775806].map(|id| write_at(&mut table, id, 40));
     let again = write_at(&mut table, 2, 50);
     let past = past_the_last(&mut table);
-    assert_eq!(rt;
+    expect_same(
+        &rt,
         (written, again, past, counted_by_value(table)),
-        ([Ok(30), Err(40), Err(40), Err(40)], Ok(40), true, (1, 50))
+        ([Ok(30), Err(40), Err(40), Err(40)], Ok(40), true, (1, 50)),
     );
     Ok(())
 }

@@ -1,5 +1,6 @@
 //! What a `Local` finds at its id, and what it publishes there.
 
+use crate::compare::expect_same;
 use crate::locals::{found, found_by_another, numbers, published, published_by_another};
 use std::alloc::Global;
 use std::cell::{Cell, RefCell};
@@ -14,9 +15,10 @@ use thread_local_test_helpers::printed::prints;
 #[test]
 fn the_first_value_stays(rt: HostRuntime) {
     let table = numbers(rt.alloc());
-    assert_eq!(rt;
+    expect_same(
+        &rt,
         published_by_another(&table, &rt, 5),
-        Some([None, Some(5), Some(5)])
+        Some([None, Some(5), Some(5)]),
     );
 }
 
@@ -61,9 +63,10 @@ fn a_closure_is_called_once(rt: HostRuntime) {
     let answers = shown_and_asked(&table, &rt, rt.alloc());
     table.clear();
     let found = found_by_another(&table, &rt);
-    assert_eq!(rt;
+    expect_same(
+        &rt,
         (answers, found),
-        (Some((true, (true, 1), true)), Some(None))
+        (Some((true, (true, 1), true)), Some(None)),
     );
 }
 
@@ -72,12 +75,13 @@ fn a_reused_id_finds_the_earlier_value(rt: HostRuntime) {
     let table = numbers(rt.alloc());
     let first = published_by_another(&table, &rt, 7);
     let second = published_by_another(&table, &rt, 9);
-    assert_eq!(rt;
+    expect_same(
+        &rt,
         [first, second],
         [
             Some([None, Some(7), Some(7)]),
-            Some([Some(7), Some(7), Some(7)])
-        ]
+            Some([Some(7), Some(7), Some(7)]),
+        ],
     );
 }
 
@@ -98,9 +102,10 @@ fn an_error_leaves_the_slot_empty_and_its_bucket_standing(rt: HostRuntime) {
     let failed = fails(&table, &rt);
     let slots = table.slots();
     let next = published_by_another(&table, &rt, 4);
-    assert_eq!(rt;
+    expect_same(
+        &rt,
         (failed, slots, next, table.slots()),
-        (true, 1, Some([None, Some(4), Some(4)]), 1)
+        (true, 1, Some([None, Some(4), Some(4)]), 1),
     );
 }
 
@@ -127,9 +132,10 @@ fn filled_thrice<R: Wait>(table: &ThreadLocal<u32>, rt: &R) -> Option<(bool, [Op
 #[test]
 fn a_slot_is_filled_once(rt: HostRuntime) {
     let table = numbers(rt.alloc());
-    assert_eq!(rt;
+    expect_same(
+        &rt,
         filled_thrice(&table, &rt),
-        Some((true, [None, Some(4), Some(4)]))
+        Some((true, [None, Some(4), Some(4)])),
     );
 }
 
@@ -142,7 +148,7 @@ fn set_twice<R: Wait>(table: &ThreadLocal<u32>, rt: &R) -> Option<[bool; 2]> {
 #[test]
 fn a_value_is_set_once(rt: HostRuntime) {
     let table = numbers(rt.alloc());
-    assert_eq!(rt; set_twice(&table, &rt), Some([true, false]));
+    expect_same(&rt, set_twice(&table, &rt), Some([true, false]));
 }
 
 /// What a new `Local` is told when it publishes the default, and what it finds then.
@@ -155,7 +161,11 @@ fn default_published<R: Wait>(table: &ThreadLocal<u32>, rt: &R) -> Option<[Optio
 #[test]
 fn a_default_is_published(rt: HostRuntime) {
     let table = numbers(rt.alloc());
-    assert_eq!(rt; default_published(&table, &rt), Some([Some(0), Some(0)]));
+    expect_same(
+        &rt,
+        default_published(&table, &rt),
+        Some([Some(0), Some(0)]),
+    );
 }
 
 /// Whether a new `Local` of a table of lists publishes an empty one by default.
@@ -181,12 +191,13 @@ fn lists_and_texts_have_defaults(rt: HostRuntime) {
     String::judge();
     let lists = ThreadLocal::new(rt.alloc());
     let texts = ThreadLocal::new(rt.alloc());
-    assert_eq!(rt;
+    expect_same(
+        &rt,
         (
             a_default_list_is_empty(&lists, &rt),
-            a_default_text_is_empty(&texts, &rt)
+            a_default_text_is_empty(&texts, &rt),
         ),
-        (Some(true), Some(true))
+        (Some(true), Some(true)),
     );
 }
 
@@ -211,7 +222,11 @@ fn list_in_a_cell<R: Wait>(
 #[test]
 fn a_table_is_made_of_lists_in_cells(rt: HostRuntime) {
     let table = ThreadLocal::<RefCell<Vec<u64>>>::made_with(rt.alloc());
-    assert_eq!(rt; list_in_a_cell(&table, &rt, rt.alloc()), Some((true, 1)));
+    expect_same(
+        &rt,
+        list_in_a_cell(&table, &rt, rt.alloc()),
+        Some((true, 1)),
+    );
 }
 
 /// Adds to the cell of a `Local`, which is made by default where there is none. Answers what it has
@@ -238,7 +253,7 @@ fn default_cells<R: Wait>(table: &ThreadLocal<Cell<u64>>, rt: &R) -> Option<[u64
 fn a_default_replaces_no_value(rt: HostRuntime) {
     Cell::<u64>::judge();
     let table = ThreadLocal::new(rt.alloc());
-    assert_eq!(rt; default_cells(&table, &rt), Some([3, 0, 3]));
+    expect_same(&rt, default_cells(&table, &rt), Some([3, 0, 3]));
 }
 
 /// Beside a first `Local`, one of its table and one of another publish 2 and 3, and the two are
@@ -285,11 +300,12 @@ fn swapped_locals_go_back_to_their_tables(rt: HostRuntime) {
     let other = numbers(rt.alloc());
     let swapped = swap_the_latter_two(&table, &other, &rt);
     let found = (found_by_two(&table, &rt), found_by_another(&other, &rt));
-    assert_eq!(rt;
+    expect_same(
+        &rt,
         (swapped, found),
         (
             Some((Some(1), Some(([Some(2), Some(3)], [Some(1), Some(1)])))),
-            (Some([Some(1), Some(2)]), Some(Some(3)))
-        )
+            (Some([Some(1), Some(2)]), Some(Some(3))),
+        ),
     );
 }
