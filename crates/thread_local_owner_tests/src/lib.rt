@@ -3,3 +3,5 @@
 
 #[cfg(test)]
 mod buckets;
+#[cfg(test)]
+mod compare;

@@ -5,6 +5,7 @@ ghost use Rattle.thread_local_base.specs.Rows.{value_in};
 ghost use Rattle.thread_local_base.specs.Walk.{walk};
 ghost use Rattle.thread_local_base.specs.Owner.{with_published};
 
+use crate::compare::expect_same;
 use std::alloc::{AllocError, Global};
 use std::cell::Cell;
 use std::test::Fail;
@@ -137,10 +138,10 @@ fn unit_comes_back(alloc: Global) -> bool {
 #[test]
 fn values_of_any_type_come_back(rt: HostRuntime) -> Result<(), Fail> {
     let alloc = rt.alloc();
-    assert_eq!(rt; inserted_and_taken(alloc, 7u32)?, Some(7));
+    expect_same(&rt, inserted_and_taken(alloc, 7u32)?, Some(7));
     let owned = (text_comes_back(alloc)?, box_comes_back(alloc)?);
     let others = (cell_comes_back(alloc), unit_comes_back(alloc));
-    assert_eq!(rt; (owned, others), ((true, true), (true, true)));
+    expect_same(&rt, (owned, others), ((true, true), (true, true)));
     Ok(())
 }
 
@@ -160,12 +161,11 @@ fn values_are_drained_at_any_type(rt: HostRuntime) -> Result<(), Fail> {
     let taken = (take_first(&mut others), take_first(&mut others));
     drop_each(&mut others);
     empty(&mut others);
-    assert_eq!(rt; (summed, taken), ((7, 0), (Some(3), None)));
+    expect_same(&rt, (summed, taken), ((7, 0), (Some(3), None)));
     Ok(())
 }
 
 #[test]
-fn a_value_that_stands_is_kept(rt: HostRuntime) -> Result<(), Fail> {
-    assert_eq!(rt; written(rt.alloc()).ok(), Some(5));
-    Ok(())
+fn a_value_that_stands_is_kept(rt: HostRuntime) {
+    expect_same(&rt, written(rt.alloc()).ok(), Some(5));
 }

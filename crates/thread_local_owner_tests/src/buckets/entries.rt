@@ -2,6 +2,7 @@
 
 use super::insert;
 use super::walks::{has_left, three};
+use crate::compare::expect_same;
 use std::alloc::{AllocError, Global};
 use std::test::Fail;
 use thread_local_buckets::{Buckets, IntoEntries};
@@ -64,9 +65,10 @@ fn values_of_any_type_have_ids(rt: HostRuntime) -> Result<(), Fail> {
     let mut texts = Buckets::new(rt.alloc());
     insert(&mut texts, 77, String::from_str(rt.alloc(), "seven")?)?;
     let none = first_ids(Buckets::<String>::new(rt.alloc()));
-    assert_eq!(rt;
+    expect_same(
+        &rt,
         (first_ids(texts), none),
-        ((Some(77), Some(77)), (None, None))
+        ((Some(77), Some(77)), (None, None)),
     );
     Ok(())
 }
@@ -110,6 +112,6 @@ fn entries_print_their_cursor(rt: HostRuntime) -> Result<(), Fail> {
     insert(&mut buckets, 0, 5u32)?;
     let lending = lending_prints(rt.alloc(), &mut buckets);
     let taking = taking_prints(rt.alloc(), buckets);
-    assert_eq!(rt; (lending, taking), (true, true));
+    expect_same(&rt, (lending, taking), (true, true));
     Ok(())
 }

@@ -1,6 +1,7 @@
 //! Which buckets stand, and which value a slot has.
 
 use super::insert;
+use crate::compare::expect_same;
 use std::alloc::{AllocError, Global};
 use std::cell::Cell;
 use std::io::Print;
@@ -21,7 +22,7 @@ fn a_capacity_reserves_whole_buckets(rt: HostRuntime) -> Result<(), Fail> {
 }
 
 #[test]
-fn a_capacity_past_the_last_id_is_refused(rt: HostRuntime) -> Result<(), Fail> {
+fn a_capacity_past_the_last_id_is_refused(rt: HostRuntime) {
     for capacity in [9223372036854775808, usize::MAX] {
         let refused = Buckets::<u32>::with_capacity(rt.alloc(), capacity);
         assert!(rt;
@@ -29,7 +30,6 @@ fn a_capacity_past_the_last_id_is_refused(rt: HostRuntime) -> Result<(), Fail> {
             "capacity {capacity}"
         );
     }
-    Ok(())
 }
 
 /// Inserts a value and answers what stands at the id. Where memory is refused the value comes back
@@ -66,9 +66,9 @@ pub fn gives(buckets: Buckets<usize>, values: &[usize]) -> bool {
 }
 
 #[test]
-fn an_insert_installs_its_own_bucket(rt: HostRuntime) -> Result<(), Fail> {
+fn an_insert_installs_its_own_bucket(rt: HostRuntime) {
     let mut buckets = Buckets::new(rt.alloc());
-    assert_eq!(rt; buckets.slots(), 0);
+    expect_same(&rt, buckets.slots(), 0);
     for (id, slots) in [(0, 1), (2, 3), (19, 19)] {
         let stands = put(&rt, &mut buckets, id, id as usize);
         assert_eq!(rt;
@@ -78,16 +78,18 @@ fn an_insert_installs_its_own_bucket(rt: HostRuntime) -> Result<(), Fail> {
         );
     }
     buckets.clear();
-    assert_eq!(rt; (buckets.slots(), gives(buckets, &[])), (0, true));
-    Ok(())
+    expect_same(&rt, (buckets.slots(), gives(buckets, &[])), (0, true));
 }
 
 #[test]
-fn the_first_value_stays(rt: HostRuntime) -> Result<(), Fail> {
+fn the_first_value_stays(rt: HostRuntime) {
     let mut buckets = Buckets::new(rt.alloc());
     let stands = (put(&rt, &mut buckets, 0, 1), put(&rt, &mut buckets, 0, 2));
-    assert_eq!(rt; (stands, gives(buckets, &[1])), ((Some(1), Some(1)), true));
-    Ok(())
+    expect_same(
+        &rt,
+        (stands, gives(buckets, &[1])),
+        ((Some(1), Some(1)), true),
+    );
 }
 
 /// Writes 7 at id 2. Answers whether there is no value at two other ids.
@@ -100,15 +102,15 @@ fn write_seven(buckets: &mut Buckets<usize>) -> (bool, bool) {
 }
 
 #[test]
-fn one_value_is_written(rt: HostRuntime) -> Result<(), Fail> {
+fn one_value_is_written(rt: HostRuntime) {
     let mut buckets = Buckets::new(rt.alloc());
     let stands = (put(&rt, &mut buckets, 0, 1), put(&rt, &mut buckets, 2, 2));
-    assert_eq!(rt;
+    expect_same(
+        &rt,
         (stands, write_seven(&mut buckets)),
-        ((Some(1), Some(2)), (true, true))
+        ((Some(1), Some(2)), (true, true)),
     );
     assert!(rt; gives(buckets, &[1, 7]));
-    Ok(())
 }
 
 /// A text that was inserted, and written in a walk.
@@ -142,10 +144,14 @@ fn set_in_a_cell(alloc: Global) -> Result<Option<u64>, AllocError> {
 fn values_of_each_kind(rt: HostRuntime) -> Result<(), Fail> {
     let mut numbers = Buckets::new(rt.alloc());
     insert(&mut numbers, 0, 5u32)?;
-    assert_eq!(rt; numbers.into_iter().next(), Some(5));
-    assert_eq!(rt; text_written(rt.alloc())?.as_deref(), Some("five and six"));
+    expect_same(&rt, numbers.into_iter().next(), Some(5));
+    expect_same(
+        &rt,
+        text_written(rt.alloc())?.as_deref(),
+        Some("five and six"),
+    );
     let others = (boxed(rt.alloc())?, set_in_a_cell(rt.alloc())?);
-    assert_eq!(rt; others, (Some(7), Some(9)));
+    expect_same(&rt, others, (Some(7), Some(9)));
     Ok(())
 }
 
@@ -169,11 +175,11 @@ fn three_of_next(walk: &mut IntoIter<[u64; 512]>) -> Option<(u64, u64, u64)> {
 #[test]
 fn a_large_value(rt: HostRuntime) -> Result<(), Fail> {
     let mut buckets = Buckets::new(rt.alloc());
-    assert_eq!(rt; write_large(&mut buckets)?, 3);
+    expect_same(&rt, write_large(&mut buckets)?, 3);
     let mut walk = buckets.into_iter();
     for wanted in [0u64, 1, 2] {
         let last = wanted.wrapping_add(10);
-        assert_eq!(rt; three_of_next(&mut walk), Some((wanted, wanted, last)));
+        expect_same(&rt, three_of_next(&mut walk), Some((wanted, wanted, last)));
     }
     assert!(rt; walk.next().is_none());
     Ok(())
