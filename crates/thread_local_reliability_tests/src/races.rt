@@ -2,6 +2,7 @@
 
 mod walks;
 
+use crate::compare::expect_same;
 use std::alloc::Global;
 use std::sync::Wait;
 use std::sync::atomic::AtomicU32;
@@ -107,17 +108,17 @@ fn shared_in_order(table: &ThreadLocal<u32>) -> bool {
 }
 
 #[test]
-fn many_locals_race_for_their_buckets(rt: HostRuntime) -> Result<(), Fail> {
+fn many_locals_race_for_their_buckets(rt: HostRuntime) {
     for _ in 0..100 {
         let mut table = ThreadLocal::<u32>::new(rt.alloc());
         let published = race(&table, &rt, rt.alloc()).ok();
         let slots = table.slots();
-        assert_eq!(rt;
+        expect_same(
+            &rt,
             (published, slots, in_order(table)),
-            (Some(RACERS), 127, true)
+            (Some(RACERS), 127, true),
         );
     }
-    Ok(())
 }
 
 /// Whether the items of a shared walk ascend strictly, and how many there are.
@@ -145,7 +146,7 @@ fn walks_ascend(table: &ThreadLocal<u32>) -> bool {
 }
 
 #[test]
-fn walks_ascend_while_many_locals_race(rt: HostRuntime) -> Result<(), Fail> {
+fn walks_ascend_while_many_locals_race(rt: HostRuntime) {
     for _ in 0..100 {
         let mut table = ThreadLocal::<u32>::new(rt.alloc());
         let both = thread::join(
@@ -155,12 +156,12 @@ fn walks_ascend_while_many_locals_race(rt: HostRuntime) -> Result<(), Fail> {
         );
         let seen = shared_in_order(&table);
         let slots = table.slots();
-        assert_eq!(rt;
+        expect_same(
+            &rt,
             (both, seen, slots, in_order(table)),
-            ((Some(RACERS), true), true, 127, true)
+            ((Some(RACERS), true), true, 127, true),
         );
     }
-    Ok(())
 }
 
 /// Whether `get` answers 5 a thousand times.
@@ -179,6 +180,6 @@ fn threads_share_a_local(rt: HostRuntime) -> Result<(), Fail> {
     let mut local = table.local(&rt)?;
     local.get_or(|| 5)?;
     let both = thread::join(&rt, || finds_five(&local), || finds_five(&local));
-    assert_eq!(rt; both, (true, true));
+    expect_same(&rt, both, (true, true));
     Ok(())
 }

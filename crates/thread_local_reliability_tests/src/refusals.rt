@@ -5,6 +5,7 @@
 mod cleared;
 pub(crate) mod held;
 
+use crate::compare::expect_same;
 use held::{four_publish, numbers};
 use std::alloc::{AllocError, Global};
 use std::cell::Cell;
@@ -191,9 +192,10 @@ fn a_call_that_was_refused_succeeds_when_it_is_made_again(rt: HostRuntime) -> Re
         let table = with_62_held(&rt, rt.alloc())?;
         let as_promised = call.by_three(&table, &rt) == Ok(true);
         let wanted = [6, 7, 8].map(|number| Some(call.wanted(number).0));
-        assert_eq!(rt;
+        expect_same(
+            &rt,
             (as_promised, first_four(table.into_iter())),
-            (true, [wanted[0], wanted[1], wanted[2], None])
+            (true, [wanted[0], wanted[1], wanted[2], None]),
         );
     }
     Ok(())
@@ -212,13 +214,14 @@ fn a_round_after_a_drain_is_refused_nothing(rt: HostRuntime) -> Result<(), Fail>
     let numbers = drained(&mut table);
     let second = Publishing::Set.by_three(&table, &rt) == Ok(true);
     let again = drained(&mut table);
-    assert_eq!(rt; (first, second), (true, true));
-    assert_eq!(rt;
+    expect_same(&rt, (first, second), (true, true));
+    expect_same(
+        &rt,
         (numbers, again),
         (
             [Some(6), Some(7), Some(8), None],
-            [Some(6), Some(7), Some(8), None]
-        )
+            [Some(6), Some(7), Some(8), None],
+        ),
     );
     Ok(())
 }
@@ -228,7 +231,7 @@ fn a_table_with_a_capacity_has_its_slots_or_is_refused(rt: HostRuntime) -> Resul
     match ThreadLocal::<u64>::with_capacity(rt.alloc(), 4) {
         Ok(table) => {
             let mut table = table;
-            assert_eq!(rt; table.slots(), 7);
+            expect_same(&rt, table.slots(), 7);
         }
         Err(error) => {
             println!(rt; "refused: with_capacity")?;
@@ -266,7 +269,11 @@ fn had<'a, R: Wait + Print>(table: &'a ThreadLocal<u32>, rt: &'a R) -> Option<Lo
 #[test]
 fn nothing_is_refused_within_the_capacity(rt: HostRuntime) -> Result<(), Fail> {
     match ThreadLocal::<u32>::with_capacity(rt.alloc(), 4) {
-        Ok(table) => assert_eq!(rt; four_held_publish(&table, &rt, rt.alloc()), Some([true; 4])),
+        Ok(table) => expect_same(
+            &rt,
+            four_held_publish(&table, &rt, rt.alloc()),
+            Some([true; 4]),
+        ),
         Err(error) => {
             println!(rt; "refused: with_capacity")?;
             assert!(rt; matches!(error, CapacityError::Memory(_)));
@@ -304,13 +311,12 @@ fn calls_once<R: Wait + Print>(mut local: Local<'_, u32, R>, rt: &R) -> bool {
 }
 
 #[test]
-fn a_refusal_calls_no_closure(rt: HostRuntime) -> Result<(), Fail> {
+fn a_refusal_calls_no_closure(rt: HostRuntime) {
     let table = numbers(rt.alloc());
     let Some(local) = had(&table, &rt) else {
-        return Ok(());
+        return;
     };
     assert!(rt; calls_once(local, &rt));
-    Ok(())
 }
 
 /// Whether a closure's error is told as such. None is out of memory.
@@ -332,11 +338,10 @@ fn publishes_after_errors<R: Wait + Print>(mut local: Local<'_, u32, R>, rt: &R)
 }
 
 #[test]
-fn nothing_is_refused_after_an_error_of_the_closure(rt: HostRuntime) -> Result<(), Fail> {
+fn nothing_is_refused_after_an_error_of_the_closure(rt: HostRuntime) {
     let table = numbers(rt.alloc());
     let Some(local) = had(&table, &rt) else {
-        return Ok(());
+        return;
     };
     assert!(rt; publishes_after_errors(local, &rt));
-    Ok(())
 }

@@ -2,7 +2,6 @@
 
 use std::alloc::Global;
 use std::sync::Wait;
-use std::test::Fail;
 use std::thread;
 use std::thread::Threads;
 use thread_local::ThreadLocal;
@@ -118,10 +117,9 @@ fn publish_and_walk<R: Wait + Threads + Sync>(
 }
 
 #[test]
-fn a_walk_runs_while_eight_threads_publish(rt: HostRuntime) -> Result<(), Fail> {
+fn a_walk_runs_while_eight_threads_publish(rt: HostRuntime) {
     for round in 0..200 {
         let table = ThreadLocal::<u64>::new(rt.alloc());
         assert!(rt; publish_and_walk(&table, &rt, rt.alloc(), round));
     }
-    Ok(())
 }
