@@ -1,6 +1,7 @@
 //! A bucket's pointer.
 ghost use Rattle.std.specs.Prelude.{◌≡◌, IfOk};
 
+use crate::compare::expect_same;
 use std::alloc::{AllocError, Global};
 use std::cell::Cell;
 use std::mem::size_of;
@@ -54,24 +55,25 @@ fn flags_of_two_chunks(alloc: Global) -> Result<[u64; 3], AllocError> {
 
 #[test]
 fn a_slot_has_its_bit_in_the_word_of_its_chunk(rt: HostRuntime) -> Result<(), Fail> {
-    assert_eq!(rt; flags_of_two_chunks(rt.alloc())?, [(1 << 63) + 1, 2, 1]);
+    expect_same(&rt, flags_of_two_chunks(rt.alloc())?, [(1 << 63) + 1, 2, 1]);
     Ok(())
 }
 
 #[test]
 fn a_value_comes_back_at_any_type(rt: HostRuntime) -> Result<(), Fail> {
     let alloc = rt.alloc();
-    assert_eq!(rt; there_and_back(alloc, 1u32)?, 1);
-    assert_eq!(rt;
+    expect_same(&rt, there_and_back(alloc, 1u32)?, 1);
+    expect_same(
+        &rt,
         there_and_back(alloc, String::from_str(alloc, "one")?)?.as_str(),
-        "one"
+        "one",
     );
-    assert_eq!(rt; *there_and_back(alloc, Box::new(alloc, 1u32)?)?, 1);
-    assert_eq!(rt; seen_at_a_cell(alloc)?, (true, true, 2));
+    expect_same(&rt, *there_and_back(alloc, Box::new(alloc, 1u32)?)?, 1);
+    expect_same(&rt, seen_at_a_cell(alloc)?, (true, true, 2));
     Ok(())
 }
 
 #[test]
 fn a_bucket_pointer_is_one_pointer(rt: HostRuntime) {
-    assert_eq!(rt; size_of::<BucketPointer<u64>>(), 8);
+    expect_same(&rt, size_of::<BucketPointer<u64>>(), 8);
 }
