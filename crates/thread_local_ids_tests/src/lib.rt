@@ -4,6 +4,8 @@
 #[cfg(test)]
 mod callers;
 #[cfg(test)]
+mod compare;
+#[cfg(test)]
 mod ids;
 #[cfg(test)]
 mod lock;

@@ -1,6 +1,7 @@
 //! Tests of a lock: who takes it finds what was left there, and one thread at a time has it.
 ghost use Rattle.std.specs.Prelude.{◌≤◌};
 
+use crate::compare::expect_same;
 use std::sync::Wait;
 use std::sync::atomic::AtomicBool;
 use std::sync::atomic::Ordering::SeqCst;
@@ -64,25 +65,23 @@ fn seen_twice(shelf: &Lock<Shelf>) -> (Option<u64>, Option<u64>) {
 }
 
 #[test]
-fn a_lock_is_taken_once(rt: HostRuntime) -> Result<(), Fail> {
+fn a_lock_is_taken_once(rt: HostRuntime) {
     let shelf = Lock::new(Shelf { room: 5, goods: 3 });
-    assert_eq!(rt; seen_twice(&shelf), (Some(3), None));
-    assert_eq!(rt; take_all(&shelf), Some(3));
-    assert_eq!(rt; put_one(&shelf, &rt), Some(1));
-    assert_eq!(rt; shelf.into_inner(), Shelf { room: 5, goods: 1 });
-    Ok(())
+    expect_same(&rt, seen_twice(&shelf), (Some(3), None));
+    expect_same(&rt, take_all(&shelf), Some(3));
+    expect_same(&rt, put_one(&shelf, &rt), Some(1));
+    expect_same(&rt, shelf.into_inner(), Shelf { room: 5, goods: 1 });
 }
 
 #[test]
-fn a_lock_that_was_left_taken_stays_so(rt: HostRuntime) -> Result<(), Fail> {
+fn a_lock_that_was_left_taken_stays_so(rt: HostRuntime) {
     let shelf = Lock::new(Shelf { room: 5, goods: 3 });
     if let Some(mut guard) = shelf.try_lock() {
         guard.goods = 7;
         guard.forget();
     }
     assert!(rt; take_all(&shelf).is_none());
-    assert_eq!(rt; shelf.into_inner(), Shelf { room: 5, goods: 7 });
-    Ok(())
+    expect_same(&rt, shelf.into_inner(), Shelf { room: 5, goods: 7 });
 }
 
 /// How often a thread yields while it waits for another, or until others sleep.
@@ -110,7 +109,7 @@ fn put_late<R: Wait>(shelf: &Lock<Shelf>, rt: &R, is_held: &AtomicBool) -> u64 {
 
 // Two threads sleep for the lock when it is released: its next release wakes the second.
 #[test]
-fn each_sleeper_is_woken(rt: HostRuntime) -> Result<(), Fail> {
+fn each_sleeper_is_woken(rt: HostRuntime) {
     let shelf = Lock::new(Shelf { room: 5, goods: 0 });
     let is_held = AtomicBool::new(false);
     let (there, mark) = (&shelf, &is_held);
@@ -123,8 +122,7 @@ fn each_sleeper_is_woken(rt: HostRuntime) -> Result<(), Fail> {
             || put_late(there, &rt, mark),
         ),
     );
-    assert_eq!(rt; (puts, shelf.into_inner().goods), ((1, 1), 2));
-    Ok(())
+    expect_same(&rt, (puts, shelf.into_inner().goods), ((1, 1), 2));
 }
 
 /// Takes the lock, says so, and has it for a second.
@@ -157,13 +155,13 @@ fn a_thread_that_waits_for_long_sleeps(rt: HostRuntime) -> Result<(), Fail> {
         || hold_for_a_second(there, &rt, mark),
         || time_of_late(there, &rt, mark),
     );
-    assert_eq!(rt; shelf.into_inner().goods, 1);
+    expect_same(&rt, shelf.into_inner().goods, 1);
     assert!(rt; time? < Duration::from_millis(200));
     Ok(())
 }
 
 #[test]
-fn threads_write_one_at_a_time(rt: HostRuntime) -> Result<(), Fail> {
+fn threads_write_one_at_a_time(rt: HostRuntime) {
     let shelf = Lock::new(Shelf {
         room: 35_000,
         goods: 0,
@@ -187,7 +185,6 @@ fn threads_write_one_at_a_time(rt: HostRuntime) -> Result<(), Fail> {
         .saturating_add(a.1)
         .saturating_add(b.0)
         .saturating_add(b.1);
-    assert_eq!(rt; counts, 35_000);
-    assert_eq!(rt; shelf.into_inner().goods, 35_000);
-    Ok(())
+    expect_same(&rt, counts, 35_000);
+    expect_same(&rt, shelf.into_inner().goods, 35_000);
 }

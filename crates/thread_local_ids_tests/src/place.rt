@@ -1,4 +1,5 @@
 //! The places of ids, at both ends of the range and between.
+use crate::compare::expect_same;
 use thread_local_base::{Thread, bucket_size};
 
 #[test]
@@ -20,14 +21,15 @@ fn places_of_ids(rt: HostRuntime) {
     for (id, bucket, index, size) in places {
         assert!(rt; id < 9223372036854775807);
         let thread = Thread::new(id);
-        assert_eq!(rt;
+        expect_same(
+            &rt,
             (
                 thread.bucket,
                 thread.index,
                 bucket_size(thread.bucket),
-                thread.id()
+                thread.id(),
             ),
-            (bucket, index, size, id)
+            (bucket, index, size, id),
         );
     }
 }

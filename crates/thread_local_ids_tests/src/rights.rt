@@ -2,8 +2,8 @@
 ghost use Rattle.std.specs.Prelude.{◌≡◌, false};
 ghost use Rattle.thread_local_ids.specs.Rights.{is_out};
 
+use crate::compare::expect_same;
 use std::mem;
-use std::test::Fail;
 use thread_local_ids::{Right, Rights};
 
 /// Where a right may stand: in a struct and in an enum.
@@ -29,7 +29,7 @@ fn hold(rights: &mut Rights, id: usize) -> Held
 }
 
 #[test]
-fn rights_go_out_and_come_back(rt: HostRuntime) -> Result<(), Fail> {
+fn rights_go_out_and_come_back(rt: HostRuntime) {
     let mut rights = Rights::new();
     let mut five = rights.take(5);
     let mut seven = rights.take(7);
@@ -39,12 +39,15 @@ fn rights_go_out_and_come_back(rt: HostRuntime) -> Result<(), Fail> {
     rights.put_back(seven);
     let again = rights.take(5);
     rights.put_back(again);
-    Ok(())
 }
 
 #[test]
 fn a_right_takes_no_bytes(rt: HostRuntime) {
-    assert_eq!(rt; (mem::size_of::<Right>(), mem::size_of::<Rights>()), (0, 0));
+    expect_same(
+        &rt,
+        (mem::size_of::<Right>(), mem::size_of::<Rights>()),
+        (0, 0),
+    );
 }
 
 #[test]
@@ -53,7 +56,7 @@ fn a_right_stands_in_a_struct_and_in_an_enum(rt: HostRuntime) {
     let mut slot = Slot::Taken(hold(&mut rights, 3));
     let before = mem::replace(&mut slot, Slot::Vacant);
     if let Slot::Taken(held) = before {
-        assert_eq!(rt; held.id, 3);
+        expect_same(&rt, held.id, 3);
         mem::forget(held);
     }
     drop(slot);
