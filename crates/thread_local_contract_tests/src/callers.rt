@@ -231,8 +231,12 @@ where
 fn have_two_ids<T, R: Wait>(table: &ThreadLocal<T>, rt: &R) -> Option<bool>
     ensures { IfSome result (λ differ. differ ≡ true) }
 {
-    let mut first = table.local(rt).ok()?;
-    let mut second = table.local(rt).ok()?;
+    let Ok(mut first) = table.local(rt) else {
+        return None;
+    };
+    let Ok(mut second) = table.local(rt) else {
+        return None;
+    };
     first.apart(&mut second);
     Some(first.id() != second.id())
 }

@@ -7,10 +7,10 @@ ghost use mathlib.Core.List.{IsPrefix};
 
 use std::alloc::Global;
 use std::sync::Wait;
-use std::test::Fail;
 use thread_local::ThreadLocal;
 use thread_local::local::Local;
 use thread_local::table::{CapacityError, Page};
+use crate::same::assert_same;
 use thread_local_base::LocalError;
 
 /// Two `Local`s in hand have two ids, each the least that wasn't held when it was taken.
@@ -66,25 +66,32 @@ fn is_granted<R: Wait>(
     Ok((granted, page))
 }
 
-#[test]
-fn two_locals_have_the_least_ids(rt: HostRuntime) -> Result<(), Fail> {
-    let table = ThreadLocal::<u32>::new(rt.alloc());
-    let (first, second) = two_least(&table, &rt)?;
-    assert_eq!(rt; (first.id(), second.id()), (0, 1));
-    Ok(())
+/// The ids of two `Local`s that are held at once.
+fn ids_of_two<R: Wait>(table: &ThreadLocal<u32>, rt: &R) -> Option<(usize, usize)> {
+    let (first, second) = two_least(table, rt).ok()?;
+    Some((first.id(), second.id()))
 }
 
 #[test]
-fn a_returned_id_comes_again(rt: HostRuntime) -> Result<(), Fail> {
+fn two_locals_have_the_least_ids(rt: HostRuntime) {
     let table = ThreadLocal::<u32>::new(rt.alloc());
-    let (first, second) = two_least(&table, &rt)?;
-    let again = after_a_return(&table, &rt, first)?;
-    assert_eq!(rt; (second.id(), again.id()), (1, 0));
-    Ok(())
+    assert_same(&rt, ids_of_two(&table, &rt), Some((0, 1)));
+}
+
+/// The id of the second of two `Local`s, and of one that is taken once the first went back.
+fn ids_after_a_return<R: Wait>(table: &ThreadLocal<u32>, rt: &R) -> Option<(usize, usize)> {
+    let (first, second) = two_least(table, rt).ok()?;
+    let again = after_a_return(table, rt, first).ok()?;
+    Some((second.id(), again.id()))
 }
 
 #[test]
-fn a_capacity_grants_an_id(rt: HostRuntime) -> Result<(), Fail> {
-    assert!(rt; is_granted(rt.alloc(), &rt, 100)?.0);
-    Ok(())
+fn a_returned_id_comes_again(rt: HostRuntime) {
+    let table = ThreadLocal::<u32>::new(rt.alloc());
+    assert_same(&rt, ids_after_a_return(&table, &rt), Some((1, 0)));
+}
+
+#[test]
+fn a_capacity_grants_an_id(rt: HostRuntime) {
+    assert!(rt; matches!(is_granted(rt.alloc(), &rt, 100), Ok((true, _))));
 }

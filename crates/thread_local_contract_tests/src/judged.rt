@@ -1,6 +1,6 @@
 //! Tables of types that judge themselves.
 
-use std::alloc::{AllocError, Global};
+use std::alloc::Global;
 use std::cell::{Cell, OnceCell};
 use std::cmp::Reverse;
 use std::collections::{BinaryHeap, VecDeque};
@@ -9,30 +9,36 @@ use std::num::{NonZeroU32, Wrapping};
 use std::sync::Wait;
 use std::sync::atomic::AtomicU64;
 use std::sync::atomic::Ordering::SeqCst;
-use std::test::Fail;
 use std::time::Duration;
 use thread_local::ThreadLocal;
 use thread_local_judged::{Judge, judge_value};
+use crate::same::assert_same;
 
-/// Publishes a value in a table of its own. Answers what the table has then.
-fn kept<T: Judge + Send + Drop, R: Wait>(alloc: Global, rt: &R, value: T) -> Option<T> {
-    T::judge();
-    let table = ThreadLocal::new(alloc);
-    {
-        let mut local = table.local(rt).ok()?;
-        local.set(value).ok()?;
+/// Publishes a value in a table. Answers what the table has then.
+fn passed<T: Send + Drop, R: Wait>(table: ThreadLocal<T>, rt: &R, value: T) -> Option<T> {
+    if !is_set(&table, rt, value) {
+        return None;
     }
     table.into_iter().next()
 }
 
+/// Whether a new `Local` sets a value.
+fn is_set<T: Send + Drop, R: Wait>(table: &ThreadLocal<T>, rt: &R, value: T) -> bool {
+    match table.local(rt) {
+        Ok(mut local) => local.set(value).is_ok(),
+        Err(_) => false,
+    }
+}
+
+/// Publishes a value in a table of its own. Answers what the table has then.
+fn kept<T: Judge + Send + Drop, R: Wait>(alloc: Global, rt: &R, value: T) -> Option<T> {
+    T::judge();
+    passed(ThreadLocal::new(alloc), rt, value)
+}
+
 /// The same, of a table that is made through a trait's bound.
 fn kept_where_made<T: Judge + Send + Drop, R: Wait>(alloc: Global, rt: &R, value: T) -> Option<T> {
-    let table = ThreadLocal::made_with(alloc);
-    {
-        let mut local = table.local(rt).ok()?;
-        local.set(value).ok()?;
-    }
-    table.into_iter().next()
+    passed(ThreadLocal::made_with(alloc), rt, value)
 }
 
 /// A type of the user's own, which threads may share.
@@ -69,32 +75,38 @@ fn counter<R: Wait>(alloc: Global, rt: &R) -> Option<u64> {
     kept(alloc, rt, AtomicU64::new(7)).map(|it| it.load(SeqCst))
 }
 
-fn is_text_kept<R: Wait>(alloc: Global, rt: &R) -> Result<bool, AllocError> {
-    let text = format!(in alloc; "seven")?;
-    Ok(kept(alloc, rt, text).is_some_and(|it| it.as_str() == "seven"))
+fn is_text_kept<R: Wait>(alloc: Global, rt: &R) -> bool {
+    let Ok(text) = format!(in alloc; "seven") else {
+        return false;
+    };
+    kept(alloc, rt, text).is_some_and(|it| it.as_str() == "seven")
+}
+
+fn shared_values<R: Wait>(alloc: Global, rt: &R) -> (Option<Point>, Option<u64>, bool) {
+    (
+        kept_where_made(alloc, rt, Point { across: 3, up: 4 }),
+        counter(alloc, rt),
+        is_text_kept(alloc, rt),
+    )
 }
 
 #[test]
-fn tables_keep_values_without_parts(rt: HostRuntime) -> Result<(), Fail> {
-    let is_text_kept = is_text_kept(rt.alloc(), &rt)?;
-    assert_eq!(rt;
+fn tables_keep_values_without_parts(rt: HostRuntime) {
+    assert_same(
+        &rt,
         plain_values(rt.alloc(), &rt),
         (
             Some(-5),
             Some('a'),
             Some(NonZeroU32::MAX),
-            Some(Duration::from_secs(3))
-        )
-    );
-    assert_eq!(rt;
-        (
-            kept_where_made(rt.alloc(), &rt, Point { across: 3, up: 4 }),
-            counter(rt.alloc(), &rt),
-            is_text_kept
+            Some(Duration::from_secs(3)),
         ),
-        (Some(Point { across: 3, up: 4 }), Some(7), true)
     );
-    Ok(())
+    assert_same(
+        &rt,
+        shared_values(rt.alloc(), &rt),
+        (Some(Point { across: 3, up: 4 }), Some(7), true),
+    );
 }
 
 fn values_of_parts<R: Wait>(
@@ -114,48 +126,60 @@ fn values_of_parts<R: Wait>(
     )
 }
 
-fn front<R: Wait>(alloc: Global, rt: &R) -> Result<Option<u8>, AllocError> {
+fn front<R: Wait>(alloc: Global, rt: &R) -> Option<u8> {
     let mut queue = VecDeque::new(alloc);
-    queue.push_back(Cell::new(6u8))?;
-    Ok(kept(alloc, rt, queue).and_then(|it| it.front().map(|cell| cell.get())))
+    queue.push_back(Cell::new(6u8)).ok()?;
+    kept(alloc, rt, queue)?.front().map(|cell| cell.get())
 }
 
-fn greatest<R: Wait>(alloc: Global, rt: &R) -> Result<Option<u8>, AllocError> {
+fn greatest<R: Wait>(alloc: Global, rt: &R) -> Option<u8> {
     let mut heap = BinaryHeap::new(alloc);
-    heap.push(3u8)?;
-    heap.push(8)?;
-    Ok(kept(alloc, rt, heap).and_then(|it| it.peek().copied()))
+    heap.push(3u8).ok()?;
+    heap.push(8).ok()?;
+    kept(alloc, rt, heap)?.peek().copied()
 }
 
 fn is_unset_cell_kept<R: Wait>(alloc: Global, rt: &R) -> bool {
     kept(alloc, rt, OnceCell::<u8>::new()).is_some_and(|it| it.get().is_none())
 }
 
+fn values_around_others<R: Wait>(
+    alloc: Global,
+    rt: &R,
+) -> (
+    Option<Wrapping<u8>>,
+    Option<Reverse<u8>>,
+    [Option<u8>; 2],
+    bool,
+) {
+    (
+        kept_where_made(alloc, rt, Wrapping(9)),
+        kept(alloc, rt, Reverse(4)),
+        [front(alloc, rt), greatest(alloc, rt)],
+        is_unset_cell_kept(alloc, rt),
+    )
+}
+
 #[test]
-fn tables_keep_values_of_parts(rt: HostRuntime) -> Result<(), Fail> {
-    let collections = (front(rt.alloc(), &rt)?, greatest(rt.alloc(), &rt)?);
-    assert_eq!(rt;
+fn tables_keep_values_of_parts(rt: HostRuntime) {
+    assert_same(
+        &rt,
         values_of_parts(rt.alloc(), &rt),
         (
             Some((1, 2)),
             Some((1, 'b', Some(2))),
             Some([1, 2, 3]),
-            Some(Err(true))
-        )
-    );
-    assert_eq!(rt;
-        (
-            kept_where_made(rt.alloc(), &rt, Wrapping(9u8)),
-            kept(rt.alloc(), &rt, Reverse(4u8)),
-            collections,
-            is_unset_cell_kept(rt.alloc(), &rt)
+            Some(Err(true)),
         ),
+    );
+    assert_same(
+        &rt,
+        values_around_others(rt.alloc(), &rt),
         (
             Some(Wrapping(9)),
             Some(Reverse(4)),
-            (Some(6), Some(8)),
-            true
-        )
+            [Some(6), Some(8)],
+            true,
+        ),
     );
-    Ok(())
 }

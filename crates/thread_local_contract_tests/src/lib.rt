@@ -9,6 +9,8 @@ mod id_callers;
 #[cfg(test)]
 mod judged;
 #[cfg(test)]
+mod same;
+#[cfg(test)]
 mod slot_callers;
 #[cfg(test)]
 mod tokens;

@@ -6,9 +6,9 @@ ghost use Rattle.thread_local.specs.IdMoves.{held_after};
 
 use std::alloc::Global;
 use std::sync::Wait;
-use std::test::Fail;
 use thread_local::ThreadLocal;
 use thread_local::table::{CapacityError, Page};
+use crate::same::assert_same;
 
 /// `Local`s that are held at once each publish their number, as many as are asked for. Answers
 /// whether none was refused.
@@ -86,23 +86,26 @@ fn held_beyond<R: Wait>(
 #[test]
 fn locals_held_at_once_use_fewer_than_twice_as_many_slots(rt: HostRuntime) {
     for (count, slots) in [(1, 1), (2, 3), (3, 3), (4, 7), (7, 7), (8, 15)] {
-        assert_eq!(rt;
+        assert_same(
+            &rt,
             held_in_new(rt.alloc(), &rt, count),
-            (true, (slots, count as usize))
+            (true, (slots, count as usize)),
         );
     }
 }
 
 #[test]
 fn a_cleared_table_counts_slots_and_peak_anew(rt: HostRuntime) {
-    assert_eq!(rt; held_again(rt.alloc(), &rt, 2), (true, (3, 2)));
+    assert_same(&rt, held_again(rt.alloc(), &rt, 2), (true, (3, 2)));
 }
 
 #[test]
-fn locals_held_beyond_a_capacity_use_no_more_slots_than_without(
-    rt: HostRuntime,
-) -> Result<(), Fail> {
-    assert_eq!(rt; held_beyond(rt.alloc(), &rt, 4, 9)?, (true, (15, 9)));
-    assert_eq!(rt; held_beyond(rt.alloc(), &rt, 4, 2)?, (true, (7, 2)));
-    Ok(())
+fn locals_held_beyond_a_capacity_use_no_more_slots_than_without(rt: HostRuntime) {
+    let beyond = held_beyond(rt.alloc(), &rt, 4, 9);
+    let within = held_beyond(rt.alloc(), &rt, 4, 2);
+    assert_same(
+        &rt,
+        (beyond, within),
+        (Ok((true, (15, 9))), Ok((true, (7, 2)))),
+    );
 }

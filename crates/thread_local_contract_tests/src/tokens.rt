@@ -7,7 +7,6 @@ ghost use Rattle.thread_local_base.specs.Buckets.{values};
 use std::alloc::Global;
 use std::cell::Cell;
 use std::sync::Wait;
-use std::test::Fail;
 use std::thread;
 use std::thread::Threads;
 use thread_local::ThreadLocal;
@@ -17,12 +16,16 @@ use thread_local_buckets::Buckets;
 use thread_local_ids::Token;
 use thread_local_judged::{Judge, judge_sync};
 use thread_local_shared_buckets::Tokens;
+use crate::same::assert_same;
+use thread_local_base::Thread;
 
 /// Publishes a value with a new `Local`, and answers a token of what the slot holds.
 fn told<T: Send + Drop, R: Wait>(table: &ThreadLocal<T>, rt: &R, value: T) -> Option<Token<T>>
     ensures { IfSome result (λ token. token.sharing ≡ table.now.sharing) }
 {
-    let mut local = table.local(rt).ok()?;
+    let Ok(mut local) = table.local(rt) else {
+        return None;
+    };
     local.get_or(move || value).ok()?;
     local.token()
 }
@@ -45,7 +48,9 @@ fn resumed<T: Copy, R: Wait>(table: &ThreadLocal<T>, rt: &R, token: &Token<T>) -
     requires { (token.now.sharing ≡ table.now.sharing) × IsSome table.now.sharing }
     ensures { IfSome result (λ value. value ≡ token.now.value) }
 {
-    let mut local = table.local(rt).ok()?;
+    let Ok(mut local) = table.local(rt) else {
+        return None;
+    };
     if local.id() != token.id() {
         return None;
     }
@@ -191,8 +196,12 @@ fn published_and_walked<R: Wait>(
     table: &ThreadLocal<u32>,
     rt: &R,
 ) -> Option<[(Option<(usize, u32)>, Option<(usize, u32)>, bool); 3]> {
-    let mut first = table.local(rt).ok()?;
-    let mut second = table.local(rt).ok()?;
+    let Ok(mut first) = table.local(rt) else {
+        return None;
+    };
+    let Ok(mut second) = table.local(rt) else {
+        return None;
+    };
     first.set(6).ok()?;
     second.set(7).ok()?;
     let of_the_second = first_two(second.tokens());
@@ -206,31 +215,54 @@ fn published_and_walked<R: Wait>(
 #[test]
 fn walks_give_each_value_with_a_token(rt: HostRuntime) {
     let table = ThreadLocal::<u32>::new(rt.alloc());
+    let walked = published_and_walked(&table, &rt);
+    let count = counted(&table);
+    let same = give_the_same(&mut table.tokens(), &mut table.tokens());
     let both = (Some((0, 6)), Some((1, 7)), true);
-    assert_eq!(rt; published_and_walked(&table, &rt), Some([both; 3]));
-    assert_eq!(rt; counted(&table), 2);
-    assert!(rt; give_the_same(&mut table.tokens(), &mut table.tokens()));
+    assert_same(&rt, (walked, count, same), (Some([both; 3]), 2, true));
+}
+
+/// Sets 3 where a `Local` finds nothing.
+fn set_three<R: Wait>(local: &mut Local<'_, u32, R>) -> Option<Token<u32>>
+    ensures { IfSome result (λ token. token.sharing ≡ local.old.sharing) }
+{
+    match local.get() {
+        None => set_and_told(local, 3),
+        Some(_) => None,
+    }
+}
+
+/// A `Local` sets 3, and while it is held another thread publishes 5. Answers their tokens, with what
+/// is read and walked by them.
+fn told_by_two<R: Threads + Wait + Sync>(
+    table: &ThreadLocal<u32>,
+    rt: &R,
+) -> Option<((Token<u32>, Token<u32>), ((u32, u32), (bool, bool)))>
+    requires named { IsSome table.now.sharing }
+    ensures mine { IfSome result (λ told. told.0.0.sharing ≡ table.now.sharing) }
+    ensures yours { IfSome result (λ told. told.0.1.sharing ≡ table.now.sharing) }
+{
+    let Ok(mut first) = table.local(rt) else {
+        return None;
+    };
+    let mine = set_three(&mut first)?;
+    let yours = thread::join(rt, || told(table, rt, 5), || {}).0?;
+    let answers = read_and_walked(table, rt, &mine, &yours);
+    Some(((mine, yours), answers))
 }
 
 #[test]
-fn threads_read_each_other_by_tokens(rt: HostRuntime) -> Result<(), Fail> {
+fn threads_read_each_other_by_tokens(rt: HostRuntime) {
     let table = ThreadLocal::<u32>::new(rt.alloc());
-    let mut first = table.local(&rt)?;
-    let mine = match first.get() {
-        None => set_and_told(&mut first, 3),
-        Some(_) => None,
-    };
-    let (yours, ()) = thread::join(&rt, || told(&table, &rt, 5), || {});
-    let mine = mine.expect(&rt, "a token");
-    let yours = yours.expect(&rt, "a token");
-    let answers = read_and_walked(&table, &rt, &mine, &yours);
-    drop(first);
+    let told = told_by_two(&table, &rt).expect(&rt, "two tokens");
+    let ((mine, yours), answers) = told;
+    let ids = (mine.id(), yours.id());
     let owned = owned_and_found(table, &mine, &yours);
-    assert_eq!(rt;
-        (answers, mine.id(), yours.id(), owned),
-        (((5, 3), (true, true)), 0, 1, (Some(3), Some(5)))
+    assert_same(
+        &rt,
+        (answers, ids, owned),
+        (((5, 3), (true, true)), (0, 1), (Some(3), Some(5))),
     );
-    Ok(())
 }
 
 // What a `Local` of another thread has by a token, and then one beside another, with the other's id.
@@ -242,7 +274,9 @@ fn resumed_apart_and_beside<R: Threads + Wait + Sync>(
     requires { (token.now.sharing ≡ table.now.sharing) × IsSome table.now.sharing }
 {
     let apart = thread::join(rt, || resumed(table, rt, token), || {}).0;
-    let first = table.local(rt).ok()?;
+    let Ok(first) = table.local(rt) else {
+        return None;
+    };
     Some((apart, resumed(table, rt, token), first.id()))
 }
 
@@ -250,22 +284,29 @@ fn resumed_apart_and_beside<R: Threads + Wait + Sync>(
 fn the_next_holder_of_an_id_goes_on(rt: HostRuntime) {
     let table = ThreadLocal::<u32>::new(rt.alloc());
     let token = told(&table, &rt, 8).expect(&rt, "a token");
-    assert_eq!(rt;
+    assert_same(
+        &rt,
         resumed_apart_and_beside(&table, &rt, &token),
-        Some((Some(8), None, 0))
+        Some((Some(8), None, 0)),
     );
 }
 
+/// Whether a text is read by its token, while the table is borrowed and another is asked for.
+fn is_read_as_told<R: Wait>(table: &ThreadLocal<String>, rt: &R, alloc: Global) -> Option<bool>
+    requires named { IsSome table.now.sharing }
+{
+    let text = String::from_str(alloc, "kept").ok()?;
+    let token = told(table, rt, text)?;
+    let read = table.value(&token);
+    let other = told(table, rt, String::new(alloc));
+    Some(other.is_some() && read.as_str() == "kept")
+}
+
 #[test]
-fn a_text_is_read_while_the_table_is_borrowed(rt: HostRuntime) -> Result<(), Fail> {
+fn a_text_is_read_while_the_table_is_borrowed(rt: HostRuntime) {
     judge_sync::<String>();
     let table = ThreadLocal::<String>::new(rt.alloc());
-    let text = String::from_str(rt.alloc(), "kept")?;
-    let token = told(&table, &rt, text).expect(&rt, "a token");
-    let read = table.value(&token);
-    let other = told(&table, &rt, String::new(rt.alloc()));
-    assert_eq!(rt; (read.as_str(), other.is_some()), ("kept", true));
-    Ok(())
+    assert_same(&rt, is_read_as_told(&table, &rt, rt.alloc()), Some(true));
 }
 
 /// A table of cells, which threads hand on and don't share.
@@ -291,7 +332,7 @@ fn an_owner_finds_a_cell_by_its_token(rt: HostRuntime) {
     let (token, ()) = thread::join(&rt, || told(&table, &rt, Cell::new(4)), || {});
     let token = token.expect(&rt, "a token");
     let cell = owned_cell(table, &token);
-    assert_eq!(rt; (token.id(), cell), (0, Some(4)));
+    assert_same(&rt, (token.id(), cell), (0, Some(4)));
 }
 
 /// A token of a table of any type, for whoever has the table next.
@@ -324,13 +365,14 @@ fn another_sharing_has_other_tokens(rt: HostRuntime) {
     let read = read_at_last(&mut table, &first);
     add_one(&mut table);
     table.renew();
-    let renewed = told_and_read(&table, &rt, 0).expect(&rt, "a token").1;
+    let renewed = told_and_read(&table, &rt, 0);
     table.clear();
     let cleared = told_and_read(&table, &rt, 9);
     let is_any_type_told = generic(rt.alloc(), &rt, 2u8).is_some();
-    assert_eq!(rt;
+    assert_same(
+        &rt,
         (read, renewed, cleared, is_any_type_told),
-        (6, 7, Some((0, 9)), true)
+        (6, Some((0, 7)), Some((0, 9)), true),
     );
 }
 
@@ -339,15 +381,18 @@ fn set_twice<R: Wait>(
     table: &ThreadLocal<u32>,
     rt: &R,
 ) -> Option<([Result<(), SetError<u32>>; 2], Option<u32>)> {
-    let mut local = table.local(rt).ok()?;
+    let Ok(mut local) = table.local(rt) else {
+        return None;
+    };
     Some(([local.set(1), local.set(2)], local.get().copied()))
 }
 
 #[test]
 fn a_value_is_set_once(rt: HostRuntime) {
     let table = ThreadLocal::<u32>::new(rt.alloc());
-    assert_eq!(rt;
+    assert_same(
+        &rt,
         set_twice(&table, &rt),
-        Some(([Ok(()), Err(SetError::Occupied(2))], Some(1)))
+        Some(([Ok(()), Err(SetError::Occupied(2))], Some(1))),
     );
 }

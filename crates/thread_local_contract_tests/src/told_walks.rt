@@ -5,13 +5,13 @@ ghost use Rattle.thread_local.specs.TokenLists.{AllOf};
 
 use std::alloc::{AllocError, Global};
 use std::sync::Wait;
-use std::test::Fail;
 use std::thread;
 use std::thread::Threads;
 use thread_local::ThreadLocal;
 use thread_local::iter::{iter_gives_told, tokens_give_told};
 use thread_local::local::Local;
 use thread_local::table::{Token, Told};
+use crate::same::assert_same;
 
 /// A table's walk with tokens gives the value of each token of a list, at its id, once.
 fn given(
@@ -94,7 +94,9 @@ fn published<'a, R: Wait>(
         × (kept.1.id ≡ kept.0.id)
         × (kept.1.value ≡ value)) }
 {
-    let mut local = table.local(rt).ok()?;
+    let Ok(mut local) = table.local(rt) else {
+        return None;
+    };
     let token = local.publish(value).ok()?;
     Some((local, token))
 }
@@ -149,8 +151,12 @@ fn published_and_found<R: Wait>(
 ) -> Option<[Option<(usize, u32)>; 3]>
     requires named { IsSome table.now.sharing }
 {
-    let mut one = table.local(rt).ok()?;
-    let mut other = table.local(rt).ok()?;
+    let Ok(mut one) = table.local(rt) else {
+        return None;
+    };
+    let Ok(mut other) = table.local(rt) else {
+        return None;
+    };
     let of_one = one.publish(6).ok()?;
     let of_other = other.publish(7).ok()?;
     Some(first_three(&given_two(table, &of_one, &of_other, alloc).ok()?))
@@ -159,17 +165,17 @@ fn published_and_found<R: Wait>(
 #[test]
 fn a_walk_gives_what_tokens_say(rt: HostRuntime) {
     let table = ThreadLocal::<u32>::new(rt.alloc());
-    assert_eq!(rt;
+    assert_same(
+        &rt,
         published_and_found(&table, &rt, rt.alloc()),
-        Some([Some((0, 6)), Some((1, 7)), None])
+        Some([Some((0, 6)), Some((1, 7)), None]),
     );
 }
 
 #[test]
-fn a_walk_sums_up_what_two_threads_published(rt: HostRuntime) -> Result<(), Fail> {
+fn a_walk_sums_up_what_two_threads_published(rt: HostRuntime) {
     let table = ThreadLocal::<u64>::new(rt.alloc());
     let sum = summed_over_two(&table, &rt, 7, 35);
     let again = summed_over_two(&table, &rt, 1, 2);
-    assert_eq!(rt; (sum, again), (Some(42), None));
-    Ok(())
+    assert_same(&rt, (sum, again), (Some(42), None));
 }

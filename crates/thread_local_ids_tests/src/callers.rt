@@ -1,7 +1,7 @@
 //! Callers of a table's ids that are proved by contracts alone, and tests that run them.
 ghost use Rattle.std.specs.Prelude.{◌≡◌, IfOk};
 
-use crate::compare::expect_same;
+use crate::same::assert_same;
 use std::alloc::Global;
 use std::test::Fail;
 use thread_local_base::LocalError;
@@ -28,7 +28,7 @@ fn least_ids_come_again(
 
 #[test]
 fn the_least_ids_come_again(rt: HostRuntime) -> Result<(), Fail> {
-    expect_same(
+    assert_same(
         &rt,
         least_ids_come_again(rt.alloc())?,
         ((0, 1, 2), (0, 1, 3)),

@@ -2,7 +2,7 @@
 ghost use Rattle.std.specs.Prelude.{◌≡◌, ◌≢◌, IfOk};
 ghost use Rattle.thread_local_ids.specs.Rights.{taken_id};
 
-use crate::compare::expect_same;
+use crate::same::assert_same;
 use std::mem::{forget, swap};
 use std::sync::Wait;
 use std::test::Fail;
@@ -45,7 +45,7 @@ pub fn take_for_ever<R: Wait>(ids: &Lock<Ids>, rt: &R) -> Result<usize, LocalErr
 fn an_id_is_held_once(rt: HostRuntime) -> Result<(), Fail> {
     let mut ids = Ids::new(rt.alloc());
     let (first, second) = take_two(&mut ids)?;
-    expect_same(&rt, (first.0.id, second.0.id), (0, 1));
+    assert_same(&rt, (first.0.id, second.0.id), (0, 1));
     Ok(())
 }
 
@@ -54,7 +54,7 @@ fn room_that_was_made_is_enough(rt: HostRuntime) -> Result<(), Fail> {
     let mut ids = Ids::with_room(rt.alloc(), 67)?;
     // No memory is asked for here, so a refusal would be a fault of the manager's.
     for id in 0..67usize {
-        expect_same(&rt, ids.take()?.0.id, id);
+        assert_same(&rt, ids.take()?.0.id, id);
     }
     assert!(rt; !ids.is_held(67));
     Ok(())
@@ -77,10 +77,10 @@ fn held_ids_are_swapped_moved_and_forgotten(rt: HostRuntime) -> Result<(), Fail>
     forget(third);
     let again = ids.lock(&rt).take()?;
     let again = give_back(&ids, &rt, again);
-    expect_same(&rt, (swapped, given, again), ((1, 0, 2), (1, 0), 0));
+    assert_same(&rt, (swapped, given, again), ((1, 0, 2), (1, 0), 0));
     // The forgotten id is held, and no other.
     for id in [0, 1, 3] {
-        expect_same(&rt, take_for_ever(&ids, &rt)?, id);
+        assert_same(&rt, take_for_ever(&ids, &rt)?, id);
     }
     Ok(())
 }

@@ -4,8 +4,6 @@
 #[cfg(test)]
 mod callers;
 #[cfg(test)]
-mod compare;
-#[cfg(test)]
 mod ids;
 #[cfg(test)]
 mod lock;
@@ -19,5 +17,7 @@ mod races;
 mod refusals;
 #[cfg(test)]
 mod rights;
+#[cfg(test)]
+mod same;
 #[cfg(test)]
 mod without_memory;

@@ -1,7 +1,7 @@
 //! Tests of a lock: who takes it finds what was left there, and one thread at a time has it.
 ghost use Rattle.std.specs.Prelude.{◌≤◌};
 
-use crate::compare::expect_same;
+use crate::same::assert_same;
 use std::sync::Wait;
 use std::sync::atomic::AtomicBool;
 use std::sync::atomic::Ordering::SeqCst;
@@ -67,10 +67,10 @@ fn seen_twice(shelf: &Lock<Shelf>) -> (Option<u64>, Option<u64>) {
 #[test]
 fn a_lock_is_taken_once(rt: HostRuntime) {
     let shelf = Lock::new(Shelf { room: 5, goods: 3 });
-    expect_same(&rt, seen_twice(&shelf), (Some(3), None));
-    expect_same(&rt, take_all(&shelf), Some(3));
-    expect_same(&rt, put_one(&shelf, &rt), Some(1));
-    expect_same(&rt, shelf.into_inner(), Shelf { room: 5, goods: 1 });
+    assert_same(&rt, seen_twice(&shelf), (Some(3), None));
+    assert_same(&rt, take_all(&shelf), Some(3));
+    assert_same(&rt, put_one(&shelf, &rt), Some(1));
+    assert_same(&rt, shelf.into_inner(), Shelf { room: 5, goods: 1 });
 }
 
 #[test]
@@ -81,7 +81,7 @@ fn a_lock_that_was_left_taken_stays_so(rt: HostRuntime) {
         guard.forget();
     }
     assert!(rt; take_all(&shelf).is_none());
-    expect_same(&rt, shelf.into_inner(), Shelf { room: 5, goods: 7 });
+    assert_same(&rt, shelf.into_inner(), Shelf { room: 5, goods: 7 });
 }
 
 /// How often a thread yields while it waits for another, or until others sleep.
@@ -122,7 +122,7 @@ fn each_sleeper_is_woken(rt: HostRuntime) {
             || put_late(there, &rt, mark),
         ),
     );
-    expect_same(&rt, (puts, shelf.into_inner().goods), ((1, 1), 2));
+    assert_same(&rt, (puts, shelf.into_inner().goods), ((1, 1), 2));
 }
 
 /// Takes the lock, says so, and has it for a second.
@@ -155,7 +155,7 @@ fn a_thread_that_waits_for_long_sleeps(rt: HostRuntime) -> Result<(), Fail> {
         || hold_for_a_second(there, &rt, mark),
         || time_of_late(there, &rt, mark),
     );
-    expect_same(&rt, shelf.into_inner().goods, 1);
+    assert_same(&rt, shelf.into_inner().goods, 1);
     assert!(rt; time? < Duration::from_millis(200));
     Ok(())
 }
@@ -185,6 +185,6 @@ fn threads_write_one_at_a_time(rt: HostRuntime) {
         .saturating_add(a.1)
         .saturating_add(b.0)
         .saturating_add(b.1);
-    expect_same(&rt, counts, 35_000);
-    expect_same(&rt, shelf.into_inner().goods, 35_000);
+    assert_same(&rt, counts, 35_000);
+    assert_same(&rt, shelf.into_inner().goods, 35_000);
 }

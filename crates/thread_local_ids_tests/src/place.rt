@@ -1,5 +1,5 @@
 //! The places of ids, at both ends of the range and between.
-use crate::compare::expect_same;
+use crate::same::assert_same;
 use thread_local_base::{Thread, bucket_size};
 
 #[test]
@@ -21,7 +21,7 @@ fn places_of_ids(rt: HostRuntime) {
     for (id, bucket, index, size) in places {
         assert!(rt; id < 9223372036854775807);
         let thread = Thread::new(id);
-        expect_same(
+        assert_same(
             &rt,
             (
                 thread.bucket,

@@ -1,6 +1,6 @@
 //! Threads that take ids of one table at once.
 
-use crate::compare::expect_same;
+use crate::same::assert_same;
 use crate::ids::take_for_ever;
 use std::sync::Wait;
 use std::sync::atomic::AtomicBool;
@@ -52,11 +52,11 @@ fn threads_hold_unlike_ids(rt: HostRuntime) -> Result<(), Fail> {
         || thread::join(&rt, run, run),
     );
     for shared in [a.0, a.1, b.0, b.1] {
-        expect_same(&rt, shared, Ok(0));
+        assert_same(&rt, shared, Ok(0));
     }
     // None of the ids is held, so the next are the first.
     for id in 0..4 {
-        expect_same(&rt, take_for_ever(&ids, &rt)?, id);
+        assert_same(&rt, take_for_ever(&ids, &rt)?, id);
     }
     Ok(())
 }

@@ -1,5 +1,5 @@
 //! Ids that are refused memory: neither the first 64 nor a returned one needs any.
-use crate::compare::expect_same;
+use crate::same::assert_same;
 use std::alloc::Global;
 use std::io::Print;
 use std::process::Abort;
@@ -74,12 +74,12 @@ fn least_ids_in_turn(rt: HostRuntime) -> Result<(), Fail> {
     let given = [give(&mut manager, 1), give(&mut manager, 0)];
     let left = first_held(&manager);
     let again = take_three(&rt, &mut manager, [&[2], &[0, 2], &[0, 1, 2]])?;
-    expect_same(
+    assert_same(
         &rt,
         (before, taken, given),
         ([false; 4], [0, 1, 2], [true; 2]),
     );
-    expect_same(&rt, (left, again), ([false, false, true, false], [0, 1, 3]));
+    assert_same(&rt, (left, again), ([false, false, true, false], [0, 1, 3]));
     Ok(())
 }
 
@@ -88,11 +88,11 @@ fn a_returned_id_needs_no_memory(rt: HostRuntime) -> Result<(), Fail> {
     let mut manager = ThreadIdManager::new(rt.alloc());
     let first = [0, 1, 2, 3, 4, 5, 6, 7];
     for id in 0..70usize {
-        expect_same(&rt, take(&rt, &mut manager, &first[..id.min(8)])?, id);
+        assert_same(&rt, take(&rt, &mut manager, &first[..id.min(8)])?, id);
     }
     let given = [give(&mut manager, 33), give(&mut manager, 7)];
     let again = [take_at_hand(&mut manager)?, take_at_hand(&mut manager)?];
-    expect_same(&rt, (given, again), ([true; 2], [7, 33]));
+    assert_same(&rt, (given, again), ([true; 2], [7, 33]));
     Ok(())
 }
 
@@ -115,7 +115,7 @@ fn take_first(
     count: usize,
 ) -> Result<(), LocalError> {
     for id in 0..count {
-        expect_same(rt, take_at_hand(manager)?, id);
+        assert_same(rt, take_at_hand(manager)?, id);
     }
     Ok(())
 }
@@ -130,7 +130,7 @@ fn room_that_was_made_is_enough(rt: HostRuntime) -> Result<(), Fail> {
     assert!(rt; !manager.is_held(67));
     let first = first_without_room(&rt, rt.alloc())?;
     let refused = [9223372036854775807, usize::MAX].map(|ids| is_refused(rt.alloc(), ids));
-    expect_same(&rt, (first, refused), (0, [true; 2]));
+    assert_same(&rt, (first, refused), (0, [true; 2]));
     Ok(())
 }
 
@@ -141,7 +141,7 @@ fn room_is_made_in_whole_words(rt: HostRuntime) -> Result<(), Fail> {
         return Ok(());
     };
     take_first(&rt, &mut manager, 128)?;
-    expect_same(
+    assert_same(
         &rt,
         take(&rt, &mut manager, &[0, 1, 2, 3, 4, 5, 6, 7])?,
         128,
@@ -158,13 +158,13 @@ fn take_65(rt: &(impl Abort + Print), manager: &mut ThreadIdManager) -> Result<u
 #[test]
 fn the_first_64_ids_need_no_memory(rt: HostRuntime) -> Result<(), Fail> {
     let mut manager = ThreadIdManager::new(rt.alloc());
-    expect_same(&rt, take_65(&rt, &mut manager)?, 64);
+    assert_same(&rt, take_65(&rt, &mut manager)?, 64);
     Ok(())
 }
 
 #[test]
 fn room_for_64_ids_needs_no_memory(rt: HostRuntime) -> Result<(), Fail> {
     let mut manager = ThreadIdManager::with_room(rt.alloc(), 64)?;
-    expect_same(&rt, take_65(&rt, &mut manager)?, 64);
+    assert_same(&rt, take_65(&rt, &mut manager)?, 64);
     Ok(())
 }

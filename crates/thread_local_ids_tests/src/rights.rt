@@ -2,7 +2,7 @@
 ghost use Rattle.std.specs.Prelude.{◌≡◌, false};
 ghost use Rattle.thread_local_ids.specs.Rights.{is_out};
 
-use crate::compare::expect_same;
+use crate::same::assert_same;
 use std::mem;
 use thread_local_ids::{Right, Rights};
 
@@ -43,7 +43,7 @@ fn rights_go_out_and_come_back(rt: HostRuntime) {
 
 #[test]
 fn a_right_takes_no_bytes(rt: HostRuntime) {
-    expect_same(
+    assert_same(
         &rt,
         (mem::size_of::<Right>(), mem::size_of::<Rights>()),
         (0, 0),
@@ -56,7 +56,7 @@ fn a_right_stands_in_a_struct_and_in_an_enum(rt: HostRuntime) {
     let mut slot = Slot::Taken(hold(&mut rights, 3));
     let before = mem::replace(&mut slot, Slot::Vacant);
     if let Slot::Taken(held) = before {
-        expect_same(&rt, held.id, 3);
+        assert_same(&rt, held.id, 3);
         mem::forget(held);
     }
     drop(slot);

@@ -1,6 +1,6 @@
 //! Ids where no memory is left.
 
-use crate::compare::expect_same;
+use crate::same::assert_same;
 use std::alloc::{AllocError, Global};
 use std::test::Fail;
 use thread_local_base::ThreadIdManager;
@@ -30,7 +30,7 @@ fn count_given(
 fn room_for_ids_is_made_in_whole_words(rt: HostRuntime) -> Result<(), Fail> {
     for (room, asked, given) in [(0, 65, 64), (3, 65, 64), (65, 128, 128), (129, 192, 192)] {
         let mut manager = ThreadIdManager::with_room(rt.alloc(), room)?;
-        expect_same(&rt, count_given(&mut manager, rt.alloc(), asked)?, given);
+        assert_same(&rt, count_given(&mut manager, rt.alloc(), asked)?, given);
     }
     Ok(())
 }

@@ -1,6 +1,6 @@
 //! Blocks of slots: how much memory they take, and which are refused.
 
-use crate::compare::expect_same;
+use crate::same::assert_same;
 use std::alloc::{AllocError, Global};
 use std::mem::size_of;
 use std::test::Fail;
@@ -39,7 +39,7 @@ fn the_words_of_flags_lie_behind_the_values(rt: HostRuntime) {
         flag_word_at::<u8>(128, 1),
         flag_word_at::<u64>(128, 1),
     ];
-    expect_same(
+    assert_same(
         &rt,
         (numbers, value_size::<()>(), value_size::<u64>()),
         ([0, 1, 17, 129], 0, 8),
@@ -53,7 +53,7 @@ fn a_chunk_is_64_values_and_a_word(rt: HostRuntime) {
         size_of::<Chunk<u8>>(),
         size_of::<Chunk<u64>>(),
     );
-    expect_same(&rt, sizes, (8, 72, 520));
+    assert_same(&rt, sizes, (8, 72, 520));
 }
 
 // A block of fewer slots than 64 takes no room behind its last.
@@ -68,7 +68,7 @@ fn a_slot_takes_a_bit_and_a_value(rt: HostRuntime) {
         bytes_asked(32),
     ];
     let large = [bytes_asked(64), bytes_asked(128), bytes_asked(1 << 20)];
-    expect_same(
+    assert_same(
         &rt,
         (small, large),
         ([16, 24, 40, 72, 136, 264], [520, 1040, 8_519_680]),
@@ -78,7 +78,7 @@ fn a_slot_takes_a_bit_and_a_value(rt: HostRuntime) {
 // The values of the first take half of the limit of 2^58 bytes, and those of the second all of it.
 #[test]
 fn a_block_below_the_limit_is_asked_for(rt: HostRuntime) {
-    expect_same(
+    assert_same(
         &rt,
         (bytes_asked(1 << 54), bytes_asked(1 << 55)),
         (146_366_987_889_541_120, 0),
@@ -91,7 +91,7 @@ fn a_block_that_is_too_large_is_refused(rt: HostRuntime) {
         is_refused(rt.alloc(), 1 << 59),
         is_refused(rt.alloc(), 1 << 63),
     );
-    expect_same(
+    assert_same(
         &rt,
         (refused, is_refused(rt.alloc(), 1 << 10)),
         ((true, true), false),

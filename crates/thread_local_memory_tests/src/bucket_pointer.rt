@@ -1,7 +1,7 @@
 //! A bucket's pointer.
 ghost use Rattle.std.specs.Prelude.{◌≡◌, IfOk};
 
-use crate::compare::expect_same;
+use crate::same::assert_same;
 use std::alloc::{AllocError, Global};
 use std::cell::Cell;
 use std::mem::size_of;
@@ -55,25 +55,25 @@ fn flags_of_two_chunks(alloc: Global) -> Result<[u64; 3], AllocError> {
 
 #[test]
 fn a_slot_has_its_bit_in_the_word_of_its_chunk(rt: HostRuntime) -> Result<(), Fail> {
-    expect_same(&rt, flags_of_two_chunks(rt.alloc())?, [(1 << 63) + 1, 2, 1]);
+    assert_same(&rt, flags_of_two_chunks(rt.alloc())?, [(1 << 63) + 1, 2, 1]);
     Ok(())
 }
 
 #[test]
 fn a_value_comes_back_at_any_type(rt: HostRuntime) -> Result<(), Fail> {
     let alloc = rt.alloc();
-    expect_same(&rt, there_and_back(alloc, 1u32)?, 1);
-    expect_same(
+    assert_same(&rt, there_and_back(alloc, 1u32)?, 1);
+    assert_same(
         &rt,
         there_and_back(alloc, String::from_str(alloc, "one")?)?.as_str(),
         "one",
     );
-    expect_same(&rt, *there_and_back(alloc, Box::new(alloc, 1u32)?)?, 1);
-    expect_same(&rt, seen_at_a_cell(alloc)?, (true, true, 2));
+    assert_same(&rt, *there_and_back(alloc, Box::new(alloc, 1u32)?)?, 1);
+    assert_same(&rt, seen_at_a_cell(alloc)?, (true, true, 2));
     Ok(())
 }
 
 #[test]
 fn a_bucket_pointer_is_one_pointer(rt: HostRuntime) {
-    expect_same(&rt, size_of::<BucketPointer<u64>>(), 8);
+    assert_same(&rt, size_of::<BucketPointer<u64>>(), 8);
 }

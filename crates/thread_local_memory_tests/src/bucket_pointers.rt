@@ -1,7 +1,7 @@
 //! The pointers of a table: values come back at any type.
 ghost use Rattle.std.specs.Prelude.{◌≡◌, ◌^◌, ◌<◌, IfOk};
 
-use crate::compare::expect_same;
+use crate::same::assert_same;
 use std::alloc::{AllocError, Global};
 use std::cell::Cell;
 use std::mem::replace;
@@ -71,13 +71,13 @@ fn others_come_back(alloc: Global) -> Result<bool, AllocError> {
 #[test]
 fn values_come_back_at_any_type(rt: HostRuntime) -> Result<(), Fail> {
     let alloc = rt.alloc();
-    expect_same(&rt, there_and_back(alloc, 1u32, 2)?, 1);
+    assert_same(&rt, there_and_back(alloc, 1u32, 2)?, 1);
     let seen = (
         text_comes_back(alloc)?,
         box_comes_back(alloc)?,
         others_come_back(alloc)?,
     );
-    expect_same(&rt, seen, (true, true, true));
+    assert_same(&rt, seen, (true, true, true));
     Ok(())
 }
 
@@ -114,7 +114,7 @@ fn seen_beside(alloc: Global) -> Result<[bool; 4], AllocError> {
 
 #[test]
 fn values_are_written_over(rt: HostRuntime) -> Result<(), Fail> {
-    expect_same(&rt, text_written_over(rt.alloc())?.as_str(), "two");
-    expect_same(&rt, seen_beside(rt.alloc())?, [true, false, true, false]);
+    assert_same(&rt, text_written_over(rt.alloc())?.as_str(), "two");
+    assert_same(&rt, seen_beside(rt.alloc())?, [true, false, true, false]);
     Ok(())
 }

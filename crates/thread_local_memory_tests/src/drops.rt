@@ -1,7 +1,7 @@
 //! Values are dropped once each.
 
 use crate::bucket_pointers::place;
-use crate::compare::expect_same;
+use crate::same::assert_same;
 use std::alloc::{AllocError, Global};
 use std::cell::Cell;
 use std::test::Fail;
@@ -54,7 +54,7 @@ fn each_value_is_dropped_once(rt: HostRuntime) -> Result<(), Fail> {
     let before = drops_counted(alloc, false, || Counted { drops: &drops }, || drops.get())?;
     let dropped = drops.get();
     let cleared = drops_counted(alloc, true, || Counted { drops: &drops }, || drops.get())?;
-    expect_same(
+    assert_same(
         &rt,
         (before, dropped, cleared, drops.get()),
         (0, 5, 10, 10),

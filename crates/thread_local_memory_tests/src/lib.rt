@@ -8,6 +8,6 @@ mod bucket_pointer;
 #[cfg(test)]
 mod bucket_pointers;
 #[cfg(test)]
-mod compare;
-#[cfg(test)]
 mod drops;
+#[cfg(test)]
+mod same;

@@ -4,4 +4,4 @@
 #[cfg(test)]
 mod buckets;
 #[cfg(test)]
-mod compare;
+mod same;

@@ -1,6 +1,6 @@
 //! A `Local` whose bucket another one installs needs no memory, though it found the bucket missing.
 
-use crate::compare::expect_same;
+use crate::same::assert_same;
 use std::alloc::{AllocError, Global};
 use std::mem::forget;
 use std::sync::Wait;
@@ -62,6 +62,6 @@ fn a_bucket_that_another_installed_is_not_asked_for(rt: HostRuntime) -> Result<(
     let table = with_1023_held(&rt, rt.alloc())?;
     let other = with_1023_held(&rt, rt.alloc())?;
     let published = published_by_three(&table, &other, &rt, rt.alloc())?;
-    expect_same(&rt, published, (Some(3), [Some(1), None]));
+    assert_same(&rt, published, (Some(3), [Some(1), None]));
     Ok(())
 }

@@ -2,12 +2,12 @@
 #![tactic(auto)]
 
 #[cfg(test)]
-mod compare;
-#[cfg(test)]
 mod installs;
 #[cfg(test)]
 mod races;
 #[cfg(test)]
 mod refusals;
+#[cfg(test)]
+mod same;
 #[cfg(test)]
 mod without_memory;

@@ -2,7 +2,7 @@
 
 mod walks;
 
-use crate::compare::expect_same;
+use crate::same::assert_same;
 use std::alloc::Global;
 use std::sync::Wait;
 use std::sync::atomic::AtomicU32;
@@ -113,7 +113,7 @@ fn many_locals_race_for_their_buckets(rt: HostRuntime) {
         let mut table = ThreadLocal::<u32>::new(rt.alloc());
         let published = race(&table, &rt, rt.alloc()).ok();
         let slots = table.slots();
-        expect_same(
+        assert_same(
             &rt,
             (published, slots, in_order(table)),
             (Some(RACERS), 127, true),
@@ -156,7 +156,7 @@ fn walks_ascend_while_many_locals_race(rt: HostRuntime) {
         );
         let seen = shared_in_order(&table);
         let slots = table.slots();
-        expect_same(
+        assert_same(
             &rt,
             (both, seen, slots, in_order(table)),
             ((Some(RACERS), true), true, 127, true),
@@ -180,6 +180,6 @@ fn threads_share_a_local(rt: HostRuntime) -> Result<(), Fail> {
     let mut local = table.local(&rt)?;
     local.get_or(|| 5)?;
     let both = thread::join(&rt, || finds_five(&local), || finds_five(&local));
-    expect_same(&rt, both, (true, true));
+    assert_same(&rt, both, (true, true));
     Ok(())
 }

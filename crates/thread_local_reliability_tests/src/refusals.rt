@@ -5,7 +5,7 @@
 mod cleared;
 pub(crate) mod held;
 
-use crate::compare::expect_same;
+use crate::same::assert_same;
 use held::{four_publish, numbers};
 use std::alloc::{AllocError, Global};
 use std::cell::Cell;
@@ -192,7 +192,7 @@ fn a_call_that_was_refused_succeeds_when_it_is_made_again(rt: HostRuntime) -> Re
         let table = with_62_held(&rt, rt.alloc())?;
         let as_promised = call.by_three(&table, &rt) == Ok(true);
         let wanted = [6, 7, 8].map(|number| Some(call.wanted(number).0));
-        expect_same(
+        assert_same(
             &rt,
             (as_promised, first_four(table.into_iter())),
             (true, [wanted[0], wanted[1], wanted[2], None]),
@@ -214,8 +214,8 @@ fn a_round_after_a_drain_is_refused_nothing(rt: HostRuntime) -> Result<(), Fail>
     let numbers = drained(&mut table);
     let second = Publishing::Set.by_three(&table, &rt) == Ok(true);
     let again = drained(&mut table);
-    expect_same(&rt, (first, second), (true, true));
-    expect_same(
+    assert_same(&rt, (first, second), (true, true));
+    assert_same(
         &rt,
         (numbers, again),
         (
@@ -231,7 +231,7 @@ fn a_table_with_a_capacity_has_its_slots_or_is_refused(rt: HostRuntime) -> Resul
     match ThreadLocal::<u64>::with_capacity(rt.alloc(), 4) {
         Ok(table) => {
             let mut table = table;
-            expect_same(&rt, table.slots(), 7);
+            assert_same(&rt, table.slots(), 7);
         }
         Err(error) => {
             println!(rt; "refused: with_capacity")?;
@@ -269,7 +269,7 @@ fn had<'a, R: Wait + Print>(table: &'a ThreadLocal<u32>, rt: &'a R) -> Option<Lo
 #[test]
 fn nothing_is_refused_within_the_capacity(rt: HostRuntime) -> Result<(), Fail> {
     match ThreadLocal::<u32>::with_capacity(rt.alloc(), 4) {
-        Ok(table) => expect_same(
+        Ok(table) => assert_same(
             &rt,
             four_held_publish(&table, &rt, rt.alloc()),
             Some([true; 4]),

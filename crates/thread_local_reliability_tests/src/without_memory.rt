@@ -1,7 +1,7 @@
 //! What each call answers where no memory is left. A test takes all memory before such a call, so
 //! every request is refused, and frees it before it compares.
 
-use crate::compare::expect_same;
+use crate::same::assert_same;
 use crate::refusals::Publishing;
 use crate::refusals::held::numbers;
 use std::alloc::{AllocError, Global};
@@ -56,7 +56,7 @@ fn a_refused_value_calls_no_closure_and_comes_later(rt: HostRuntime) -> Result<(
         let table = numbers(rt.alloc());
         let mut local = table.local(&rt)?;
         let (answer, calls) = call.wanted(6);
-        expect_same(
+        assert_same(
             &rt,
             publish_twice(call, &mut local, rt.alloc())?,
             ((Err(AllocError), 0), true, (Ok(answer), calls)),
@@ -98,7 +98,7 @@ fn publish_after_errors<R: Wait>(
 fn no_memory_is_needed_after_an_error_of_the_closure(rt: HostRuntime) -> Result<(), Fail> {
     let table = numbers(rt.alloc());
     let mut local = table.local(&rt)?;
-    expect_same(
+    assert_same(
         &rt,
         publish_after_errors(&mut local, rt.alloc())?,
         (Some("a"), Some("b"), Ok(9)),
@@ -152,7 +152,7 @@ const SEVEN_OF_EIGHT: [bool; 8] = [true, true, true, true, true, true, true, fal
 fn reserved_slots_need_no_memory(rt: HostRuntime) -> Result<(), Fail> {
     let table = with_capacity(rt.alloc(), 4)?;
     let published = publish_held(&table, &rt, rt.alloc(), 8, false)?;
-    expect_same(&rt, published.as_slice(), SEVEN_OF_EIGHT.as_slice());
+    assert_same(&rt, published.as_slice(), SEVEN_OF_EIGHT.as_slice());
     Ok(())
 }
 
@@ -183,7 +183,7 @@ fn publish_around_clear<R: Wait>(
 fn a_cleared_table_needs_no_memory_for_its_reserved_slots(rt: HostRuntime) -> Result<(), Fail> {
     let mut table = with_capacity(rt.alloc(), 4)?;
     let (first, slots, second) = publish_around_clear(&mut table, &rt, rt.alloc(), 8)?;
-    expect_same(
+    assert_same(
         &rt,
         (first.as_slice(), slots, second.as_slice()),
         ([true; 8].as_slice(), (15, 7, 0), SEVEN_OF_EIGHT.as_slice()),
@@ -202,12 +202,12 @@ fn a_cleared_table_of_no_capacity_needs_memory_for_each_bucket(
 ) -> Result<(), Fail> {
     let mut table = numbers(rt.alloc());
     let (first, slots, second) = publish_around_clear(&mut table, &rt, rt.alloc(), 4)?;
-    expect_same(
+    assert_same(
         &rt,
         (first.as_slice(), slots, second.as_slice()),
         ([true; 4].as_slice(), (7, 0, 0), [false; 4].as_slice()),
     );
-    expect_same(&rt, is_reserved(&table, &rt)?, false);
+    assert_same(&rt, is_reserved(&table, &rt)?, false);
     Ok(())
 }
 
@@ -234,7 +234,7 @@ fn hold_64<R: Wait>(
 #[test]
 fn a_local_past_the_room_is_refused_and_comes_later(rt: HostRuntime) -> Result<(), Fail> {
     let table = numbers(rt.alloc());
-    expect_same(&rt, hold_64(&table, &rt, rt.alloc())?, (64, true, false));
+    assert_same(&rt, hold_64(&table, &rt, rt.alloc())?, (64, true, false));
     Ok(())
 }
 
@@ -253,6 +253,6 @@ fn make_without_memory(alloc: Global) -> Result<(bool, bool), AllocError> {
 
 #[test]
 fn a_capacity_that_is_too_large_is_told_without_memory(rt: HostRuntime) -> Result<(), Fail> {
-    expect_same(&rt, make_without_memory(rt.alloc())?, (true, true));
+    assert_same(&rt, make_without_memory(rt.alloc())?, (true, true));
     Ok(())
 }

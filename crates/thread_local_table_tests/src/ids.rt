@@ -1,6 +1,6 @@
 //! The ids of `Local`s.
 
-use crate::compare::expect_same;
+use crate::same::assert_same;
 use crate::locals::numbers;
 use std::mem::forget;
 use std::sync::Wait;
@@ -24,7 +24,7 @@ fn ids_in_turn<R: Wait>(table: &ThreadLocal<u32>, rt: &R) -> Option<[usize; 4]> 
 #[test]
 fn a_local_has_the_least_id_that_is_not_held(rt: HostRuntime) {
     let table = numbers(rt.alloc());
-    expect_same(&rt, ids_in_turn(&table, &rt), Some([0, 1, 2, 1]));
+    assert_same(&rt, ids_in_turn(&table, &rt), Some([0, 1, 2, 1]));
 }
 
 /// The id of a `Local`, which is forgotten.
@@ -41,5 +41,5 @@ fn a_renewed_table_keeps_its_held_ids(rt: HostRuntime) {
     let before = forgotten(&table, &rt);
     table.renew();
     let after = forgotten(&table, &rt);
-    expect_same(&rt, (before, after), (Some(0), Some(1)));
+    assert_same(&rt, (before, after), (Some(0), Some(1)));
 }

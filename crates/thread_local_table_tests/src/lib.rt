@@ -2,13 +2,13 @@
 #![tactic(auto)]
 
 #[cfg(test)]
-mod compare;
-#[cfg(test)]
 mod ids;
 #[cfg(test)]
 mod locals;
 #[cfg(test)]
 mod owners;
+#[cfg(test)]
+mod same;
 #[cfg(test)]
 mod slots;
 #[cfg(test)]

@@ -4,7 +4,7 @@ ghost use Rattle.thread_local_base.specs.Buckets.{values};
 ghost use Rattle.thread_local_base.specs.Walk.{walk};
 ghost use Rattle.thread_local_buckets.specs.IterMut.{iter_mut_rest};
 
-use crate::compare::expect_same;
+use crate::same::assert_same;
 use crate::locals::{lends, numbers, publish_and_forget, published_by_another};
 use std::alloc::{AllocError, Global};
 use std::test::Fail;
@@ -81,7 +81,7 @@ fn an_owner_finds_and_puts_values_in_a_table(rt: HostRuntime) -> Result<(), Fail
     put(&mut table, 30)?;
     let found = counted_twice(&mut table);
     let are_lent = lends(&mut table, &[7, 30]);
-    expect_same(
+    assert_same(
         &rt,
         (published, found, are_lent, three_moved_out(table)),
         (
@@ -151,7 +151,7 @@ fn an_owner_finds_ids_and_drains_a_table(rt: HostRuntime) -> Result<(), Fail> {
     let first = (forgotten, first_two(&mut table));
     let taken = drained_twice(&mut table);
     let next = published_by_another(&table, &rt, 8);
-    expect_same(
+    assert_same(
         &rt,
         (first, taken, next, first_id(table)),
         (
@@ -175,7 +175,7 @@ fn a_table_is_drained_of_each_value(rt: HostRuntime) -> Result<(), Fail> {
     let mut table = numbers(rt.alloc());
     let forgotten = publish_and_forget(&table, &rt, 7);
     put(&mut table, 30)?;
-    expect_same(
+    assert_same(
         &rt,
         (forgotten, first_three_drained(&mut table)),
         (Some(7), [Some(7), Some(30), None]),
@@ -213,7 +213,7 @@ fn slots_of_two(alloc: Global) -> Option<(bool, usize, usize, usize)> {
 
 #[test]
 fn cleared_buckets_have_the_reserved_slots(rt: HostRuntime) {
-    expect_same(&rt, slots_of_two(rt.alloc()), Some((true, 1 + 2 + 4, 3, 3)));
+    assert_same(&rt, slots_of_two(rt.alloc()), Some((true, 1 + 2 + 4, 3, 3)));
 }
 
 /// Writes the value at an id, and answers what stood there. The table keeps its name and its
@@ -241,7 +241,7 @@ fn an_owner_reaches_a_value_by_its_id(rt: HostRuntime) -> Result<(), Fail> {
     let written = [2, 0, 3, 9223372036854775806].map(|id| write_at(&mut table, id, 40));
     let again = write_at(&mut table, 2, 50);
     let past = past_the_last(&mut table);
-    expect_same(
+    assert_same(
         &rt,
         (written, again, past, counted_by_value(table)),
         ([Ok(30), Err(40), Err(40), Err(40)], Ok(40), true, (1, 50)),

@@ -1,6 +1,6 @@
 //! How large a table grows.
 
-use crate::compare::expect_same;
+use crate::same::assert_same;
 use crate::locals::{numbers, published};
 use std::alloc::Global;
 use std::sync::Wait;
@@ -48,7 +48,7 @@ fn publish_in_turn<R: Wait>(table: &ThreadLocal<u32>, rt: &R, count: u32) -> boo
 fn locals_one_after_another_use_one_slot(rt: HostRuntime) {
     let mut table = numbers(rt.alloc());
     let published = publish_in_turn(&table, &rt, 1000);
-    expect_same(&rt, (published, table.slots()), (true, 1));
+    assert_same(&rt, (published, table.slots()), (true, 1));
 }
 
 // Whether so many publish in a table while they are held, and how many slots it has then.
@@ -65,7 +65,7 @@ fn held_and_slots<R: Wait>(
 #[test]
 fn locals_held_at_once_use_fewer_than_twice_as_many_slots(rt: HostRuntime) {
     for (count, slots) in [(1, 1), (2, 3), (3, 3), (4, 7), (7, 7), (8, 15)] {
-        expect_same(
+        assert_same(
             &rt,
             held_and_slots(numbers(rt.alloc()), &rt, rt.alloc(), count),
             (true, slots),
@@ -78,7 +78,7 @@ fn locals_held_beyond_a_capacity_use_no_more_slots_than_without(
     rt: HostRuntime,
 ) -> Result<(), Fail> {
     let table = with_capacity(rt.alloc(), 4)?;
-    expect_same(&rt, held_and_slots(table, &rt, rt.alloc(), 9), (true, 15));
+    assert_same(&rt, held_and_slots(table, &rt, rt.alloc(), 9), (true, 15));
     Ok(())
 }
 
@@ -105,7 +105,7 @@ fn a_new_table_has_no_slots_and_no_values(rt: HostRuntime) {
     let slots = table.slots();
     let shared = shares_none(&table);
     let lent = lends_none(&mut table);
-    expect_same(
+    assert_same(
         &rt,
         (slots, shared, lent, moves_out_none(table)),
         (0, true, true, true),
@@ -119,7 +119,7 @@ fn reserved(alloc: Global, capacity: usize) -> Result<usize, CapacityError> {
 #[test]
 fn a_capacity_reserves_the_slots_of_its_binary_digits(rt: HostRuntime) -> Result<(), Fail> {
     for (capacity, slots) in [(0, 0), (1, 1), (3, 3), (4, 7), (7, 7), (8, 15)] {
-        expect_same(&rt, reserved(rt.alloc(), capacity)?, slots);
+        assert_same(&rt, reserved(rt.alloc(), capacity)?, slots);
     }
     Ok(())
 }
@@ -158,6 +158,6 @@ fn places_below_the_reserved_slots_are_reserved(rt: HostRuntime) -> Result<(), F
     let as_expected = are_reserved(&table, &rt, rt.alloc(), &expected);
     let other = numbers(rt.alloc());
     let other_as_expected = are_reserved(&other, &rt, rt.alloc(), &[false]);
-    expect_same(&rt, (as_expected, other_as_expected), (true, true));
+    assert_same(&rt, (as_expected, other_as_expected), (true, true));
     Ok(())
 }

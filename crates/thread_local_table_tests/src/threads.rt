@@ -1,6 +1,6 @@
 //! Threads use one table, and `Local`s move between them.
 
-use crate::compare::expect_same;
+use crate::same::assert_same;
 use crate::locals::{found, lends, numbers, published};
 use std::sync::Wait;
 use std::sync::atomic::Ordering::SeqCst;
@@ -49,7 +49,7 @@ fn beside_another<R: Threads + Wait + Sync>(
 #[test]
 fn each_thread_has_its_own_value(rt: HostRuntime) {
     let table = numbers(rt.alloc());
-    expect_same(
+    assert_same(
         &rt,
         beside_another(&table, &rt),
         Some([
@@ -71,7 +71,7 @@ fn a_local_moves_to_another_thread_and_back(rt: HostRuntime) -> Result<(), Fail>
     let table = numbers(rt.alloc());
     let local = table.local(&rt)?;
     let (local, _) = thread::join(&rt, || publish_three(local), || ());
-    expect_same(&rt, found(&local), Some(3));
+    assert_same(&rt, found(&local), Some(3));
     Ok(())
 }
 
@@ -167,7 +167,7 @@ fn publish_one_within_another<R: Threads + Wait + Sync>(
 fn no_lock_is_held_while_a_closure_runs(rt: HostRuntime) {
     let table = numbers(rt.alloc());
     let both = publish_one_within_another(&table, &rt);
-    expect_same(&rt, both, ((Some(1), true), (Some(2), true)));
+    assert_same(&rt, both, ((Some(1), true), (Some(2), true)));
 }
 
 // Two threads do so with `Local`s that were taken before, and the first's closure publishes 9.
@@ -201,7 +201,7 @@ fn a_closure_that_waits_for_another_thread_may_take_a_local(rt: HostRuntime) {
     let mut table = numbers(rt.alloc());
     let both = take_two_and_publish(&table, &rt);
     let are_lent = lends(&mut table, &[1, 2, 9]);
-    expect_same(
+    assert_same(
         &rt,
         (both, are_lent),
         (Some(((Some(1), true), (Some(2), true))), true),
@@ -254,7 +254,7 @@ fn a_closure_may_use_another_local_of_the_table(rt: HostRuntime) {
     let mut table = numbers(rt.alloc());
     let both = publish_through_another_within_one(&table, &rt);
     let are_lent = lends(&mut table, &[1, 7, 6]);
-    expect_same(
+    assert_same(
         &rt,
         (both, are_lent),
         (((Some(1), true), (Some(7), true)), true),

@@ -1,6 +1,6 @@
 //! What a `Local` finds at its id, and what it publishes there.
 
-use crate::compare::expect_same;
+use crate::same::assert_same;
 use crate::locals::{found, found_by_another, numbers, published, published_by_another};
 use std::alloc::Global;
 use std::cell::{Cell, RefCell};
@@ -15,7 +15,7 @@ use thread_local_test_helpers::printed::prints;
 #[test]
 fn the_first_value_stays(rt: HostRuntime) {
     let table = numbers(rt.alloc());
-    expect_same(
+    assert_same(
         &rt,
         published_by_another(&table, &rt, 5),
         Some([None, Some(5), Some(5)]),
@@ -63,7 +63,7 @@ fn a_closure_is_called_once(rt: HostRuntime) {
     let answers = shown_and_asked(&table, &rt, rt.alloc());
     table.clear();
     let found = found_by_another(&table, &rt);
-    expect_same(
+    assert_same(
         &rt,
         (answers, found),
         (Some((true, (true, 1), true)), Some(None)),
@@ -75,7 +75,7 @@ fn a_reused_id_finds_the_earlier_value(rt: HostRuntime) {
     let table = numbers(rt.alloc());
     let first = published_by_another(&table, &rt, 7);
     let second = published_by_another(&table, &rt, 9);
-    expect_same(
+    assert_same(
         &rt,
         [first, second],
         [
@@ -102,7 +102,7 @@ fn an_error_leaves_the_slot_empty_and_its_bucket_standing(rt: HostRuntime) {
     let failed = fails(&table, &rt);
     let slots = table.slots();
     let next = published_by_another(&table, &rt, 4);
-    expect_same(
+    assert_same(
         &rt,
         (failed, slots, next, table.slots()),
         (true, 1, Some([None, Some(4), Some(4)]), 1),
@@ -132,7 +132,7 @@ fn filled_thrice<R: Wait>(table: &ThreadLocal<u32>, rt: &R) -> Option<(bool, [Op
 #[test]
 fn a_slot_is_filled_once(rt: HostRuntime) {
     let table = numbers(rt.alloc());
-    expect_same(
+    assert_same(
         &rt,
         filled_thrice(&table, &rt),
         Some((true, [None, Some(4), Some(4)])),
@@ -148,7 +148,7 @@ fn set_twice<R: Wait>(table: &ThreadLocal<u32>, rt: &R) -> Option<[bool; 2]> {
 #[test]
 fn a_value_is_set_once(rt: HostRuntime) {
     let table = numbers(rt.alloc());
-    expect_same(&rt, set_twice(&table, &rt), Some([true, false]));
+    assert_same(&rt, set_twice(&table, &rt), Some([true, false]));
 }
 
 /// What a new `Local` is told when it publishes the default, and what it finds then.
@@ -161,7 +161,7 @@ fn default_published<R: Wait>(table: &ThreadLocal<u32>, rt: &R) -> Option<[Optio
 #[test]
 fn a_default_is_published(rt: HostRuntime) {
     let table = numbers(rt.alloc());
-    expect_same(
+    assert_same(
         &rt,
         default_published(&table, &rt),
         Some([Some(0), Some(0)]),
@@ -191,7 +191,7 @@ fn lists_and_texts_have_defaults(rt: HostRuntime) {
     String::judge();
     let lists = ThreadLocal::new(rt.alloc());
     let texts = ThreadLocal::new(rt.alloc());
-    expect_same(
+    assert_same(
         &rt,
         (
             a_default_list_is_empty(&lists, &rt),
@@ -222,7 +222,7 @@ fn list_in_a_cell<R: Wait>(
 #[test]
 fn a_table_is_made_of_lists_in_cells(rt: HostRuntime) {
     let table = ThreadLocal::<RefCell<Vec<u64>>>::made_with(rt.alloc());
-    expect_same(
+    assert_same(
         &rt,
         list_in_a_cell(&table, &rt, rt.alloc()),
         Some((true, 1)),
@@ -253,7 +253,7 @@ fn default_cells<R: Wait>(table: &ThreadLocal<Cell<u64>>, rt: &R) -> Option<[u64
 fn a_default_replaces_no_value(rt: HostRuntime) {
     Cell::<u64>::judge();
     let table = ThreadLocal::new(rt.alloc());
-    expect_same(&rt, default_cells(&table, &rt), Some([3, 0, 3]));
+    assert_same(&rt, default_cells(&table, &rt), Some([3, 0, 3]));
 }
 
 /// Beside a first `Local`, one of its table and one of another publish 2 and 3, and the two are
@@ -300,7 +300,7 @@ fn swapped_locals_go_back_to_their_tables(rt: HostRuntime) {
     let other = numbers(rt.alloc());
     let swapped = swap_the_latter_two(&table, &other, &rt);
     let found = (found_by_two(&table, &rt), found_by_another(&other, &rt));
-    expect_same(
+    assert_same(
         &rt,
         (swapped, found),
         (

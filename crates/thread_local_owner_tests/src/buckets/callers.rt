@@ -5,7 +5,7 @@ ghost use Rattle.thread_local_base.specs.Rows.{value_in};
 ghost use Rattle.thread_local_base.specs.Walk.{walk};
 ghost use Rattle.thread_local_base.specs.Owner.{with_published};
 
-use crate::compare::expect_same;
+use crate::same::assert_same;
 use std::alloc::{AllocError, Global};
 use std::cell::Cell;
 use std::test::Fail;
@@ -138,10 +138,10 @@ fn unit_comes_back(alloc: Global) -> bool {
 #[test]
 fn values_of_any_type_come_back(rt: HostRuntime) -> Result<(), Fail> {
     let alloc = rt.alloc();
-    expect_same(&rt, inserted_and_taken(alloc, 7u32)?, Some(7));
+    assert_same(&rt, inserted_and_taken(alloc, 7u32)?, Some(7));
     let owned = (text_comes_back(alloc)?, box_comes_back(alloc)?);
     let others = (cell_comes_back(alloc), unit_comes_back(alloc));
-    expect_same(&rt, (owned, others), ((true, true), (true, true)));
+    assert_same(&rt, (owned, others), ((true, true), (true, true)));
     Ok(())
 }
 
@@ -161,11 +161,11 @@ fn values_are_drained_at_any_type(rt: HostRuntime) -> Result<(), Fail> {
     let taken = (take_first(&mut others), take_first(&mut others));
     drop_each(&mut others);
     empty(&mut others);
-    expect_same(&rt, (summed, taken), ((7, 0), (Some(3), None)));
+    assert_same(&rt, (summed, taken), ((7, 0), (Some(3), None)));
     Ok(())
 }
 
 #[test]
 fn a_value_that_stands_is_kept(rt: HostRuntime) {
-    expect_same(&rt, written(rt.alloc()).ok(), Some(5));
+    assert_same(&rt, written(rt.alloc()).ok(), Some(5));
 }

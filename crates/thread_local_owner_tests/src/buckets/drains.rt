@@ -2,7 +2,7 @@
 
 use super::insert;
 use super::walks::{has_left, three};
-use crate::compare::expect_same;
+use crate::same::assert_same;
 use std::alloc::{AllocError, Global};
 use std::test::Fail;
 use thread_local_base::Thread;
@@ -49,7 +49,7 @@ pub fn dropped(buckets: &mut Buckets<u32>) -> usize {
 fn a_drain_of_an_empty_table_gives_nothing(rt: HostRuntime) {
     let mut buckets = Buckets::new(rt.alloc());
     let first = buckets.drain().next();
-    expect_same(
+    assert_same(
         &rt,
         (first, dropped(&mut buckets), buckets.slots()),
         (None, 0, 0),
@@ -74,7 +74,7 @@ fn second_round(buckets: &mut Buckets<u32>) -> Result<(bool, bool, Option<u32>),
 fn drained_ids_are_empty_and_hold_values_again(rt: HostRuntime) -> Result<(), Fail> {
     let mut buckets = three(rt.alloc(), [0, 5, 1234])?;
     let seen = second_round(&mut buckets)?;
-    expect_same(
+    assert_same(
         &rt,
         (seen, buckets.slots()),
         ((false, false, Some(9)), 1 + 4 + 1024),
@@ -93,6 +93,6 @@ fn a_drain_prints_its_cursor(rt: HostRuntime) -> Result<(), Fail> {
     let mut walk = buckets.drain();
     let fresh = prints(&walk, rt.alloc(), FRESH) && walk.next() == Some(5);
     let ended = prints(&walk, rt.alloc(), ENDED) && walk.next().is_none();
-    expect_same(&rt, (fresh, ended), (true, true));
+    assert_same(&rt, (fresh, ended), (true, true));
     Ok(())
 }

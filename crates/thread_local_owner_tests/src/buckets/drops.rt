@@ -3,7 +3,7 @@
 use super::drains::dropped;
 use super::insert;
 use super::walks::three as three_numbers;
-use crate::compare::expect_same;
+use crate::same::assert_same;
 use std::alloc::{AllocError, Global};
 use std::fs;
 use std::fs::{Files, OpenOptions};
@@ -54,7 +54,7 @@ fn seen_of_one(alloc: Global, drops: &AtomicU64) -> Result<(usize, Option<u32>, 
 fn a_table_drops_its_values(rt: HostRuntime) -> Result<(), Fail> {
     let drops = AtomicU64::new(0);
     let seen = seen_of_one(rt.alloc(), &drops)?;
-    expect_same(&rt, (seen, drops.load(SeqCst)), ((1024, Some(7), 0), 1));
+    assert_same(&rt, (seen, drops.load(SeqCst)), ((1024, Some(7), 0), 1));
     Ok(())
 }
 
@@ -71,14 +71,14 @@ fn a_second_value_is_dropped(rt: HostRuntime) {
     for number in [0, 1u32] {
         let drops = &drops;
         let stands = stands_first(&mut buckets, Counted { number, drops });
-        expect_same(
+        assert_same(
             &rt,
             (stands, drops.load(SeqCst)),
             (Some(0), u64::from(number)),
         );
     }
     drop(buckets);
-    expect_same(&rt, drops.load(SeqCst), 2);
+    assert_same(&rt, drops.load(SeqCst), 2);
 }
 
 #[test]
@@ -88,7 +88,7 @@ fn clear_drops_each_value(rt: HostRuntime) -> Result<(), Fail> {
     buckets.clear();
     let cleared = drops.load(SeqCst);
     drop(buckets);
-    expect_same(&rt, (cleared, drops.load(SeqCst)), (3, 3));
+    assert_same(&rt, (cleared, drops.load(SeqCst)), (3, 3));
     Ok(())
 }
 
@@ -106,11 +106,11 @@ fn dropped_after_one(alloc: Global, drops: &AtomicU64) -> Result<(Option<u32>, u
 fn a_walk_drops_what_it_has_not_given(rt: HostRuntime) -> Result<(), Fail> {
     let drops = AtomicU64::new(0);
     drop(three(rt.alloc(), &drops)?.into_iter());
-    expect_same(&rt, drops.load(SeqCst), 3);
+    assert_same(&rt, drops.load(SeqCst), 3);
 
     let drops = AtomicU64::new(0);
     let seen = dropped_after_one(rt.alloc(), &drops)?;
-    expect_same(&rt, (seen, drops.load(SeqCst)), ((Some(0), 2), 3));
+    assert_same(&rt, (seen, drops.load(SeqCst)), ((Some(0), 2), 3));
     Ok(())
 }
 
@@ -129,7 +129,7 @@ fn a_walk_that_ends_within_a_chunk_drops_the_rest(rt: HostRuntime) -> Result<(),
     }
     let given = drops.load(SeqCst);
     drop(walk);
-    expect_same(&rt, (in_order, given, drops.load(SeqCst)), (true, 150, 200));
+    assert_same(&rt, (in_order, given, drops.load(SeqCst)), (true, 150, 200));
     Ok(())
 }
 
@@ -145,7 +145,7 @@ fn dropped_by_a_forgotten_walk(alloc: Global, drops: &AtomicU64) -> Result<u64, 
 fn a_forgotten_walk_drops_nothing(rt: HostRuntime) -> Result<(), Fail> {
     let drops = AtomicU64::new(0);
     let forgotten = dropped_by_a_forgotten_walk(rt.alloc(), &drops)?;
-    expect_same(&rt, (forgotten, drops.load(SeqCst)), (0, 1));
+    assert_same(&rt, (forgotten, drops.load(SeqCst)), (0, 1));
     Ok(())
 }
 
@@ -164,7 +164,7 @@ fn a_drain_drops_what_it_has_not_given(rt: HostRuntime) -> Result<(), Fail> {
     let seen = drained_after_one(&mut buckets, &drops);
     let given = drops.load(SeqCst);
     drop(buckets);
-    expect_same(&rt, (seen, given, drops.load(SeqCst)), ((Some(0), 2), 3, 3));
+    assert_same(&rt, (seen, given, drops.load(SeqCst)), ((Some(0), 2), 3, 3));
     Ok(())
 }
 
@@ -185,7 +185,7 @@ fn a_drain_gives_each_value_once(rt: HostRuntime) -> Result<(), Fail> {
     let before = drops_before_each(&mut buckets, &drops);
     let given = drops.load(SeqCst);
     drop(buckets);
-    expect_same(&rt, (before, given, drops.load(SeqCst)), (1 + 2, 3, 3));
+    assert_same(&rt, (before, given, drops.load(SeqCst)), (1 + 2, 3, 3));
     Ok(())
 }
 
@@ -204,7 +204,7 @@ fn a_forgotten_drain_drops_nothing(rt: HostRuntime) -> Result<(), Fail> {
     let forgotten = dropped_by_a_forgotten_drain(&mut buckets, &drops);
     let given = drops.load(SeqCst);
     drop(buckets);
-    expect_same(&rt, (forgotten, given, drops.load(SeqCst)), (0, 1, 3));
+    assert_same(&rt, (forgotten, given, drops.load(SeqCst)), (0, 1, 3));
     Ok(())
 }
 
@@ -249,13 +249,13 @@ fn drop_but_the_first<R: Files + Drop>(buckets: Buckets<Noted<R>>) {
 
 #[test]
 fn values_without_bytes_are_dropped_once(rt: HostRuntime) -> Result<(), Fail> {
-    expect_same(&rt, size_of::<Noted<HostRuntime>>(), 0);
+    assert_same(&rt, size_of::<Noted<HostRuntime>>(), 0);
     fs::write(&rt, NOTES, "")?;
     let mut buckets = Buckets::new(rt.alloc());
-    expect_same(&rt, four_noted(rt, &mut buckets)?, (1 + 4 + 64, 3));
-    expect_same(&rt, fs::read(&rt, NOTES)?.len(), 1);
+    assert_same(&rt, four_noted(rt, &mut buckets)?, (1 + 4 + 64, 3));
+    assert_same(&rt, fs::read(&rt, NOTES)?.len(), 1);
     drop_but_the_first(buckets);
-    expect_same(&rt, fs::read(&rt, NOTES)?.len(), 3);
+    assert_same(&rt, fs::read(&rt, NOTES)?.len(), 3);
     fs::remove_file(&rt, NOTES)?;
     Ok(())
 }
@@ -267,7 +267,7 @@ fn blocks_are_freed(rt: HostRuntime) -> Result<(), Fail> {
     let _taken = take_all_but(rt.alloc(), 1 << 30)?;
     for _ in 0..1000 {
         let mut buckets = Buckets::<[u64; 512]>::with_capacity(rt.alloc(), 2047)?;
-        expect_same(&rt, buckets.slots(), 2047);
+        assert_same(&rt, buckets.slots(), 2047);
     }
     Ok(())
 }
@@ -285,6 +285,6 @@ fn a_forgotten_drain_leaves_what_it_has_not_given(rt: HostRuntime) -> Result<(),
     let mut buckets = three_numbers(rt.alloc(), [0, 70, 1234])?;
     let first = first_of_forgotten(&mut buckets);
     let left = (dropped(&mut buckets), first_of_forgotten(&mut buckets));
-    expect_same(&rt, (first, left), (Some(1), (2, None)));
+    assert_same(&rt, (first, left), (Some(1), (2, None)));
     Ok(())
 }

@@ -2,7 +2,7 @@
 
 use super::insert;
 use super::walks::{has_left, three};
-use crate::compare::expect_same;
+use crate::same::assert_same;
 use std::alloc::{AllocError, Global};
 use std::test::Fail;
 use thread_local_buckets::{Buckets, IntoEntries};
@@ -65,7 +65,7 @@ fn values_of_any_type_have_ids(rt: HostRuntime) -> Result<(), Fail> {
     let mut texts = Buckets::new(rt.alloc());
     insert(&mut texts, 77, String::from_str(rt.alloc(), "seven")?)?;
     let none = first_ids(Buckets::<String>::new(rt.alloc()));
-    expect_same(
+    assert_same(
         &rt,
         (first_ids(texts), none),
         ((Some(77), Some(77)), (None, None)),
@@ -112,6 +112,6 @@ fn entries_print_their_cursor(rt: HostRuntime) -> Result<(), Fail> {
     insert(&mut buckets, 0, 5u32)?;
     let lending = lending_prints(rt.alloc(), &mut buckets);
     let taking = taking_prints(rt.alloc(), buckets);
-    expect_same(&rt, (lending, taking), (true, true));
+    assert_same(&rt, (lending, taking), (true, true));
     Ok(())
 }

@@ -1,7 +1,7 @@
 //! Which buckets stand, and which value a slot has.
 
 use super::insert;
-use crate::compare::expect_same;
+use crate::same::assert_same;
 use std::alloc::{AllocError, Global};
 use std::cell::Cell;
 use std::io::Print;
@@ -68,7 +68,7 @@ pub fn gives(buckets: Buckets<usize>, values: &[usize]) -> bool {
 #[test]
 fn an_insert_installs_its_own_bucket(rt: HostRuntime) {
     let mut buckets = Buckets::new(rt.alloc());
-    expect_same(&rt, buckets.slots(), 0);
+    assert_same(&rt, buckets.slots(), 0);
     for (id, slots) in [(0, 1), (2, 3), (19, 19)] {
         let stands = put(&rt, &mut buckets, id, id as usize);
         assert_eq!(rt;
@@ -78,14 +78,14 @@ fn an_insert_installs_its_own_bucket(rt: HostRuntime) {
         );
     }
     buckets.clear();
-    expect_same(&rt, (buckets.slots(), gives(buckets, &[])), (0, true));
+    assert_same(&rt, (buckets.slots(), gives(buckets, &[])), (0, true));
 }
 
 #[test]
 fn the_first_value_stays(rt: HostRuntime) {
     let mut buckets = Buckets::new(rt.alloc());
     let stands = (put(&rt, &mut buckets, 0, 1), put(&rt, &mut buckets, 0, 2));
-    expect_same(
+    assert_same(
         &rt,
         (stands, gives(buckets, &[1])),
         ((Some(1), Some(1)), true),
@@ -105,7 +105,7 @@ fn write_seven(buckets: &mut Buckets<usize>) -> (bool, bool) {
 fn one_value_is_written(rt: HostRuntime) {
     let mut buckets = Buckets::new(rt.alloc());
     let stands = (put(&rt, &mut buckets, 0, 1), put(&rt, &mut buckets, 2, 2));
-    expect_same(
+    assert_same(
         &rt,
         (stands, write_seven(&mut buckets)),
         ((Some(1), Some(2)), (true, true)),
@@ -144,14 +144,14 @@ fn set_in_a_cell(alloc: Global) -> Result<Option<u64>, AllocError> {
 fn values_of_each_kind(rt: HostRuntime) -> Result<(), Fail> {
     let mut numbers = Buckets::new(rt.alloc());
     insert(&mut numbers, 0, 5u32)?;
-    expect_same(&rt, numbers.into_iter().next(), Some(5));
-    expect_same(
+    assert_same(&rt, numbers.into_iter().next(), Some(5));
+    assert_same(
         &rt,
         text_written(rt.alloc())?.as_deref(),
         Some("five and six"),
     );
     let others = (boxed(rt.alloc())?, set_in_a_cell(rt.alloc())?);
-    expect_same(&rt, others, (Some(7), Some(9)));
+    assert_same(&rt, others, (Some(7), Some(9)));
     Ok(())
 }
 
@@ -175,11 +175,11 @@ fn three_of_next(walk: &mut IntoIter<[u64; 512]>) -> Option<(u64, u64, u64)> {
 #[test]
 fn a_large_value(rt: HostRuntime) -> Result<(), Fail> {
     let mut buckets = Buckets::new(rt.alloc());
-    expect_same(&rt, write_large(&mut buckets)?, 3);
+    assert_same(&rt, write_large(&mut buckets)?, 3);
     let mut walk = buckets.into_iter();
     for wanted in [0u64, 1, 2] {
         let last = wanted.wrapping_add(10);
-        expect_same(&rt, three_of_next(&mut walk), Some((wanted, wanted, last)));
+        assert_same(&rt, three_of_next(&mut walk), Some((wanted, wanted, last)));
     }
     assert!(rt; walk.next().is_none());
     Ok(())

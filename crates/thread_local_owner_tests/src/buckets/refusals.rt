@@ -1,7 +1,7 @@
 //! Values and capacities that are refused memory.
 
 use super::places::{gives, put};
-use crate::compare::expect_same;
+use crate::same::assert_same;
 use std::test::Fail;
 use thread_local_buckets::{Buckets, CapacityError};
 
@@ -22,7 +22,7 @@ fn a_refused_insert_hands_the_value_back(rt: HostRuntime) {
 #[test]
 fn a_refused_capacity_says_so(rt: HostRuntime) -> Result<(), Fail> {
     match Buckets::<u64>::with_capacity(rt.alloc(), 4) {
-        Ok(mut buckets) => expect_same(&rt, buckets.slots(), 7),
+        Ok(mut buckets) => assert_same(&rt, buckets.slots(), 7),
         Err(refused) => {
             println!(rt; "refused: with_capacity")?;
             assert!(rt; matches!(refused, CapacityError::Memory(_)));

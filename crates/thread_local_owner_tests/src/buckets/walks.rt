@@ -2,7 +2,7 @@
 //! print.
 
 use super::insert;
-use crate::compare::expect_same;
+use crate::same::assert_same;
 use std::alloc::{AllocError, Global};
 use std::fmt;
 use std::mem::forget;
@@ -71,11 +71,11 @@ fn walks_go_by_ascending_id(rt: HostRuntime) -> Result<(), Fail> {
 #[test]
 fn an_empty_table_gives_nothing(rt: HostRuntime) {
     let mut buckets = Buckets::<u32>::new(rt.alloc());
-    expect_same(&rt, buckets.iter_mut().len(), 0);
-    expect_same(&rt, first(&mut buckets), None);
+    assert_same(&rt, buckets.iter_mut().len(), 0);
+    assert_same(&rt, first(&mut buckets), None);
     let mut walk = buckets.into_iter();
-    expect_same(&rt, walk.len(), 0);
-    expect_same(&rt, walk.next(), None);
+    assert_same(&rt, walk.len(), 0);
+    assert_same(&rt, walk.next(), None);
 }
 
 /// Takes what may go to another thread.
@@ -86,7 +86,7 @@ fn crosses<S: Send>(value: S) -> S {
 #[test]
 fn walks_may_go_to_another_thread(rt: HostRuntime) -> Result<(), Fail> {
     let mut buckets = crosses(three(rt.alloc(), [0, 1, 2])?);
-    expect_same(&rt, crosses(buckets.iter_mut()).len(), 3);
+    assert_same(&rt, crosses(buckets.iter_mut()).len(), 3);
     assert!(rt; gives(crosses(buckets.into_iter()), [1, 2, 3]));
     Ok(())
 }
@@ -119,7 +119,7 @@ fn a_walk_that_stops_early_changes_nothing(rt: HostRuntime) -> Result<(), Fail> 
     let mut buckets = three(rt.alloc(), [0, 1, 2])?;
     let stopped = first(&mut buckets) == Some(1) && lends(&mut buckets, [1, 2, 3]);
     let forgotten = first_of_forgotten(&mut buckets) == Some(1) && lends(&mut buckets, [1, 2, 3]);
-    expect_same(&rt, (stopped, forgotten), (true, true));
+    assert_same(&rt, (stopped, forgotten), (true, true));
     Ok(())
 }
 
@@ -155,7 +155,7 @@ fn walks_print_their_cursor(rt: HostRuntime) -> Result<(), Fail> {
     insert(&mut buckets, 0, 5u32)?;
     let lending = lending_prints(rt.alloc(), &mut buckets);
     let taking = taking_prints(rt.alloc(), buckets);
-    expect_same(&rt, (lending, taking), (true, true));
+    assert_same(&rt, (lending, taking), (true, true));
     Ok(())
 }
 
@@ -207,6 +207,6 @@ fn an_owners_walk_prints_where_it_is_in_each_bucket(rt: HostRuntime) -> Result<(
     }
     let lending = lending_prints_each(rt.alloc(), &mut buckets);
     let taking = taking_prints_each(rt.alloc(), buckets);
-    expect_same(&rt, (lending, taking), (true, true));
+    assert_same(&rt, (lending, taking), (true, true));
     Ok(())
 }

@@ -1,7 +1,7 @@
 //! Values where no memory is left.
 
 use super::insert;
-use crate::compare::expect_same;
+use crate::same::assert_same;
 use std::alloc::{AllocError, Global};
 use std::test::Fail;
 use thread_local_base::Thread;
@@ -22,7 +22,7 @@ fn insert_twice(alloc: Global) -> Result<((Option<u32>, usize), (Option<u32>, us
 
 #[test]
 fn a_refused_insert_hands_back_its_value_and_makes_no_slot(rt: HostRuntime) -> Result<(), Fail> {
-    expect_same(&rt, insert_twice(rt.alloc())?, ((Some(5), 0), (Some(5), 1)));
+    assert_same(&rt, insert_twice(rt.alloc())?, ((Some(5), 0), (Some(5), 1)));
     Ok(())
 }
 
@@ -43,6 +43,6 @@ fn inserted_without_memory(alloc: Global) -> Result<(bool, bool), AllocError> {
 
 #[test]
 fn a_second_round_asks_for_no_memory(rt: HostRuntime) -> Result<(), Fail> {
-    expect_same(&rt, inserted_without_memory(rt.alloc())?, (true, false));
+    assert_same(&rt, inserted_without_memory(rt.alloc())?, (true, false));
     Ok(())
 }

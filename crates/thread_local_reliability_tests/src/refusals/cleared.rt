@@ -1,7 +1,7 @@
 //! What a cleared table keeps.
 
 use super::held::{four_publish, is_one_reserved, latter_four_publish, numbers, taken};
-use crate::compare::expect_same;
+use crate::same::assert_same;
 use std::alloc::Global;
 use std::io::Print;
 use std::sync::Wait;
@@ -93,7 +93,7 @@ fn a_cleared_table_keeps_its_reserved_slots(rt: HostRuntime) -> Result<(), Fail>
     // From here on seven values are never refused memory. Whether the eighth is, its bucket shows.
     let published = eight_publish(&table, &rt, rt.alloc());
     let is_eighth = are_eight_published(&rt, published)?;
-    expect_same(
+    assert_same(
         &rt,
         (slots, count, (published, table.slots())),
         ((15, 7), 0, seven_and_eighth(is_eighth)),
@@ -141,7 +141,7 @@ fn a_cleared_table_of_no_capacity_keeps_no_slots(rt: HostRuntime) -> Result<(), 
     // Which values are refused memory, the buckets show.
     let found = reserved_and_published(&table, &rt, rt.alloc());
     are_four_published(&rt, found)?;
-    expect_same(
+    assert_same(
         &rt,
         (slots, (found, table.slots())),
         ((7, 0), unreserved(found)),
