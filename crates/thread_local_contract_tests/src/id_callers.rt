@@ -5,12 +5,12 @@ ghost use Rattle.thread_local.specs.IdMoves.{IdMove, Take, held_after, noted};
 ghost use Rattle.thread_local.specs.Locals.{EndsWithReturn};
 ghost use mathlib.Core.List.{IsPrefix};
 
+use crate::same::assert_same;
 use std::alloc::Global;
 use std::sync::Wait;
 use thread_local::ThreadLocal;
 use thread_local::local::Local;
 use thread_local::table::{CapacityError, Page};
-use crate::same::assert_same;
 use thread_local_base::LocalError;
 
 /// Two `Local`s in hand have two ids, each the least that wasn't held when it was taken.

@@ -1,5 +1,6 @@
 //! Tables of types that judge themselves.
 
+use crate::same::assert_same;
 use std::alloc::Global;
 use std::cell::{Cell, OnceCell};
 use std::cmp::Reverse;
@@ -12,7 +13,6 @@ use std::sync::atomic::Ordering::SeqCst;
 use std::time::Duration;
 use thread_local::ThreadLocal;
 use thread_local_judged::{Judge, judge_value};
-use crate::same::assert_same;
 
 /// Publishes a value in a table. Answers what the table has then.
 fn passed<T: Send + Drop, R: Wait>(table: ThreadLocal<T>, rt: &R, value: T) -> Option<T> {

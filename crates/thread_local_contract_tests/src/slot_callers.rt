@@ -4,11 +4,11 @@ ghost use Rattle.std.specs.Prelude.{◌≡◌, ◌≤◌, ◌-◌, ◌*◌, max,
 ghost use Rattle.thread_local.specs.Capacity.{reserved_slots};
 ghost use Rattle.thread_local.specs.IdMoves.{held_after};
 
+use crate::same::assert_same;
 use std::alloc::Global;
 use std::sync::Wait;
 use thread_local::ThreadLocal;
 use thread_local::table::{CapacityError, Page};
-use crate::same::assert_same;
 
 /// `Local`s that are held at once each publish their number, as many as are asked for. Answers
 /// whether none was refused.

@@ -4,6 +4,7 @@ ghost use Rattle.std.specs.Prelude.{◌≡◌, true, IfSome, IsSome, None, Some}
 ghost use Rattle.thread_local_judged.specs.Judged.{Judged};
 ghost use Rattle.thread_local_base.specs.Buckets.{values};
 
+use crate::same::assert_same;
 use std::alloc::Global;
 use std::cell::Cell;
 use std::sync::Wait;
@@ -16,8 +17,6 @@ use thread_local_buckets::Buckets;
 use thread_local_ids::Token;
 use thread_local_judged::{Judge, judge_sync};
 use thread_local_shared_buckets::Tokens;
-use crate::same::assert_same;
-use thread_local_base::Thread;
 
 /// Publishes a value with a new `Local`, and answers a token of what the slot holds.
 fn told<T: Send + Drop, R: Wait>(table: &ThreadLocal<T>, rt: &R, value: T) -> Option<Token<T>>

@@ -3,6 +3,7 @@ ghost use Rattle.std.specs.Prelude.{◌≡◌, ◌≢◌, ◌+◌, ◌<◌, ◌�
 ghost use Rattle.std.specs.List.{AllPairs};
 ghost use Rattle.thread_local.specs.TokenLists.{AllOf};
 
+use crate::same::assert_same;
 use std::alloc::{AllocError, Global};
 use std::sync::Wait;
 use std::thread;
@@ -11,7 +12,6 @@ use thread_local::ThreadLocal;
 use thread_local::iter::{iter_gives_told, tokens_give_told};
 use thread_local::local::Local;
 use thread_local::table::{Token, Told};
-use crate::same::assert_same;
 
 /// A table's walk with tokens gives the value of each token of a list, at its id, once.
 fn given(

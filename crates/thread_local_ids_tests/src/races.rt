@@ -1,7 +1,7 @@
 //! Threads that take ids of one table at once.
 
-use crate::same::assert_same;
 use crate::ids::take_for_ever;
+use crate::same::assert_same;
 use std::sync::Wait;
 use std::sync::atomic::AtomicBool;
 use std::sync::atomic::Ordering::SeqCst;

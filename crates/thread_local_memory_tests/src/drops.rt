@@ -54,10 +54,6 @@ fn each_value_is_dropped_once(rt: HostRuntime) -> Result<(), Fail> {
     let before = drops_counted(alloc, false, || Counted { drops: &drops }, || drops.get())?;
     let dropped = drops.get();
     let cleared = drops_counted(alloc, true, || Counted { drops: &drops }, || drops.get())?;
-    assert_same(
-        &rt,
-        (before, dropped, cleared, drops.get()),
-        (0, 5, 10, 10),
-    );
+    assert_same(&rt, (before, dropped, cleared, drops.get()), (0, 5, 10, 10));
     Ok(())
 }

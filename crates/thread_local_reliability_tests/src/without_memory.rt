@@ -1,9 +1,9 @@
 //! What each call answers where no memory is left. A test takes all memory before such a call, so
 //! every request is refused, and frees it before it compares.
 
-use crate::same::assert_same;
 use crate::refusals::Publishing;
 use crate::refusals::held::numbers;
+use crate::same::assert_same;
 use std::alloc::{AllocError, Global};
 use std::cell::Cell;
 use std::sync::Wait;

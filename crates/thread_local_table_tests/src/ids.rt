@@ -1,7 +1,7 @@
 //! The ids of `Local`s.
 
-use crate::same::assert_same;
 use crate::locals::numbers;
+use crate::same::assert_same;
 use std::mem::forget;
 use std::sync::Wait;
 use thread_local::ThreadLocal;

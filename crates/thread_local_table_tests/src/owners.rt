@@ -4,8 +4,8 @@ ghost use Rattle.thread_local_base.specs.Buckets.{values};
 ghost use Rattle.thread_local_base.specs.Walk.{walk};
 ghost use Rattle.thread_local_buckets.specs.IterMut.{iter_mut_rest};
 
-use crate::same::assert_same;
 use crate::locals::{lends, numbers, publish_and_forget, published_by_another};
+use crate::same::assert_same;
 use std::alloc::{AllocError, Global};
 use std::test::Fail;
 use thread_local::ThreadLocal;

@@ -1,7 +1,7 @@
 //! How large a table grows.
 
-use crate::same::assert_same;
 use crate::locals::{numbers, published};
+use crate::same::assert_same;
 use std::alloc::Global;
 use std::sync::Wait;
 use std::test::Fail;

@@ -1,7 +1,7 @@
 //! Threads use one table, and `Local`s move between them.
 
-use crate::same::assert_same;
 use crate::locals::{found, lends, numbers, published};
+use crate::same::assert_same;
 use std::sync::Wait;
 use std::sync::atomic::Ordering::SeqCst;
 use std::sync::atomic::{AtomicBool, AtomicU32};

@@ -1,7 +1,7 @@
 //! What a `Local` finds at its id, and what it publishes there.
 
-use crate::same::assert_same;
 use crate::locals::{found, found_by_another, numbers, published, published_by_another};
+use crate::same::assert_same;
 use std::alloc::Global;
 use std::cell::{Cell, RefCell};
 use std::default::MadeWith;
