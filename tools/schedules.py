@@ -322,9 +322,11 @@ def clause_walk_reads_once(m):
     return all(a > b for _, it in walking(m.after) for a, b in zip(it.read, it.read[1:]))
 
 
-@tries("every_walk", "loads")
+@tries("every_walk", "loads", "loads_announced")
 def clause_walk_loads(m):
-    return all(it.loads <= model.BUCKETS + len(it.given) for _, it in walking(m.after))
+    """A walk loads at most as many pointers as there are buckets, and a complete one those that were announced."""
+    most = all(it.loads <= model.BUCKETS for _, it in walking(m.after))
+    return most and all(it.loads == model.buckets_among(it.announced) for _, it in walking(m.after) if model.is_complete(it))
 
 
 def stepped_walk(m, name):
@@ -334,14 +336,18 @@ def stepped_walk(m, name):
     return live_walk(m.before, m.event[1]), live_walk(m.after, m.event[1])
 
 
-def clause_load_adds(m):
-    """A load is counted and reads no slot, and the first shows the walk what was published then."""
-    walks = stepped_walk(m, "Load")
-    if walks is None:
-        return True
-    it, then = walks
-    first = model.shadow(m.before).values if it.loads == 0 else it.first
-    return (then.first, then.given, then.read, then.loads) == (first, it.given, it.read, it.loads + 1)
+def added(it):
+    """What steps of a walk add to: what it saw as it began stays."""
+    return it.announced, it.first, it.given, it.read, it.loads
+
+
+@tries("every_walk", "pass_adds", "load_adds")
+def clause_pass_adds(m):
+    """A pass and a load read no slot, and a load is counted."""
+    passed, loaded = stepped_walk(m, "Pass"), stepped_walk(m, "Load")
+    if passed is not None:
+        return added(passed[1]) == added(passed[0])
+    return loaded is None or added(loaded[1]) == added(replace(loaded[0], loads=loaded[0].loads + 1))
 
 
 def clause_look_adds(m):
@@ -353,7 +359,7 @@ def clause_look_adds(m):
     here = model.cursor_id(it)
     value = model.published(m.before.table, here)
     given = it.given if value is None else ((here, value),) + it.given
-    return (then.first, then.given, then.read, then.loads) == (it.first, given, (here,) + it.read, it.loads)
+    return added(then) == added(replace(it, given=given, read=(here,) + it.read))
 
 
 # ---- clauses on who may do what, on calls, numbers and walks ---------------------------------------------
@@ -368,7 +374,7 @@ def under_way(doing):
     match doing:
         case ("Gets", count):
             return count, None
-        case ("Started", create) | ("Private", create, _):
+        case ("Started", create) | ("Private", create, _, _):
             return 0, create
         case ("Written", value):
             return 0, ("Ok", value)
@@ -448,7 +454,7 @@ def calls_go(step, before, after):
     match step[0]:
         case "MakeBucket":
             return offer_ends and told if refused else goes_on
-        case "LoadPointer" | "LookAtFlag" | "InstallBucket":
+        case "LoadPointer" | "LookAtFlag" | "AnnounceBucket" | "InstallBucket":
             return goes_on
         case "WriteValue":
             return goes_on or offer_ends
@@ -481,10 +487,10 @@ def clause_ids(m):
 
 @tries("every_walk", "comes", "begins")
 def clause_walk_comes(m):
-    """A walk begins fresh, and comes by its beginning alone."""
+    """A walk begins with what is announced and published, and comes by its beginning alone."""
     begins = model.begins_walk(m.event) and model.is_enabled(m.before, m.event)
     new = [(n, it) for n, it in walking(m.after) if live_walk(m.before, n) is None]
-    return new == ([(len(m.before.walks), model.SharedWalk())] if begins else [])
+    return new == ([(len(m.before.walks), model.begun_walk(m.before.table))] if begins else [])
 
 
 @tries("every_walk", "others", "ends")
@@ -498,7 +504,7 @@ def clause_walk_others(m):
 def clause_walk_goes_on(m):
     """A walk that isn't complete has a step that is enabled, and goes on after it."""
     enabled = all(
-        model.is_complete(it) or model.is_enabled(m.after, ("OfWalk", n, "Look" if it.looks else "Load")) for n, it in walking(m.after)
+        model.is_complete(it) or model.is_enabled(m.after, ("OfWalk", n, model.next_step(it))) for n, it in walking(m.after)
     )
     stepped = m.event[0] == "OfWalk" and live_walk(m.before, m.event[1]) is not None
     return enabled and (not stepped or live_walk(m.after, m.event[1]) is not None)
@@ -568,8 +574,10 @@ def needs(step, local):
             return looks and learnt == "Standing"
         case "MakeBucket":
             return doing == "Started" and learnt == "Missing"
+        case "AnnounceBucket":
+            return doing == "Private" and not local.doing[3]
         case "InstallBucket":
-            return doing == "Private"
+            return doing == "Private" and local.doing[3]
         case "WriteValue":
             return doing == "Started" and learnt == "Vacant"
         case "SetFlag":
@@ -612,6 +620,11 @@ def clause_step_asks(m):
     return as_needed(m, "MakeBucket", False) and as_needed(m, "MakeBucket", True)
 
 
+@tries("steps_happen", "announces")
+def clause_step_announces(m):
+    return as_needed(m, "AnnounceBucket")
+
+
 @tries("steps_happen", "installs")
 def clause_step_installs(m):
     return as_needed(m, "InstallBucket")
@@ -632,15 +645,15 @@ def clause_step_replies(m):
     return as_needed(m, "Reply")
 
 
-@tries("steps_happen", "walk_looks", "walk_loads")
+@tries("steps_happen", "walk_looks", "walk_loads", "walk_passes")
 def clause_walk_looks(m):
-    """A walk looks where its cursor says so, and else loads a pointer until it is complete."""
+    """A walk looks where its cursor says so. Else it loads the pointer of a bucket that was announced, and passes another."""
 
     def may(it, name):
-        return it.looks if name == "Look" else not it.looks and it.bucket < model.BUCKETS
+        return it.looks if name == "Look" else not it.looks and it.bucket < model.BUCKETS and it.announced[it.bucket] == (name == "Load")
 
     new = [(n, it) for n, it in walking(m.after) if live_walk(m.before, n) is not it]
-    steps = [(n, it, name) for n, it in new for name in ("Load", "Look")]
+    steps = [(n, it, name) for n, it in new for name in ("Pass", "Load", "Look")]
     return m.after.ended or all(model.is_enabled(m.after, ("OfWalk", n, name)) == may(it, name) for n, it, name in steps)
 
 
@@ -697,6 +710,21 @@ def clause_writes(m):
     return model.is_exclusive(m.event) or all(model.slot_at(new, k) == it for k, it in slots.items())
 
 
+@tries("events_change", "makes", "announces", "announced")
+def clause_makes(m):
+    """A call that has made its bucket knows whether it is announced, and where it isn't, announces that one and no other."""
+    made, announced = stepped(m, "MakeBucket"), stepped(m, "AnnounceBucket")
+    table = m.before.table
+    if made is not None and m.event[2] == ("MakeBucket", False):
+        own = bucket_of(made[0].id)
+        return made[1].doing == ("Private", made[0].doing[1], table.made, table.announced[own])
+    if announced is None:
+        return True
+    own = bucket_of(announced[0].id)
+    only = all(m.after.table.announced[b] == (b == own or table.announced[b]) for b in range(model.BUCKETS))
+    return only and announced[1].doing == (*announced[0].doing[:3], True)
+
+
 @tries("events_change", "installs_own", "installs")
 def clause_installs_own(m):
     """An install makes the bucket of its Local's id stand, and no other: where none stood, the one that the call has made."""
@@ -717,26 +745,32 @@ def clause_holds(m):
     return empty and (sets is None or sets[1].learnt == ("Holding", sets[0].doing[1]))
 
 
-@tries("every_walk", "load_moves", "look_moves")
-def clause_load_moves(m):
-    """A walk's cursor goes on by whether its bucket stands, and by whether its slot shows a value."""
+@tries("every_walk", "pass_moves", "load_moves", "look_moves")
+def clause_pass_moves(m):
+    """A pass leads to the next bucket, a load there or to the first slot, and a look to the next slot or bucket."""
     if m.event[0] != "OfWalk" or not model.is_enabled(m.before, m.event):
         return True
     it, then = live_walk(m.before, m.event[1]), live_walk(m.after, m.event[1])
     index = it.index + (m.event[2] == "Look")
-    if m.event[2] == "Look" and model.shadow(m.before).values[model.cursor_id(it)] is not None:
-        place = (it.bucket, index, False)
-    elif index == 2**it.bucket or not model.bucket_stands(m.before.table, it.bucket):
+    if m.event[2] == "Pass" or index == 2**it.bucket or not model.bucket_stands(m.before.table, it.bucket):
         place = (it.bucket + 1, 0, False)
     else:
         place = (it.bucket, index, True)
     return (then.bucket, then.index, then.looks) == place
 
 
-def clause_fresh(m):
-    """A walk begins at the first slot, with no load, and has read, given and seen nothing."""
+def clause_begun(m):
+    """A walk begins at the first slot, with what is announced and published, and has loaded, read and given nothing."""
     new = [it for n, it in walking(m.after) if live_walk(m.before, n) is None]
-    return all(it == model.SharedWalk(0, 0, False, (None,) * model.IDS, (), (), 0) for it in new)
+    table, values = m.before.table, model.shadow(m.before).values
+    return all(it == model.SharedWalk(0, 0, False, table.announced, values, (), (), 0) for it in new)
+
+
+@tries("words_say", "one_among", "none_among")
+def clause_one_among(m):
+    """The buckets among some are counted one by one."""
+    announced = m.after.table.announced
+    return all(model.buckets_among(announced[: b + 1]) == model.buckets_among(announced[:b]) + it for b, it in enumerate(announced))
 
 
 @tries("words_say", "no_moves", "take_moves", "give_moves", "publish_moves", "rewrite_moves", "drain_moves", "clear_moves")
@@ -807,7 +841,7 @@ def clause_newcomers(m):
 def clause_call_goes_on(m):
     """A call under way has a step that is enabled and brings it nearer to its end."""
     steps = [("LoadPointer",), ("LookAtFlag",), ("MakeBucket", False), ("MakeBucket", True)]
-    steps += [("InstallBucket",), ("WriteValue",), ("SetFlag",), ("Reply",)]
+    steps += [("AnnounceBucket",), ("InstallBucket",), ("WriteValue",), ("SetFlag",), ("Reply",)]
 
     def goes_on(n, it):
         after = [model.step(m.after, ("OfLocal", n, step)) for step in steps]
@@ -817,7 +851,7 @@ def clause_call_goes_on(m):
 
 
 def clause_few_steps(m):
-    return all(model.steps_left(it) <= under_way(it.doing)[0] + 5 for _, it in live(m.after))
+    return all(model.steps_left(it) <= under_way(it.doing)[0] + 6 for _, it in live(m.after))
 
 
 @tries("events_say", "loads")
@@ -852,6 +886,39 @@ def clause_installs(m):
     come = [b for b in range(model.BUCKETS) if model.bucket_stands(new, b) and not model.bucket_stands(old, b)]
     locals_ = stepped(m, "InstallBucket")
     return not come or (locals_ is not None and come == [bucket_of(locals_[0].id)])
+
+
+@tries("events_say", "announces", "stays_announced", "announced_before")
+def clause_announces(m):
+    """A bucket is announced by the step for it alone, before it stands, and stays so."""
+    old, new = m.before.table, m.after.table
+    come = [b for b in range(model.BUCKETS) if new.announced[b] and not old.announced[b]]
+    locals_ = stepped(m, "AnnounceBucket")
+    by_step = not come or (locals_ is not None and come == [bucket_of(locals_[0].id)])
+    stands = [b for b in range(model.BUCKETS) if model.bucket_stands(new, b) and not model.bucket_stands(old, b)]
+    stays = all(b >= a for a, b in zip(old.announced, new.announced))
+    return by_step and stays and all(old.announced[b] for b in stands)
+
+
+@tries("every_schedule", "announced", "first_announced")
+def clause_announced(m):
+    """Each bucket that stands is announced, and the first are so always."""
+    buckets = [b for b in range(model.BUCKETS) if b < model.ANNOUNCED_AT_FIRST or model.bucket_stands(m.after.table, b)]
+    return all(m.after.table.announced[b] for b in buckets)
+
+
+@tries("made_cores_fit", "announced")
+def clause_made_announced(m):
+    """Those of a new table and the reserved ones are announced, and no others."""
+    first = max(model.ANNOUNCED_AT_FIRST, model.binary_digits(m.capacity))
+    return all(it == (b < first) for b, it in enumerate(model.made_core(m.capacity, 0).table.announced))
+
+
+@tries("a_clear_keeps_the_reserved", "announced")
+@tries("a_drain_keeps_every_bucket", "announced")
+def clause_owners_announced(m):
+    """An owner's call leaves which buckets are announced."""
+    return not model.is_exclusive(m.event) or m.after.table.announced == m.before.table.announced
 
 
 def clause_fails(m):
@@ -1061,6 +1128,15 @@ WHOLE = {name[len("whole_") :]: it for name, it in list(globals().items()) if na
 
 
 def story():
+    """The story of the four Locals, in which the first seven buckets are announced, as in the specs."""
+    kept, model.ANNOUNCED_AT_FIRST = model.ANNOUNCED_AT_FIRST, 7
+    try:
+        return story_of_four()
+    finally:
+        model.ANNOUNCED_AT_FIRST = kept
+
+
+def story_of_four():
     """Four Locals publish in a new table, a walk gives the four, and the next Local finds the first again.
 
     Returns the part that breaks, if one does. It wants a table with room for four.
@@ -1116,7 +1192,7 @@ class Rewriter:
 def any_step(chance, mark):
     create = ("Ok", f"v{mark}") if chance.random() < 0.75 else ("Err", f"e{mark}")
     begins = [("BeginGet",), ("BeginGetOr", create), ("BeginGetOr", create)]
-    goes_on = [("LoadPointer",), ("LookAtFlag",), ("InstallBucket",), ("WriteValue",), ("SetFlag",), ("Reply",)]
+    goes_on = [("LoadPointer",), ("LookAtFlag",), ("AnnounceBucket",), ("InstallBucket",), ("WriteValue",), ("SetFlag",), ("Reply",)]
     return chance.choice(begins + goes_on * 2 + [("MakeBucket", chance.random() < 0.3)] * 2)
 
 
@@ -1137,7 +1213,7 @@ def random_event(chance, core, mark):
     if kind < 0.76:
         return ("BeginWalk",)
     if kind < 0.955:
-        return ("OfWalk", walk_number, chance.choice(["Load", "Look"]))
+        return ("OfWalk", walk_number, chance.choice(["Pass", "Load", "Look"]))
     if kind < 0.96:
         return ("EndWalk", walk_number)
     return ("Owner", owner_call(chance, mark))
@@ -1151,13 +1227,14 @@ def owner_call(chance, mark):
 
 def quiet_events(chance, core):
     """Events that let every Local and walk end, so that exclusive calls get their turn."""
-    steps = [("LoadPointer",), ("LookAtFlag",), ("MakeBucket", False), ("InstallBucket",), ("WriteValue",), ("SetFlag",), ("Reply",)]
+    steps = [("LoadPointer",), ("LookAtFlag",), ("MakeBucket", False), ("AnnounceBucket",), ("InstallBucket",), ("WriteValue",)]
+    steps += [("SetFlag",), ("Reply",)]
     events = []
     for n, _ in live(core):
         events += [("OfLocal", n, it) for _ in range(6) for it in steps]
         events.append(("GiveBack", n) if chance.random() < 0.9 else ("Forget", n))
     for n, _ in walking(core):
-        events += [("OfWalk", n, name) for _ in range(chance.choice([0, 40])) for name in ("Load", "Look")] + [("EndWalk", n)]
+        events += [("OfWalk", n, name) for _ in range(chance.choice([0, 40])) for name in ("Pass", "Load", "Look")] + [("EndWalk", n)]
     return events + [("Owner", owner_call(chance, "quiet")) for _ in range(chance.randrange(4))]
 
 
@@ -1364,15 +1441,15 @@ def more_wrong_bodies():
 
     def restarts_walks(core, number, step):
         after = right["local_step"](core, number, step)
-        return after if after is None else replace(after, walks=tuple(it and model.SharedWalk() for it in after.walks))
+        return after if after is None else replace(after, walks=tuple(it and model.begun_walk(after.table) for it in after.walks))
 
     def ends_table(core, number, step):
         after = right["local_step"](core, number, step)
         return after if after is None else replace(after, ended=True)
 
     def begins_complete(core):
-        fresh = model.SharedWalk(bucket=model.BUCKETS) if core.walks else model.SharedWalk()
-        return replace(core, walks=core.walks + (fresh,))
+        begun = model.begun_walk(core.table)
+        return replace(core, walks=core.walks + (replace(begun, bucket=model.BUCKETS) if core.walks else begun,))
 
     def ends_all(core, number):
         after = right["end_walk"](core, number)
@@ -1401,7 +1478,7 @@ def more_wrong_bodies():
     def renames_reserved(core):
         fresh = model.made_core(core.capacity, 0).table
         pointers = tuple(it and replace(it, number=it.number + core.table.made) for it in fresh.pointers)
-        return replace(right["cleared_core"](core), table=model.Table(pointers, core.table.made + fresh.made))
+        return replace(right["cleared_core"](core), table=model.Table(pointers, core.table.announced, core.table.made + fresh.made))
 
     def forgets_capacity(core):
         return replace(new_core(), room=core.room)
@@ -1532,7 +1609,7 @@ def wrong_effects():
 
     def begins_walk(core, number):
         after = right["forget"](core, number)
-        return after if after is None else replace(after, walks=after.walks + (model.SharedWalk(),))
+        return after if after is None else replace(after, walks=after.walks + (model.begun_walk(after.table),))
 
     def ends_any(core, number):
         return core if live_walk(core, number) is None else right["end_walk"](core, number)
@@ -1661,7 +1738,7 @@ def wrong_effects():
 
     def makes_anew(table):
         pointers = tuple(it and replace(it, number=it.number + table.made) for it in kept_drained(table).pointers)
-        return model.Table(pointers, 2 * table.made)
+        return model.Table(pointers, table.announced, 2 * table.made)
 
     def owners_drain(also):
         def owner_call(core, call):
@@ -1762,7 +1839,7 @@ def wrong_effects():
 
 def wrong_for_some():
     """Wrong bodies that are right for most ids, Locals, buckets or moments."""
-    right = {name: getattr(model, name) for name in ("give_back", "move_of", "answers", "is_alone")}
+    right = {name: getattr(model, name) for name in ("give_back", "move_of", "answers", "is_alone", "at_announced", "cleared")}
 
     def steps(**it):
         return {"LOCAL_STEPS": {**model.LOCAL_STEPS, **it}}
@@ -1828,8 +1905,35 @@ def wrong_for_some():
         after = model.set_flag(table, local)
         return after if after is None else (after[0], replace(after[1], learnt=("Vacant",)))
 
+    def installs_unknown(table, local):
+        unknown = local.doing[0] == "Private" and not local.doing[3]
+        return model.install_bucket(table, replace(local, doing=(*local.doing[:3], True)) if unknown else local)
+
+    def announces_all(table, local):
+        after = model.announce_bucket(table, local)
+        return after if after is None else (replace(table, announced=(True,) * model.BUCKETS), after[1])
+
+    def announces_nothing(table, local):
+        after = model.announce_bucket(table, local)
+        return after if after is None else (table, after[1])
+
+    def never_known(table, local, refused):
+        after = model.make_bucket(table, local, refused)
+        return after if after is None or refused else (after[0], replace(after[1], doing=(*after[1].doing[:3], False)))
+
+    def loads_word(table, it):
+        after = model.walk_load(table, it)
+        return after if after is None else replace(after, announced=table.announced)
+
+    def counts_passed(table, it):
+        after = model.walk_pass(table, it)
+        return after if after is None else replace(after, loads=it.loads + 1)
+
+    def clears_announced(table, capacity):
+        return replace(right["cleared"](table, capacity), announced=model.made_core(capacity, 0).table.announced)
+
     def begins_with_load(core):
-        return replace(core, walks=core.walks + (model.SharedWalk(loads=1),))
+        return replace(core, walks=core.walks + (replace(model.begun_walk(core.table), loads=1),))
 
     return {
         "an owner calls only while the peak is below five": {"is_alone": lambda core: right["is_alone"](core) and len(core.held) < 5},
@@ -1838,9 +1942,19 @@ def wrong_for_some():
         "a missing bucket is never looked for again": steps(LoadPointer=loads_once),
         "memory is asked for only where the bucket is missing by now": steps(MakeBucket=asks_where_missing),
         "a walk begins with one load counted": {"begin_walk": begins_with_load},
-        "a walk passes by what wasn't published at its first load": walks(Look=passes_by),
+        "a walk passes by what wasn't published when it began": walks(Look=passes_by),
         "a value is shown when it is written": {"value_of": shows_written, "all_published": all_written},
         "a call at ids from four on publishes nothing": {"move_of": moves_below, **steps(SetFlag=publishes_below)},
+        "an install needs no announcement": steps(InstallBucket=installs_unknown),
+        "an announcement announces every bucket": steps(AnnounceBucket=announces_all),
+        "an announcement announces nothing": steps(AnnounceBucket=announces_nothing),
+        "no call knows its bucket to be announced before it announces it": steps(MakeBucket=never_known),
+        "a walk skips the third bucket": {"at_announced": lambda it: it.bucket != 2 and right["at_announced"](it)},
+        "a walk may skip an announced bucket": walks(Pass=lambda table, it: model.at_next_bucket(it) if model.may_load(it) else None),
+        "a walk loads every pointer": {"at_announced": lambda it: True},
+        "a walk loads what is announced again": walks(Load=loads_word),
+        "a pass is counted as a load": walks(Pass=counts_passed),
+        "a clear begins what is announced anew": {"cleared": clears_announced},
         "an install installs the next bucket": steps(InstallBucket=installs_next),
         "an install from bucket two on installs nothing": steps(InstallBucket=installs_few),
         "a publishing call forgets what it has published": steps(SetFlag=learns_nothing),
@@ -1966,7 +2080,7 @@ def local_change(before, after):
     if after.doing != before.doing:
         gets, create = under_way(after.doing)
         said += {
-            "Private": [f"own bucket {after.doing[-1]}"],
+            "Private": ["knows it to be announced"] if before.doing[0] == "Private" else [f"own bucket {it}" for it in after.doing[2:3]],
             "Written": ["has written"],
             "Started": [] if before.doing[0] == "Private" else [f"publishing {create and create[1]}"],
             "Gets": [f"{gets} gets"] if gets else [],
@@ -1992,7 +2106,7 @@ def slot_text(slot):
 
 def table_change(before, after):
     """What a step changed of the table that threads share."""
-    said = []
+    said = [f"bucket {b} is announced" for b, it in enumerate(after.announced) if it and not before.announced[b]]
     for bucket, (old, new) in enumerate(zip(before.pointers, after.pointers)):
         if old is None and new is not None:
             said.append(f"pointer {bucket} leads to bucket {new.number}")
@@ -2022,7 +2136,8 @@ def race(seed):
     chance, core, begun = random.Random(seed), new_core(), set()
     events = [("TakeId", False, 0)] * 3
     core = model.run(core, events)
-    steps = [("LoadPointer",), ("LookAtFlag",), ("MakeBucket", False), ("InstallBucket",), ("WriteValue",), ("SetFlag",), ("Reply",)]
+    steps = [("LoadPointer",), ("LookAtFlag",), ("MakeBucket", False), ("AnnounceBucket",), ("InstallBucket",), ("WriteValue",)]
+    steps += [("SetFlag",), ("Reply",)]
     while True:
         menu = []
         for n in (1, 2):
@@ -2035,7 +2150,7 @@ def race(seed):
         if not core.walks:
             menu.append(("BeginWalk",))
         elif it is not None:
-            menu.append(("EndWalk", 0) if model.is_complete(it) else ("OfWalk", 0, "Look" if it.looks else "Load"))
+            menu.append(("EndWalk", 0) if model.is_complete(it) else ("OfWalk", 0, model.next_step(it)))
         if not menu:
             return events
         event = chance.choice(menu)

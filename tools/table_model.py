@@ -4,10 +4,11 @@ Each event of a schedule is a tuple: ("TakeId", refused, growth), ("OfLocal", nu
 ("Forget", number), ("BeginWalk",), ("OfWalk", number, step), ("EndWalk", number), ("Owner", call).
 """
 
-from dataclasses import dataclass, field, replace
+from dataclasses import dataclass, replace
 
 BUCKETS = 3
 IDS = 2**BUCKETS - 1
+ANNOUNCED_AT_FIRST = 1  # 7 in the specs: with few buckets too some have to be announced
 
 # The names that are these scripts' own; all others stand in the specs, where a type such as `IsAlone` may be a `is_alone` here.
 OWN = {"set_buckets", "with_pointer", "all_published", "known_value", "live_local", "live_walk", "with_local", "cleared_core"}
@@ -176,6 +177,7 @@ def fresh_bucket(bucket, number):
 @dataclass(frozen=True)
 class Table:
     pointers: tuple  # for each bucket None, or the bucket that its pointer leads to
+    announced: tuple  # for each bucket whether it is
     made: int
 
 
@@ -203,6 +205,10 @@ def with_pointer(table, bucket, named):
     return replace(table, pointers=table.pointers[:bucket] + (named,) + table.pointers[bucket + 1 :])
 
 
+def with_announced(table, bucket):
+    return replace(table, announced=table.announced[:bucket] + (True,) + table.announced[bucket + 1 :])
+
+
 def with_table_slot(table, identity, slot):
     b, i = bucket_of(identity), index_of(identity)
     named = table.pointers[b]
@@ -219,7 +225,7 @@ def slots(table):
 class Local:
     id: int
     learnt: tuple  # Unknown, Missing, Standing, Vacant, Holding value
-    doing: tuple  # Gets count, Started create, Private create number, Written value
+    doing: tuple  # Gets count, Started create, Private create number announced, Written value
     start: View
     calls: tuple = ()
     answers: tuple = ()
@@ -227,10 +233,11 @@ class Local:
 
 @dataclass(frozen=True)
 class SharedWalk:
-    bucket: int = 0
-    index: int = 0
-    looks: bool = False
-    first: tuple = field(default_factory=lambda: (None,) * IDS)
+    bucket: int
+    index: int
+    looks: bool
+    announced: tuple  # for each bucket whether it was when the walk began
+    first: tuple  # what was published then, by id
     given: tuple = ()  # newest first, pairs of id and value
     read: tuple = ()
     loads: int = 0
@@ -250,7 +257,8 @@ class Core:
 def made_core(capacity, extra):
     digits = binary_digits(capacity)
     pointers = tuple(fresh_bucket(b, b) if b < digits else None for b in range(BUCKETS))
-    return Core((), capacity + extra, capacity, Table(pointers, digits))
+    announced = tuple(b < max(ANNOUNCED_AT_FIRST, digits) for b in range(BUCKETS))
+    return Core((), capacity + extra, capacity, Table(pointers, announced, digits))
 
 
 def new_core():
@@ -335,12 +343,19 @@ def make_bucket(table, local, refused):
         case ("Started", create), ("Missing",):
             if refused:
                 return table, after_call(local, ("GetOr", create, True), ("Refused",), ("Missing",), ("Gets", 0))
-            return replace(table, made=table.made + 1), replace(local, doing=("Private", create, table.made))
+            doing = ("Private", create, table.made, table.announced[bucket_of(local.id)])
+            return replace(table, made=table.made + 1), replace(local, doing=doing)
+
+
+def announce_bucket(table, local):
+    match local.doing:
+        case ("Private", create, number, False):
+            return with_announced(table, bucket_of(local.id)), replace(local, doing=("Private", create, number, True))
 
 
 def install_bucket(table, local):
     match local.doing, local.learnt:
-        case ("Private", create, number), ("Missing",):
+        case ("Private", create, number, True), ("Missing",):
             b = bucket_of(local.id)
             after = table if bucket_stands(table, b) else with_pointer(table, b, fresh_bucket(b, number))
             return after, replace(local, learnt=("Vacant",), doing=("Started", create))
@@ -386,6 +401,7 @@ LOCAL_STEPS = {
     "LoadPointer": load_pointer,
     "LookAtFlag": look_at_flag,
     "MakeBucket": make_bucket,
+    "AnnounceBucket": announce_bucket,
     "InstallBucket": install_bucket,
     "WriteValue": write_value,
     "SetFlag": set_flag,
@@ -419,9 +435,9 @@ def steps_left(local):
         case ("Gets", count):
             return count + {"Unknown": 2, "Standing": 1}.get(local.learnt[0], 0)
         case ("Started", _):
-            return {"Unknown": 5, "Missing": 4, "Standing": 3, "Vacant": 2, "Holding": 1}[local.learnt[0]]
-        case ("Private", _, _):
-            return 3
+            return {"Unknown": 6, "Missing": 5, "Standing": 3, "Vacant": 2, "Holding": 1}[local.learnt[0]]
+        case ("Private", _, _, announced):
+            return 3 if announced else 4
         case ("Written", _):
             return 1
 
@@ -464,11 +480,23 @@ def at_place(walking):
     return at_next_bucket(walking) if walking.index == 2**walking.bucket else replace(walking, looks=True)
 
 
+def may_load(walking):
+    return not walking.looks and not is_complete(walking)
+
+
+def at_announced(walking):
+    """Whether the bucket at the walk's cursor was announced when the walk began."""
+    return walking.announced[walking.bucket]
+
+
+def walk_pass(table, walking):
+    return at_next_bucket(walking) if may_load(walking) and not at_announced(walking) else None
+
+
 def walk_load(table, walking):
-    if walking.looks or is_complete(walking):
+    if not may_load(walking) or not at_announced(walking):
         return None
-    first = all_published(table) if walking.loads == 0 else walking.first
-    loaded = replace(walking, loads=walking.loads + 1, first=first)
+    loaded = replace(walking, loads=walking.loads + 1)
     return at_place(loaded) if bucket_stands(table, walking.bucket) else at_next_bucket(loaded)
 
 
@@ -477,13 +505,24 @@ def walk_look(table, walking):
         return None
     here = cursor_id(walking)
     value = value_of(slot_of(table.pointers[walking.bucket], walking.index))
-    looked = replace(walking, read=(here,) + walking.read, index=walking.index + 1)
-    if value is None:
-        return at_place(looked)
-    return replace(looked, given=((here, value),) + walking.given, looks=False)
+    given = walking.given if value is None else ((here, value),) + walking.given
+    return at_place(replace(walking, read=(here,) + walking.read, given=given, index=walking.index + 1))
 
 
-WALK_STEPS = {"Load": walk_load, "Look": walk_look}
+WALK_STEPS = {"Pass": walk_pass, "Load": walk_load, "Look": walk_look}
+
+
+def next_step(walking):
+    return "Look" if walking.looks else "Load" if at_announced(walking) else "Pass"
+
+
+def buckets_among(these):
+    """How many buckets are among these."""
+    return sum(these)
+
+
+def begun_walk(table):
+    return SharedWalk(0, 0, False, table.announced, all_published(table))
 
 
 def live_walk(core, number):
@@ -495,7 +534,7 @@ def with_walk(core, number, walking):
 
 
 def begin_walk(core):
-    return replace(core, walks=core.walks + (SharedWalk(),))
+    return replace(core, walks=core.walks + (begun_walk(core.table),))
 
 
 def walk_step(core, number, step):
@@ -635,7 +674,7 @@ def four_publish(four):
 
 
 def whole_walk():
-    return [("BeginWalk",)] + [("OfWalk", 0, name) for _ in range(70) for name in ("Load", "Look")]
+    return [("BeginWalk",)] + [("OfWalk", 0, name) for _ in range(70) for name in ("Pass", "Load", "Look")]
 
 
 def four_give_back():

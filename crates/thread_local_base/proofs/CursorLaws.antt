@@ -15,7 +15,7 @@ fresh_cursor-fits = record {
   within = omega arith;
   looks_in_table = λ t. cc;
   looks_inside = λ t. cc;
-  complete = λ e. refl;
+  at_first = λ e. refl;
 }
 
 at_next_bucket-fits : (cursor : Cursor) → cursor.bucket < 63 → CursorFits (at_next_bucket cursor)
@@ -24,7 +24,7 @@ at_next_bucket-fits cursor low = record {
   within = omega arith;
   looks_in_table = λ t. cc;
   looks_inside = λ t. cc;
-  complete = λ e. refl;
+  at_first = λ e. refl;
 }
 
 at_place-fits : (cursor : Cursor) → cursor.bucket < 63 → cursor.index ≤ 2 ^ cursor.bucket → CursorFits (at_place cursor)
@@ -38,7 +38,7 @@ at_place-fits cursor low within =
       within = within;
       looks_in_table = λ t. low;
       looks_inside = λ t. omega arith;
-      complete = λ e. absurd (omega arith);
+      at_first = λ e. cc;
     })
 
 -- a walk that loads next is at one of the 63 buckets
@@ -57,16 +57,7 @@ after_load-fits cursor false h t = at_next_bucket-fits cursor (loads_below curso
 
 pub after_look-fits : (cursor : Cursor) (published : Bool) → CursorFits cursor → IsTrue cursor.looks
     → CursorFits (after_look cursor published)
-after_look-fits cursor true h t =
-    let low = h.looks_in_table t in
-    record {
-      in_table = h.in_table;
-      within = h.looks_inside t;
-      looks_in_table = λ f. cc;
-      looks_inside = λ f. cc;
-      complete = λ e. absurd (omega arith);
-    }
-after_look-fits cursor false h t = at_place-fits (record cursor { index = suc cursor.index }) (h.looks_in_table t) (h.looks_inside t)
+after_look-fits cursor published h t = at_place-fits (record cursor { index = suc cursor.index }) (h.looks_in_table t) (h.looks_inside t)
 
 -- the end of a bucket is the beginning of the next
 next_bucket-id : (bucket : ℕ) → id_at (suc bucket) 0 ≡ id_at bucket (2 ^ bucket)
@@ -88,8 +79,7 @@ never_lower cursor false h =
     omega arith
 
 pub after_look-id : (cursor : Cursor) (published : Bool) → cursor_id (after_look cursor published) ≡ suc (cursor_id cursor)
-after_look-id cursor true = omega arith
-after_look-id cursor false = let same = at_place-id (record cursor { index = suc cursor.index }) in omega arith
+after_look-id cursor published = let same = at_place-id (record cursor { index = suc cursor.index }) in omega arith
 
 pub place : (cursor : Cursor) → CursorFits cursor → IsTrue cursor.looks
     → (bucket_of (cursor_id cursor) ≡ cursor.bucket) × (index_of (cursor_id cursor) ≡ cursor.index)
@@ -99,14 +89,27 @@ is_past : (within : Bool) → IsTrue (cond within false true) → within ≡ fal
 is_past true t = absurd (false≢true t)
 is_past false t = refl
 
--- a complete walk is at the id after the last
-pub complete_id : (cursor : Cursor) → CursorFits cursor → IsTrue (is_complete cursor) → cursor_id cursor ≡ 2 ^ 63 - 1
-complete_id cursor h t =
-    let past : 63 ≤ cursor.bucket = ltb-false cursor.bucket 63 (is_past (nat_lt cursor.bucket 63) t) in
+-- past the last bucket a walk doesn't look
+looks_not : (cursor : Cursor) → CursorFits cursor → 63 ≤ cursor.bucket → cursor.looks ≡ false
+looks_not cursor h past = unlooked cursor.looks h.looks_in_table
+  where
+    unlooked : (looks : Bool) → (IsTrue looks → cursor.bucket < 63) → looks ≡ false
+    unlooked true low = let low' = low refl in absurd (omega arith)
+    unlooked false low = refl
+
+-- a well-formed cursor past the last bucket is at the first id past the last
+last_id : (cursor : Cursor) → CursorFits cursor → nat_lt cursor.bucket 63 ≡ false → cursor_id cursor ≡ 2 ^ 63 - 1
+last_id cursor h f =
+    let past : 63 ≤ cursor.bucket = ltb-false cursor.bucket 63 f in
     let low = h.in_table in
     let last : cursor.bucket ≡ 63 = omega arith in
     let power : 2 ^ cursor.bucket ≡ 2 ^ 63 = ap (λ k. 2 ^ k) last in
-    omega (arith, h.complete last)
+    let first : cursor.index ≡ 0 = h.at_first (looks_not cursor h past) in
+    omega arith
+
+-- a complete walk is at the id after the last
+pub complete_id : (cursor : Cursor) → CursorFits cursor → IsTrue (is_complete cursor) → cursor_id cursor ≡ 2 ^ 63 - 1
+complete_id cursor h t = last_id cursor h (is_past (nat_lt cursor.bucket 63) t)
 
 pub bounded : (cursor : Cursor) → CursorFits cursor → cursor_id cursor ≤ 2 ^ 63 - 1
 bounded cursor h =
@@ -118,9 +121,4 @@ bounded cursor h =
     let some = pow_pos cursor.bucket in
     let within = h.within in
     omega arith)
-    (λ f.
-    let past : 63 ≤ cursor.bucket = ltb-false cursor.bucket 63 f in
-    let low = h.in_table in
-    let last : cursor.bucket ≡ 63 = omega arith in
-    let power : 2 ^ cursor.bucket ≡ 2 ^ 63 = ap (λ k. 2 ^ k) last in
-    omega (arith, h.complete last))
+    (λ f. let last = last_id cursor h f in omega arith)

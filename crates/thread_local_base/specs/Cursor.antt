@@ -39,17 +39,16 @@ abbrev pub after_load : Cursor → Bool → Cursor
 after_load cursor true = at_place cursor
 after_load cursor false = at_next_bucket cursor
 
--- the cursor after a look, by whether the flag was set: if so, the walk gives the value and loads
--- the pointer next; else it goes on in the bucket
+-- the cursor after a look: whether or not the flag was set, the walk keeps the bucket's pointer and
+-- goes on in the bucket
 abbrev pub after_look : Cursor → Bool → Cursor
-after_look cursor true = record cursor { index = suc cursor.index; looks = false }
-after_look cursor false = at_place (record cursor { index = suc cursor.index })
+after_look cursor published = at_place (record cursor { index = suc cursor.index })
 
 -- A cursor is well-formed: it is in its bucket or at its end, it looks only inside a bucket, and
--- past the last bucket it is at index 0.
+-- where it doesn't look it is at index 0.
 pub record CursorFits (cursor : Cursor) : Type 0 where
   pub in_table : cursor.bucket ≤ 63
   pub within : cursor.index ≤ 2 ^ cursor.bucket
   pub looks_in_table : IsTrue cursor.looks → cursor.bucket < 63
   pub looks_inside : IsTrue cursor.looks → cursor.index < 2 ^ cursor.bucket
-  pub complete : cursor.bucket ≡ 63 → cursor.index ≡ 0
+  pub at_first : cursor.looks ≡ false → cursor.index ≡ 0

@@ -1,6 +1,6 @@
 -- How many values the flags of a chunk count.
 use Rattle.std.proofs.Common.{◌≡◌, ◌≢◌, ◌⊎◌, inl, inr, ℕ, ◌+◌, ◌-◌, ◌*◌, ◌/◌, ◌%◌, ◌^◌, ◌<◌, ◌≤◌, min, length}
-use Rattle.std.proofs.Common.{zero, suc, [], count_ones, is_some, ap, subst, ◌∙◌, arith, ⊎_elim}
+use Rattle.std.proofs.Common.{zero, suc, [], count_ones, is_some, sym, ap, subst, ◌∙◌, arith, ⊎_elim}
 use Rattle.std.proofs.lemmas.Bool.{cases_lt}
 use Rattle.std.proofs.lemmas.Nat.{pow_below, pow-add, zero_from_ones}
 use Rattle.thread_local_base.specs.Bits.{is_set}
@@ -8,7 +8,10 @@ use Rattle.thread_local_base.specs.Place.{id_at}
 use Rattle.thread_local_base.specs.Buckets.{Contents, row, values}
 use Rattle.thread_local_base.specs.Rows.{value_in}
 use Rattle.thread_local_base.specs.Counting.{count_below}
-use Rattle.thread_local_base.proofs.TakingLaws.{count_below-absent}
+use Rattle.thread_local_base.specs.Walk.{walk}
+use Rattle.thread_local_base.proofs.TakingLaws.{count_below-absent, count_below-fits, count_below-walk}
+use Rattle.thread_local_bucket_pointers.specs.Announced.{AreAhead}
+use Rattle.thread_local_bucket_pointers.proofs.Passing.{Takes, none_ahead}
 use Rattle.thread_local_bucket_pointers.proofs.CountingLaws.{count_below-chunk}
 
 module _ {V : Type 0} (first now : Contents V) (b k word : ℕ) (same : now ≡ first)
@@ -85,3 +88,60 @@ counted_at_first now first b n same counted =
     subst (λ (w : Contents _).
     count_below (values w) (id_at b 0) + n ≡ count_below (values w) (id_at (b + 1) 0))
     same counted
+
+-- a loop over announced buckets has counted the values of those that it has taken out of the word
+pub record IsCounted {V : Type 0} (contents : Contents V) (left count : ℕ) : Type 0 where
+  pub from : ℕ
+  pub low : from ≤ 63
+  pub ahead : AreAhead contents left from
+  pub counted : count ≡ count_below (values contents) (id_at from 0)
+
+module _ {V : Type 0} where
+  -- the values up to the bucket that the loop takes next
+  counted_up : (c : Contents V) (count rest from b : ℕ) → Takes c rest from b → count ≡ count_below (values c) (id_at from 0)
+      → count ≡ count_below (values c) (id_at b 0)
+  counted_up c count rest from b taken counted =
+      let order = taken.after in
+      let whole : from + (b - from) ≡ b = omega arith in
+      counted
+      ∙ sym (absent_counted c from (b - from) (λ k after near. taken.absent k after (omega (arith, near))))
+      ∙ ap (λ k. count_below (values c) (id_at k 0)) whole
+
+  -- the loop takes a bucket that stands
+  pub counted_more : (now c : Contents V) (count more left rest b : ℕ) (so : IsCounted c left count) → Takes c rest so.from b
+      → now ≡ c → count_below (values now) (id_at b 0) + more ≡ count_below (values now) (id_at (b + 1) 0)
+      → IsCounted c rest (count + more)
+  counted_more now c count more left rest b so taken same here =
+      let before = counted_up c count rest so.from b taken so.counted in
+      let first = counted_at_first now c b more same here in
+      record {
+        from = b + 1;
+        low = (let low = taken.in_table in omega arith);
+        ahead = taken.ahead;
+        counted = omega (arith, before, first);
+      }
+
+  -- or one that doesn't
+  pub counted_absent : (c : Contents V) (count left rest b : ℕ) (so : IsCounted c left count) → Takes c rest so.from b
+      → row c b ≡ [] → IsCounted c rest count
+  counted_absent c count left rest b so taken absent = record {
+    from = b + 1;
+    low = (let low = taken.in_table in omega arith);
+    ahead = taken.ahead;
+    counted = counted_up c count rest so.from b taken so.counted ∙ sym (count_below-absent c b absent);
+  }
+
+  pub counted_fits : (c : Contents V) (left count : ℕ) → IsCounted c left count → count < 2 ^ 63
+  counted_fits c left count so =
+      let fits = count_below-fits (values c) so.from so.low in omega (arith, fits, so.counted)
+
+  -- where no bucket is left, all values are counted
+  pub counted_all : (c : Contents V) (left count : ℕ) → IsCounted c left count → left ≡ 0 → count ≡ length (walk (values c))
+  counted_all c left count so none =
+      let low = so.low in
+      let end : so.from + (63 - so.from) ≡ 63 = omega arith in
+      so.counted
+      ∙ sym (absent_counted c so.from (63 - so.from)
+      (λ k after near. none_ahead c left so.from so.ahead none k after (omega (arith, near))))
+      ∙ ap (λ k. count_below (values c) (id_at k 0)) end
+      ∙ count_below-walk (values c)

@@ -1,8 +1,6 @@
 -- How a walk finds its next value by the flags of 64 slots at a time.
 use Rattle.std.proofs.Common.{◌≡◌, ℕ, zero, suc, ◌+◌, ◌*◌, ◌/◌, ◌%◌, ◌^◌, ◌<◌, ◌≤◌, true, false, length, None, is_some}
 use Rattle.std.proofs.Common.{refl, ap, sym, ◌∙◌, subst, arith, ⊎_elim, true≢false, w64, ◌-◌}
-use Rattle.std.proofs.Common.{add-one}
-use Rattle.std.proofs.Math.Nat.{two-pow-succ}
 use Rattle.std.specs.Int.{trailing_zeros}
 use Rattle.std.proofs.lemmas.List.{get_or_past}
 use Rattle.std.proofs.lemmas.Bool.{cases_lt}
@@ -12,7 +10,7 @@ use Rattle.thread_local_base.specs.Place.{id_at}
 use Rattle.thread_local_base.specs.Buckets.{Contents, row, values}
 use Rattle.thread_local_base.specs.Rows.{value_in}
 use Rattle.thread_local_base.specs.Owner.{NoneBelow}
-use Rattle.thread_local_bucket_pointers.specs.Cursor.{AreFlagsAt, IsAt}
+use Rattle.thread_local_bucket_pointers.specs.Cursor.{at_bucket, AreFlagsAt, IsAt}
 use Rattle.thread_local_bucket_pointers.specs.declared.cursor.RawIter.{RawIter}
 use Rattle.thread_local_base.proofs.TakingLaws.{NoneBelow-slot}
 
@@ -136,13 +134,11 @@ module _ {V : Type 0} where
         none = λ start. absurd (omega arith);
       }
 
-  -- past the end of a bucket, a walk is at the first slot of the next
-  pub at_next_bucket : (c : Contents V) (raw : RawIter) (b size : ℕ) → size ≡ 2 ^ b → b + 1 < 63
-      → NoneBelow (values c) (id_at (b + 1) 0)
-      → IsAt c (record { yielded = raw.yielded; bucket = b + 1; bucket_size = size * 2; index = 0 }) 0
-  at_next_bucket c raw b size whole low none = record {
+  -- a walk at the first slot of a bucket has read none of its flags
+  pub at_start : (c : Contents V) (raw : RawIter) (b : ℕ) → b < 63 → NoneBelow (values c) (id_at b 0) → IsAt c (at_bucket raw b) 0
+  at_start c raw b low none = record {
     in_table = low;
-    size = (let twice : 2 ^ (b + 1) ≡ 2 ^ b + 2 ^ b = rw add-one (two-pow-succ b) in omega arith);
+    size = refl;
     round = omega arith;
     within = omega arith;
     behind = λ id below. none id (omega arith);

@@ -1,5 +1,7 @@
 pub mod Lent
 pub mod ContentsOf
+pub mod Announcing
+pub mod Passing
 pub mod Clearing
 pub mod Counting
 pub mod PointerSteps

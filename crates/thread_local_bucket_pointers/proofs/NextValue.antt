@@ -1,6 +1,7 @@
 -- The walk and the contents once the walk has passed its next value.
 use Rattle.std.proofs.Common.{◌≡◌, ◌≢◌, ℕ, ◌+◌, ◌-◌, ◌*◌, ◌/◌, ◌%◌, ◌^◌, ◌<◌, ◌≤◌, false, length, ◌∷◌, Option, Some}
 use Rattle.std.proofs.Common.{None, is_some, IsSome, count_ones, set, refl, ap, sym, ◌∙◌, arith, ⊎_elim}
+use Rattle.std.specs.Prelude.{nat_lt}
 use Rattle.std.specs.Int.{w64, trailing_zeros}
 use Rattle.std.proofs.lemmas.Bool.{cases_eq, eq-eqb, ne_eqb, cases_lt}
 use Rattle.std.proofs.lemmas.Nat.{zero_from_ones}
@@ -20,11 +21,13 @@ use Rattle.thread_local_base.specs.Counting.{count_below}
 use Rattle.thread_local_bucket_pointers.specs.declared.cursor.RawIter.{RawIter}
 use Rattle.thread_local_bucket_pointers.specs.declared.cursor.OwnerCursor.{OwnerCursor}
 use Rattle.thread_local_bucket_pointers.specs.Cursor.{read_to, values_left, AreFlagsAt, IsAt, IsOwnerWalk}
+use Rattle.thread_local_bucket_pointers.specs.Announced.{AreAhead}
+use Rattle.thread_local_bucket_pointers.proofs.Passing.{AreAhead-same}
 use Rattle.thread_local_bucket_pointers.proofs.Slots.{value_of as held_value}
 
 -- the cursor with other flags to pass
 abbrev pub past : OwnerCursor → ℕ → OwnerCursor
-past cursor rest = record { raw = cursor.raw; read = cursor.read; rest = rest; later = cursor.later }
+past cursor rest = record { raw = cursor.raw; read = cursor.read; rest = rest; later = cursor.later; left = cursor.left }
 
 -- a walk passes the value of a slot, and goes on with the flags that are left
 pub record Passes {V : Type 0} (c : Contents V) (cursor : OwnerCursor) (rest given index : ℕ) : Type 0 where
@@ -47,12 +50,13 @@ is_none None e h = cc
 is_none (Some v) e h = cc
 
 -- the cursor once it has read flags
-abbrev pub behind_flags : OwnerCursor → RawIter → ℕ → OwnerCursor
-behind_flags cursor raw flags = record {
+abbrev pub behind_flags : OwnerCursor → RawIter → ℕ → ℕ → OwnerCursor
+behind_flags cursor raw flags buckets = record {
   raw = record { yielded = raw.yielded + count_ones flags; bucket = raw.bucket; bucket_size = raw.bucket_size; index = raw.index };
   read = flags;
   rest = flags;
   later = cursor.later - count_ones flags;
+  left = buckets;
 }
 
 -- flags that are 0 have no value
@@ -156,6 +160,8 @@ module _ {V : Type 0} where
         flags = flags;
         on = record {
           at = on;
+          announced = AreAhead-same c after cursor.left (b + 1)
+              (λ k. ap (nat_lt 0) (length-row-with_slot c b i k None)) walks.announced;
           counted = omega (arith, left, one, counted);
           few = omega (arith, left, one, counted, few);
           fits = walks.fits;
@@ -170,14 +176,15 @@ module _ {V : Type 0} where
       → count_ones flags ≤ cursor.later
   flags_few c cursor raw flags walks none fits at = omega (arith, few_at_hand c raw flags fits at, walks.counted, no_ones cursor.rest none)
 
-  pub reads_on : (c : Contents V) (cursor : OwnerCursor) (raw : RawIter) (flags : ℕ)
+  pub reads_on : (c : Contents V) (cursor : OwnerCursor) (raw : RawIter) (flags buckets : ℕ)
       → IsOwnerWalk c cursor → cursor.rest ≡ 0 → flags < 2 ^ 64 → IsAt c raw flags
-      → raw.yielded ≡ cursor.raw.yielded
-      → IsOwnerWalk c (behind_flags cursor raw flags) × (values_left (behind_flags cursor raw flags) ≡ values_left cursor)
-  reads_on c cursor raw flags walks none fits at yielded =
+      → AreAhead c buckets (raw.bucket + 1) → raw.yielded ≡ cursor.raw.yielded
+      → IsOwnerWalk c (behind_flags cursor raw flags buckets)
+      × (values_left (behind_flags cursor raw flags buckets) ≡ values_left cursor)
+  reads_on c cursor raw flags buckets walks none fits at announced yielded =
       let few = flags_few c cursor raw flags walks none fits at in
       let nothing = no_ones cursor.rest none in
-      let left : values_left (behind_flags cursor raw flags) ≡ values_left cursor = omega (arith, few, nothing) in (
+      let left : values_left (behind_flags cursor raw flags buckets) ≡ values_left cursor = omega (arith, few, nothing) in (
         record {
           at = record {
             in_table = at.in_table;
@@ -189,6 +196,7 @@ module _ {V : Type 0} where
             flags = at.flags;
             none = at.none;
           };
+          announced = announced;
           counted = left ∙ walks.counted;
           few = omega (arith, left, walks.few);
           fits = omega (arith, few, walks.fits, yielded);

@@ -6,12 +6,17 @@ use Rattle.thread_local_base.specs.Buckets.{Contents, row, values}
 use Rattle.thread_local_base.specs.Rows.{value_in}
 use Rattle.thread_local_base.specs.Walk.{walk}
 use Rattle.thread_local_base.specs.Owner.{NoneBelow}
+use Rattle.thread_local_bucket_pointers.specs.Announced.{AreAhead}
 use Rattle.thread_local_bucket_pointers.specs.declared.cursor.RawIter.{RawIter}
 use Rattle.thread_local_bucket_pointers.specs.declared.cursor.OwnerCursor.{OwnerCursor}
 
 -- the walk at the first slot of the next bucket
 abbrev pub next_bucket : RawIter → RawIter
 next_bucket raw = record { yielded = raw.yielded; bucket = raw.bucket + 1; bucket_size = raw.bucket_size * 2; index = 0 }
+
+-- the walk at the first slot of a bucket
+abbrev pub at_bucket : RawIter → ℕ → RawIter
+at_bucket raw bucket = record { yielded = raw.yielded; bucket = bucket; bucket_size = 2 ^ bucket; index = 0 }
 
 -- these are the flags of the chunk that a place is in, a bit each
 abbrev pub AreFlagsAt : {V : Type 0} → Contents V → ℕ → ℕ → ℕ → Type 0
@@ -46,6 +51,7 @@ pub record IsAt {V : Type 0} (contents : Contents V) (raw : RawIter) (rest : ℕ
 -- the walk has as many values to come as the cursor says
 pub record IsOwnerWalk {V : Type 0} (contents : Contents V) (cursor : OwnerCursor) : Type 0 where
   pub at : IsAt contents cursor.raw cursor.rest
+  pub announced : AreAhead contents cursor.left (cursor.raw.bucket + 1)
   pub counted : values_left cursor ≡ length (walk (values contents))
   pub few : values_left cursor < 2 ^ 63
   pub fits : cursor.raw.yielded + cursor.later < 2 ^ 63

@@ -1,3 +1,4 @@
+pub mod Announced
 pub mod Clearing
 pub mod Pointers
 pub mod LentValue

@@ -3,10 +3,12 @@ ghost use Rattle.std.specs.Prelude.{◌≡◌, ℕ, ◌+◌, ◌*◌, ◌^◌, �
 ghost use Rattle.thread_local_base.specs.Bits.{is_set};
 ghost use Rattle.thread_local_base.specs.Buckets.{row, stands, no_contents, IsTable};
 ghost use Rattle.thread_local_base.specs.Rows.{value_in, with_row, with_slot, empty_row};
+ghost use Rattle.thread_local_bucket_pointers.specs.Announced.{Announces, AreAhead};
 ghost use Rattle.thread_local_bucket_pointers.specs.Cursor.{AreFlagsAt};
 
+use crate::announced::FIRST_SEVEN;
 use crate::pointer_array::PointerArray;
-use crate::{Block, FlagSource, flag_word_at};
+use crate::{AnnouncedBuckets, Block, FlagSource, flag_word_at};
 use std::alloc::{AllocError, Global};
 use std::marker::Model;
 use thread_local_base::{Thread, bucket_size};
@@ -16,19 +18,22 @@ mod counting;
 mod lends;
 mod placing;
 
-/// The pointers of a table, one for each of its buckets, and the heap that their blocks come from.
-/// Contracts see the contents.
+/// The pointers of a table, one for each of its buckets, the heap that their blocks come from, and the
+/// word of the announced buckets. Contracts see the contents.
 ///
 /// Only `ensure_bucket` takes memory, and no call takes a lock. A value's drop may wait: `clear` and
 /// `publish_or_drop` drop values. Dropping the pointers drops every value and frees every block.
 pub struct BucketPointers<T> {
     pointers: PointerArray<T>,
     alloc: Global,
+    /// A bit for each announced bucket. Each bucket that stands is announced, and so are the first seven.
+    announced: AnnouncedBuckets,
 }
 
 impl<T> Model for BucketPointers<T> {
     ghost use Rattle.thread_local_base.specs.Buckets.{Contents, IsTable};
     ghost use Rattle.thread_local_base.specs.Code.{contents_coded};
+    ghost use Rattle.thread_local_bucket_pointers.specs.Announced.{Announces};
     ghost use Rattle.thread_local_bucket_pointers.specs.Pointers.{contents_of};
 
     ghost Value = { Contents T };
@@ -37,7 +42,7 @@ impl<T> Model for BucketPointers<T> {
 
     ghost view = { λ w. contents_of w.pointers };
 
-    ghost invariant = { λ w. IsTable (contents_of w.pointers) };
+    ghost invariant = { λ w. IsTable (contents_of w.pointers) × Announces w.announced.bits (contents_of w.pointers) };
 }
 
 impl<T> BucketPointers<T> {
@@ -48,7 +53,28 @@ impl<T> BucketPointers<T> {
         BucketPointers {
             pointers: PointerArray::null(),
             alloc,
+            announced: AnnouncedBuckets { bits: FIRST_SEVEN },
         }
+    }
+
+    /// The word of the announced buckets, a bit each.
+    #[inline]
+    pub fn announced(&mut self) -> u64
+        ensures announced { Announces result self.old }
+        ensures table { IsTable self.old }
+        ensures same { self.new ≡ self.old }
+    {
+        self.announced.bits
+    }
+
+    /// The announced buckets behind the first seven.
+    #[inline]
+    fn further(&mut self) -> u64
+        ensures ahead { AreAhead self.old result 7 }
+        ensures table { IsTable self.old }
+        ensures same { self.new ≡ self.old }
+    {
+        self.announced() & !FIRST_SEVEN
     }
 
     /// Publishes a value in the slot of a place, which must be empty.
@@ -86,7 +112,11 @@ impl<T> BucketPointers<T> {
 impl<T: Drop> Drop for BucketPointers<T> {
     fn drop(mut self) {
         self.clear(0);
-        let Self { pointers, alloc: _ } = self;
+        let Self {
+            pointers,
+            alloc: _,
+            announced: _,
+        } = self;
         drop(pointers);
     }
 }

@@ -7,10 +7,13 @@ ghost use Rattle.thread_local_base.specs.Buckets.{Contents, row, stands, values}
 ghost use Rattle.thread_local_base.specs.Rows.{value_in, with_slot};
 ghost use Rattle.thread_local_base.specs.Walk.{walk, paired};
 ghost use Rattle.thread_local_base.specs.Owner.{NoneBelow};
-ghost use Rattle.thread_local_bucket_pointers.specs.Cursor.{next_bucket, read_to, slot_at, values_left, AreFlagsAt, HasRead, IsAt, IsOwnerWalk, MayRead};
+ghost use Rattle.thread_local_bucket_pointers.specs.Announced.{AreAhead};
+ghost use Rattle.thread_local_bucket_pointers.specs.Cursor.{next_bucket, at_bucket, read_to, slot_at, values_left, AreFlagsAt};
+ghost use Rattle.thread_local_bucket_pointers.specs.Cursor.{HasRead, IsAt, IsOwnerWalk, MayRead};
 
+use crate::take_first;
 use std::fmt;
-use thread_local_base::BUCKETS;
+use thread_local_base::bucket_size;
 
 /// What a walk reads: which buckets stand, and the flags of their slots, 64 to a word. A flag is
 /// set where its slot has a value. No call takes memory.
@@ -79,6 +82,17 @@ impl RawIter {
         self.bucket_size *= 2;
         self.index = 0;
     }
+
+    /// Goes to the first slot of a bucket.
+    #[inline]
+    pub fn enter(&mut self, bucket: usize)
+        requires { bucket < 63 }
+        ensures { self.new ≡ at_bucket self.old bucket }
+    {
+        self.bucket = bucket;
+        self.bucket_size = bucket_size(bucket);
+        self.index = 0;
+    }
 }
 
 /// Writes a struct of one field, as a derived `Debug` does: what a walk's `Debug` writes. It stands
@@ -102,7 +116,7 @@ fn flags_in_bucket<P: FlagSource>(source: &mut P, raw: &mut RawIter) -> u64
     ensures found { 0 < result → IsAt (P.contents source.old) raw.new result }
     ensures ahead { P.given source.old ≤ read_to raw.new }
     ensures yielded { raw.new.yielded ≡ raw.old.yielded }
-    ensures stays { result ≡ 0 → raw.new ≡ raw.old }
+    ensures bucket { raw.new.bucket ≡ raw.old.bucket }
     ensures behind { result ≡ 0
         → NoneBelow (values (P.contents source.old)) (id_at raw.old.bucket raw.old.bucket_size) }
 {
@@ -116,28 +130,46 @@ fn flags_in_bucket<P: FlagSource>(source: &mut P, raw: &mut RawIter) -> u64
     0
 }
 
-/// Advances past the next flags that aren't 0, in this bucket or a later one, and returns them. A
-/// value must be left.
-fn next_flags<P: FlagSource>(source: &mut P, raw: &mut RawIter) -> u64
+/// `flags_in_bucket` where the bucket stands, and else 0.
+#[inline]
+fn flags_here<P: FlagSource>(source: &mut P, raw: &mut RawIter) -> u64
     requires at { IsAt (P.contents source.old) raw.old 0 }
     requires ahead { P.given source.old ≤ read_to raw.old }
+    ensures same { source.new ≡ source.old }
+    ensures found { 0 < result → IsAt (P.contents source.old) raw.new result }
+    ensures ahead { P.given source.old ≤ read_to raw.new }
+    ensures yielded { raw.new.yielded ≡ raw.old.yielded }
+    ensures bucket { raw.new.bucket ≡ raw.old.bucket }
+    ensures before { P.given source.old ≤ id_at (raw.old.bucket + 1) 0 }
+    ensures behind { result ≡ 0 → NoneBelow (values (P.contents source.old)) (id_at (raw.old.bucket + 1) 0) }
+{
+    if !source.stands(raw.bucket) {
+        return 0;
+    }
+    flags_in_bucket(source, raw)
+}
+
+/// Advances past the next flags that aren't 0, in this bucket or one of those behind it, and returns
+/// them. A value must be left. `left` are the announced buckets behind this one.
+fn next_flags<P: FlagSource>(source: &mut P, raw: &mut RawIter, left: &mut u64) -> u64
+    requires at { IsAt (P.contents source.old) raw.old 0 }
+    requires ahead { P.given source.old ≤ read_to raw.old }
+    requires announced { AreAhead (P.contents source.old) left.old (raw.old.bucket + 1) }
     requires some { 0 < length (walk (values (P.contents source.old))) }
     ensures same { source.new ≡ source.old }
     ensures at { IsAt (P.contents source.old) raw.new result }
     ensures some { 0 < result }
     ensures ahead { P.given source.old ≤ read_to raw.new }
+    ensures announced { AreAhead (P.contents source.old) left.new (raw.new.bucket + 1) }
     ensures yielded { raw.new.yielded ≡ raw.old.yielded }
 {
-    for bucket in raw.bucket..BUCKETS {
-        if source.stands(bucket) {
-            let flags = flags_in_bucket(source, raw);
-            if flags != 0 {
-                return flags;
-            }
+    'buckets: loop {
+        let flags = flags_here(source, raw);
+        if flags != 0 {
+            return flags;
         }
-        raw.next_bucket();
+        raw.enter(take_first(left));
     }
-    unreachable!()
 }
 
 /// The flags, with the lowest set one cleared.
@@ -162,21 +194,25 @@ pub struct OwnerCursor {
     pub rest: u64,
     /// How many values lie behind these slots.
     pub later: usize,
+    /// The announced buckets behind the one that it is in.
+    pub left: u64,
 }
 
 impl OwnerCursor {
-    /// A walk of so many values, before the first.
-    pub fn new(left: usize) -> OwnerCursor
+    /// A walk of so many values, before the first, of a table that has announced these buckets.
+    pub fn new(values: usize, announced: u64) -> OwnerCursor
         ensures raw { result.raw ≡ record { yielded = 0; bucket = 0; bucket_size = 1; index = 0 } }
         ensures rest { result.rest ≡ 0 }
-        ensures later { result.later ≡ left }
-        ensures left { values_left result ≡ left }
+        ensures later { result.later ≡ values }
+        ensures buckets { IsWordBut result.left announced 0 false }
+        ensures left { values_left result ≡ values }
     {
         OwnerCursor {
             raw: RawIter::new(),
             read: 0,
             rest: 0,
-            later: left,
+            later: values,
+            left: announced & !1,
         }
     }
 
@@ -230,10 +266,12 @@ impl OwnerCursor {
         ensures read { HasRead (P.contents source.old) (P.given source.old) self.old self.new }
     {
         let mut raw = self.raw;
-        let flags = next_flags(source, &mut raw);
+        let mut left = self.left;
+        let flags = next_flags(source, &mut raw, &mut left);
         let count = flags.count_ones() as usize;
         raw.yielded += count;
         self.raw = raw;
+        self.left = left;
         self.read = flags;
         self.rest = flags;
         self.later -= count;

@@ -2,6 +2,7 @@
 //! pointers to blocks, and how a walk finds its next value by the flags of 64 slots.
 #![tactic(auto)]
 
+pub mod announced;
 mod block;
 pub mod bucket_pointer;
 pub mod bucket_pointers;
@@ -11,6 +12,7 @@ pub mod cursor;
 pub mod pointer_array;
 mod retired;
 
+pub use announced::{AnnouncedBuckets, take_first, take_last};
 pub use block::Block;
 pub use bucket_pointer::BucketPointer;
 pub use bucket_pointers::BucketPointers;

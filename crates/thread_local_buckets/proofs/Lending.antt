@@ -11,13 +11,15 @@ use types.SemTy.{Body}
 use base.Fml.{fseps}
 use denote.Param.Laws.{Laws}
 use types.Follow.{after, takes_beside}
-use Rattle.std.specs.Prelude.{◌⊎◌, ◌^◌}
+use Rattle.std.specs.Prelude.{◌⊎◌, ◌^◌, nat_lt}
 use Rattle.std.proofs.lemmas.List.{length-map}
 use Rattle.thread_local_base.specs.Buckets.{Contents, IsTable}
 use Rattle.thread_local_base.specs.Owned.{Owned}
 use Rattle.thread_local_base.specs.Code.{owned_coded}
 use Rattle.thread_local_bucket_pointers.specs.declared.bucket_pointer.BucketPointer.{BucketPointer}
+use Rattle.thread_local_bucket_pointers.specs.Announced.{Announces}
 use Rattle.thread_local_bucket_pointers.specs.contracts.bucket_pointers.BucketPointers as all_pointers
+use Rattle.thread_local_bucket_pointers.proofs.Announcing.{IsAnnounced, Announces-fewer}
 use Rattle.thread_local_buckets.specs.Lent.{shape, Known, Lending, lending, loan_owns, frames, Values, values_at, lent_as}
 use Rattle.thread_local_base.specs.Refilled.{refilled}
 use Rattle.thread_local_buckets.proofs.Opened.{open_pointers, close_pointers, Laid, Inside, view, good, remade}
@@ -32,6 +34,11 @@ table_same c w same t = record {
       subst (λ n. (n ≡ 0) ⊎ (n ≡ 2 ^ bucket)) (sym (row_long c.rows w.rows bucket 0 same))
       (t.whole bucket);
 }
+
+announced_same : {V : Type 0} (word : ℕ) (c w : Contents V) → shape w.rows ≡ shape c.rows → Announces word c → Announces word w
+announced_same word c w same =
+    Announces-fewer word c w
+    (λ bucket low stood. ap (nat_lt 0) (sym (row_long c.rows w.rows bucket 0 same)) ∙ stood)
 
 module _ {M : Type 1} {𝓤 : Ura M} (𝓛 : Logic 𝓤) (X : RattleType) (L : Laws X) (b o : ℕ) (c : Contents (param 0 X).Denot) where
   open 𝓛 use {H, A}
@@ -62,7 +69,7 @@ module _ {M : Type 1} {𝓤 : Ura M} (𝓛 : Logic 𝓤) (X : RattleType) (L : L
     rows_are = ap (λ (z : Contents R.Denot). z.rows) seen
 
     abbrev pub table : IsTable c
-    table = subst IsTable seen so
+    table = subst IsTable seen so.0
 
     abbrev Held : SemTy
     Held = Values R ps (shape c.rows)
@@ -102,7 +109,8 @@ module _ {M : Type 1} {𝓤 : Ura M} (𝓛 : Logic 𝓤) (X : RattleType) (L : L
         use3 𝓛 (‵ (side 𝓛 R b vs e)) (join_pointers 𝓛 R b ws w.rows e same') $ move ! (0 ∷ 1 ∷ []) $
         use2 𝓛 (‵ (part_at Table full_share (refilled c w) b o))
         (close_pointers 𝓛 X L b o a vs (refilled c w) many (seen' ∙ sym full)
-        (subst IsTable (sym seen') (table_same c w same table))) $
+        (subst (λ (z : Contents R.Denot). IsAnnounced a.announced.bits z) (sym seen')
+        (table_same c w same table, announced_same a.announced.bits c w same (subst (λ (z : Contents R.Denot). Announces a.announced.bits z) seen so.1)))) $
         keep ! (0 ∷ []) $ done !)
 
   -- the owner has the pointers and something apart, and gets both back once the pointers are whole

@@ -1,3 +1,4 @@
+pub mod AddingSlots
 mod DrainLaws
 mod EntriesLaws
 mod Refilling

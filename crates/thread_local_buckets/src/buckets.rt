@@ -17,8 +17,8 @@ use crate::iter::{IntoEntries, IntoIter};
 use crate::iter_mut::{EntriesMut, IterMut};
 use std::alloc::{AllocError, Global};
 use std::marker::Model;
-use thread_local_base::{BUCKETS, Thread, bucket_size};
-use thread_local_bucket_pointers::{BucketPointers, FlagSource};
+use thread_local_base::{Thread, bucket_size};
+use thread_local_bucket_pointers::{BucketPointers, FlagSource, take_first};
 
 mod lends;
 mod walking;
@@ -175,7 +175,9 @@ impl<T> Buckets<T> {
         ensures same { self.new ≡ self.old }
     {
         let mut slots = 0;
-        for bucket in 0..BUCKETS {
+        let mut left = self.pointers.announced();
+        'buckets: while left != 0 {
+            let bucket = take_first(&mut left);
             if self.pointers.stands(bucket) {
                 slots += bucket_size(bucket);
             }

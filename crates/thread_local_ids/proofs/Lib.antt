@@ -8,7 +8,7 @@ pub mod Logs
 mod Ordered
 pub mod ReturnLaws
 mod Steps
-mod Words
+pub mod Words
 mod BothLent
 mod Facts
 pub mod TokenListLaws

@@ -7,11 +7,11 @@ use Rattle.thread_local_base.specs.Learnt.{learnt_by_install, learnt_by_publish}
 use Rattle.thread_local_schedule.specs.Table.{Table, published, bucket_stands, with_flag}
 use Rattle.thread_local_base.specs.Place.{bucket_of}
 use Rattle.thread_local_schedule.specs.Local.{Doing, Gets, Started, Private, Written, Local, after_call, may_look}
-use Rattle.thread_local_schedule.specs.Local.{learns, load_pointer, look_at_flag, make_bucket, offered, install_bucket}
+use Rattle.thread_local_schedule.specs.Local.{learns, load_pointer, look_at_flag, make_bucket, announce_bucket, offered, install_bucket}
 use Rattle.thread_local_schedule.specs.Local.{write_value, set_flag, reply, local_step, LocalStep, BeginGet, BeginGetOr}
-use Rattle.thread_local_schedule.specs.Local.{LoadPointer, LookAtFlag, MakeBucket, InstallBucket, WriteValue, SetFlag}
+use Rattle.thread_local_schedule.specs.Local.{LoadPointer, LookAtFlag, MakeBucket, AnnounceBucket, InstallBucket, WriteValue, SetFlag}
 use Rattle.thread_local_schedule.specs.Local.{Reply, doing_with_get, doing_with_get_or, begin_call, closure_at_missing}
-use Rattle.thread_local_schedule.specs.Local.{closure_at_vacant, ending_of, private_bucket, value_written}
+use Rattle.thread_local_schedule.specs.Local.{closure_at_vacant, ending_of, unannounced_bucket, private_bucket, value_written}
 use Rattle.std.specs.Prelude.{option_map, option_and_then}
 use Rattle.thread_local_schedule.specs.Calls.{gets_of, closure_of, CallsStay, PublishingEnds, CallsGo, GoesOn}
 
@@ -114,14 +114,22 @@ make_bucket-goes table local true (Started create) Missing e =
       };
     }
 make_bucket-goes table local false (Started create) Missing e =
-    goes (MakeBucket false) local local.learnt (Private create table.made)
-    (stay local local.learnt (Private create table.made) (sym (ap gets_of e))
+    let known = table.announced (bucket_of local.id) in
+    goes (MakeBucket false) local local.learnt (Private create table.made known)
+    (stay local local.learnt (Private create table.made known) (sym (ap gets_of e))
     (sym (ap closure_of e)))
 make_bucket-goes table local refused _ _ e = tt
 
+announce_bucket-goes : {V E : Type 0} (table : Table V) (local : Local V E) (doing : Doing V E) → local.doing ≡ doing
+    → IfSome (option_map (announce_bucket table local) (unannounced_bucket doing)) (λ after. GoesOn AnnounceBucket local after.1)
+announce_bucket-goes table local (Private create number false) e =
+    goes AnnounceBucket local local.learnt (Private create number true)
+    (stay local local.learnt (Private create number true) (sym (ap gets_of e)) (sym (ap closure_of e)))
+announce_bucket-goes table local _ e = tt
+
 install_bucket-goes : {V E : Type 0} (table : Table V) (local : Local V E) (doing : Doing V E) → local.doing ≡ doing
     → IfSome (option_and_then (install_bucket table local) (private_bucket doing)) (λ after. GoesOn InstallBucket local after.1)
-install_bucket-goes table local (Private create number) e =
+install_bucket-goes table local (Private create number true) e =
     whatever_is_learnt (offered table (bucket_of local.id) number)
     (record local { doing = Started create }) (learnt_by_install local.learnt)
     (λ after. GoesOn InstallBucket local after.1)
@@ -169,6 +177,7 @@ local_step-goes table local (BeginGetOr create) = begin_get_or-goes table local 
 local_step-goes table local LoadPointer = load_pointer-goes table local (may_look local.doing)
 local_step-goes table local LookAtFlag = look_at_flag-goes table local (may_look local.doing)
 local_step-goes table local (MakeBucket refused) = make_bucket-goes table local refused local.doing local.learnt refl
+local_step-goes table local AnnounceBucket = announce_bucket-goes table local local.doing refl
 local_step-goes table local InstallBucket = install_bucket-goes table local local.doing refl
 local_step-goes table local WriteValue = write_value-goes table local local.doing local.learnt refl
 local_step-goes table local SetFlag = set_flag-goes table local local.doing refl

@@ -77,6 +77,11 @@ pub made-cleared : {V : Type 0} (table : Table V) (capacity : ℕ) → (cleared 
 unfolding cleared
 made-cleared table capacity = refl
 
+-- and it leaves which buckets are announced
+pub announced-cleared : {V : Type 0} (table : Table V) (capacity : ℕ) → (cleared table capacity).announced ≡ table.announced
+unfolding cleared
+announced-cleared table capacity = refl
+
 -- the same of a drain, which keeps every bucket
 pub slot_at-drained : {V : Type 0} (table : Table V) (id : ℕ) → slot_at (drained table) id ≡ empty_slot
 unfolding slot_at drained
@@ -102,3 +107,7 @@ number_at-drained table bucket = number-stays true (table.pointers bucket) refl
 pub made-drained : {V : Type 0} (table : Table V) → (drained table).made ≡ table.made
 unfolding drained
 made-drained table = refl
+
+pub announced-drained : {V : Type 0} (table : Table V) → (drained table).announced ≡ table.announced
+unfolding drained
+announced-drained table = refl

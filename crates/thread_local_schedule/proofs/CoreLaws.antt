@@ -1,9 +1,9 @@
 -- What the invariant of a core gives: bounds by the peak, reserved buckets that are found, and
 -- complete walks.
-use Rattle.std.proofs.Common.{◌≡◌, ℕ, ◌+◌, ◌-◌, ◌*◌, ◌^◌, ◌<◌, ◌≤◌, Bool, List, ◌++◌, append-nil, length, Option, Some}
+use Rattle.std.proofs.Common.{◌≡◌, ℕ, zero, suc, ◌+◌, ◌-◌, ◌*◌, ◌^◌, ◌<◌, ◌≤◌, Bool, List, ◌++◌, append-nil, length, Option, Some}
 use Rattle.std.proofs.Common.{None, IsTrue, IfSome, refl, ap, sym, ◌∙◌, subst, arith, ⊎_elim}
 use Rattle.std.specs.Prelude.{option_map, Contains}
-use Rattle.std.proofs.lemmas.Bool.{cases_Bool, false≢true}
+use Rattle.std.proofs.lemmas.Bool.{cases_Bool, cond_both, false≢true}
 use Rattle.thread_local_base.specs.Held.{is_held}
 use Rattle.thread_local_base.specs.Capacity.{is_reserved}
 use Rattle.thread_local_base.specs.Walk.{walk, walk_below}
@@ -17,8 +17,8 @@ use Rattle.thread_local_schedule.specs.Table.{Table, published, bucket_stands, m
 use Rattle.thread_local_base.specs.Learnt.{Missing}
 use Rattle.thread_local_schedule.specs.Local.{Local, Doing, Private}
 use Rattle.thread_local_base.specs.Cursor.{is_complete}
-use Rattle.thread_local_schedule.specs.SharedWalk.{SharedWalk}
-use Rattle.thread_local_schedule.proofs.WalkStepLaws.{complete_cursor}
+use Rattle.thread_local_schedule.specs.SharedWalk.{SharedWalk, buckets_among}
+use Rattle.thread_local_schedule.proofs.WalkStepLaws.{complete_cursor, complete_loads}
 use Rattle.thread_local_schedule.specs.Fits.{IsLearnt, view_now, with_value_if}
 use Rattle.thread_local_schedule.specs.Core.{Core, shadow, installed_slots, peak, private_slots}
 use Rattle.thread_local_schedule.specs.CoreFits.{CoreFits}
@@ -47,7 +47,7 @@ installed_bound core m h c p = slots_bounded (bucket_stands core.table) m 63 (λ
 pub private_bound : {V E : Type 0} (held : List Bool) (id : ℕ) (doing : Doing V E)
     → IsTrue (is_held held id)
     → private_slots id doing ≤ length held
-private_bound held id (Private create number) t = own_small held id t
+private_bound held id (Private create number announced) t = own_small held id t
 private_bound held id _ t = omega arith
 
 -- no more values are published than the peak
@@ -85,16 +85,29 @@ complete core n walk h at done id v e =
     let low = h.table.below id v (fits.fits.first_stays id v e) in
     fits.fits.passed id v e (omega (arith, h.manager.peak_ids, complete_cursor core.table walk fits done))
 
--- a walk has loaded at most 63 pointers, and once more for each value given
+-- a walk has loaded at most 63 pointers, and a complete one as many as buckets were announced
+among_few : (these : ℕ → Bool) (n : ℕ) → buckets_among these n ≤ n
+unfolding buckets_among
+among_few these zero = omega arith
+among_few these (suc n) =
+    let few = among_few these n in
+    cond_both (these n) 1 0 (λ one. buckets_among these n + one ≤ suc n) (λ _. omega arith) (λ _. omega arith)
+
 pub loads : {V E : Type 0} (core : Core V E) (n : ℕ) (walk : SharedWalk V) → CoreFits core
     → core.walks n ≡ Some walk
-    → walk.loads ≤ 63 + length walk.given
+    → walk.loads ≤ 63
 loads core n walk h at =
     let fits = h.walks.each n walk at in
+    let few = among_few walk.announced walk.cursor.bucket in
     ⊎_elim
     (λ t. let l = rw t at fits.loads in omega (arith, fits.cursor.looks_in_table t))
     (λ f. let l = rw f at fits.loads in omega (arith, fits.cursor.in_table))
     (cases_Bool walk.cursor.looks)
+
+pub all_loaded : {V E : Type 0} (core : Core V E) (n : ℕ) (walk : SharedWalk V) → CoreFits core
+    → core.walks n ≡ Some walk → IsTrue (is_complete walk.cursor)
+    → walk.loads ≡ buckets_among walk.announced 63
+all_loaded core n walk h at done = complete_loads core.table walk (h.walks.each n walk at) done
 
 -- the published values change as a step says
 pub published_moves : {V E : Type 0} (core : Core V E) (table : Table V) (id : ℕ) (set : Option V)

@@ -11,7 +11,8 @@ use Rattle.thread_local_base.specs.Learnt.{learnt_by_publish}
 use Rattle.thread_local_base.specs.Answers.{GetOr, Answered}
 use Rattle.thread_local_schedule.specs.TableMoves.{TableMove, moved_by_if}
 use Rattle.thread_local_schedule.specs.Table.{Table, Slot, slot_at, value_of, published, bucket_stands, with_flag, with_fresh_bucket}
-use Rattle.thread_local_schedule.specs.Local.{Local, LocalStep, local_step, InstallBucket, WriteValue, SetFlag}
+use Rattle.thread_local_schedule.specs.Local.{Local, LocalStep, local_step, MakeBucket, AnnounceBucket, InstallBucket, WriteValue, SetFlag}
+use Rattle.thread_local_schedule.specs.Local.{closure_at_missing, make_bucket, unannounced_bucket, announce_bucket}
 use Rattle.thread_local_schedule.specs.Local.{Doing, Gets, Started, Private, Written, learns, offered, private_bucket}
 use Rattle.thread_local_schedule.specs.Local.{install_bucket, value_written, set_flag}
 use Rattle.thread_local_schedule.specs.Local.{closure_at_vacant, write_value, after_call}
@@ -21,7 +22,8 @@ use Rattle.thread_local_schedule.specs.Core.{Core, shadow}
 use Rattle.thread_local_schedule.specs.CoreFits.{CoreFits}
 use Rattle.thread_local_schedule.specs.Events.{Event, OfLocal, GiveBack, Owner, RewriteTable, with_step, is_enabled, happens}
 use Rattle.thread_local_schedule.specs.Schedule.{move, is_granted_take, IsReached}
-use Rattle.thread_local_schedule.proofs.TableLaws.{bucket_stands-offered, slot_at-with_slot_same}
+use Rattle.thread_local_schedule.proofs.TableLaws.{announced-with_announced, bucket_stands-offered, slot_at-with_slot_same}
+use Rattle.thread_local_schedule.proofs.OptionLaws.{if_there}
 use Rattle.thread_local_schedule.proofs.Clauses.{says, goes, enabled_step}
 use Rattle.thread_local_schedule.proofs.CallsLaws.{whatever_is_learnt}
 use Rattle.thread_local_schedule.proofs.NumbersLaws.{number_at-with_bucket_same}
@@ -96,11 +98,66 @@ table_after core n it local P t at p =
     o)))
     at (enabled_step core (OfLocal n it) t))))
 
+-- a call that makes a bucket knows whether it is announced
+made_so : {V E : Type 0} (table : Table V) (local : Local V E) (doing : Doing V E) (learnt : Learnt V) (create : Result V E)
+    → doing ≡ Started create
+    → IfSome (option_map (make_bucket table local false) (closure_at_missing doing learnt))
+    (λ after. after.1.doing ≡ Private create table.made (table.announced (bucket_of local.id)))
+made_so table local (Started it) Missing create e =
+    let same : it ≡ create = cc in
+    ap (λ x. Private x table.made (table.announced (bucket_of local.id))) same
+made_so table local _ _ create e = tt
+
+pub makes : {V E : Type 0} (core : Core V E) (n : ℕ) (local : Local V E) (create : Result V E)
+    → IsTrue (is_enabled core (OfLocal n (MakeBucket false))) → core.locals n ≡ Some local → local.doing ≡ Started create
+    → IsSomeAnd ((happens core (OfLocal n (MakeBucket false))).locals n)
+    (λ after. after.doing ≡ Private create core.table.made (core.table.announced (bucket_of local.id)))
+unfolding local_step
+makes core n local create t at started =
+    step_leaves core n (MakeBucket false) local
+    (λ after. after.doing ≡ Private create core.table.made (core.table.announced (bucket_of local.id))) t at
+    (made_so core.table local local.doing local.learnt create started)
+
+-- and announces it where it doesn't know that
+announced_so : {V E : Type 0} (table : Table V) (local : Local V E) (doing : Doing V E) (create : Result V E) (number : ℕ)
+    → doing ≡ Private create number false
+    → IfSome (option_map (announce_bucket table local) (unannounced_bucket doing))
+    (λ after. after.1.doing ≡ Private create number true)
+announced_so table local (Private it own false) create number e =
+    let first : it ≡ create = cc in
+    let second : own ≡ number = cc in
+    ap (λ x. Private x own true) first ∙ ap (λ k. Private create k true) second
+announced_so table local _ create number e = tt
+
+pub announced : {V E : Type 0} (core : Core V E) (n : ℕ) (local : Local V E) (create : Result V E) (number : ℕ)
+    → IsTrue (is_enabled core (OfLocal n AnnounceBucket)) → core.locals n ≡ Some local
+    → local.doing ≡ Private create number false
+    → IsSomeAnd ((happens core (OfLocal n AnnounceBucket)).locals n) (λ after. after.doing ≡ Private create number true)
+unfolding local_step
+announced core n local create number t at own =
+    step_leaves core n AnnounceBucket local (λ after. after.doing ≡ Private create number true) t at
+    (announced_so core.table local local.doing create number own)
+
+pub announces : {V E : Type 0} (core : Core V E) (n : ℕ) (local : Local V E) (bucket : ℕ)
+    → IsTrue (is_enabled core (OfLocal n AnnounceBucket)) → core.locals n ≡ Some local
+    → (happens core (OfLocal n AnnounceBucket)).table.announced bucket
+    ≡ cond (eqb (bucket_of local.id) bucket) true (core.table.announced bucket)
+unfolding local_step
+announces core n local bucket t at =
+    let own = bucket_of local.id in
+    table_after core n AnnounceBucket local
+    (λ table. table.announced bucket ≡ cond (eqb own bucket) true (core.table.announced bucket))
+    t at
+    (if_there (λ after. after.0.announced bucket ≡ cond (eqb own bucket) true (core.table.announced bucket))
+    (announce_bucket core.table local) (unannounced_bucket local.doing)
+    (λ made _. announced-with_announced core.table own bucket))
+
 -- an install makes the bucket of its Local's id stand, the call's own where none stood
 install_offers : {V E : Type 0} (table : Table V) (local : Local V E) (doing : Doing V E) (P : Table V → Type 0)
     → ((number : ℕ) → own_number doing ≡ Some number → P (offered table (bucket_of local.id) number))
     → IfSome (option_and_then (install_bucket table local) (private_bucket doing)) (λ after. P after.0)
-install_offers table local (Private create number) P p =
+install_offers table local (Private create number false) P p = tt
+install_offers table local (Private create number true) P p =
     whatever_is_learnt (offered table (bucket_of local.id) number) (record local { doing = Started create })
     (learnt_by_install local.learnt) (λ after. P after.0) (λ learnt. p number refl)
 install_offers table local (Gets count) P p = tt
@@ -160,7 +217,7 @@ started_only (Started it) Missing create e other f = cc
 started_only (Started it) Standing create e other f = cc
 started_only (Started it) (Holding v) create e other f = cc
 started_only (Gets count) learnt create e other f = cc
-started_only (Private it number) learnt create e other f = cc
+started_only (Private it number announced) learnt create e other f = cc
 started_only (Written v) learnt create e other f = cc
 
 -- a Local that may write has learnt that its bucket stands
@@ -201,7 +258,7 @@ written_stands : {V E : Type 0} (table : Table V) (id : ℕ) (doing : Doing V E)
 written_stands table id (Written v) fits t = fits.0
 written_stands table id (Gets count) fits t = absurd (false≢true t)
 written_stands table id (Started create) fits t = absurd (false≢true t)
-written_stands table id (Private create number) fits t = absurd (false≢true t)
+written_stands table id (Private create number announced) fits t = absurd (false≢true t)
 
 pub sets_flag : {V E : Type 0} (core : Core V E) (n : ℕ) (local : Local V E) → CoreFits core
     → IsTrue (is_enabled core (OfLocal n SetFlag)) → core.locals n ≡ Some local
@@ -229,7 +286,8 @@ by_install (Holding v) learnt e = cc
 
 install_learns : {V E : Type 0} (table : Table V) (local : Local V E) (doing : Doing V E)
     → IfSome (option_and_then (install_bucket table local) (private_bucket doing)) (λ after. after.1.learnt ≡ Vacant)
-install_learns table local (Private create number) =
+install_learns table local (Private create number false) = tt
+install_learns table local (Private create number true) =
     installed_learnt (offered table (bucket_of local.id) number) (record local { doing = Started create })
     (learnt_by_install local.learnt) (by_install local.learnt)
 install_learns table local (Gets count) = tt

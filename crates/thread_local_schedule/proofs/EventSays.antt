@@ -9,7 +9,7 @@ use Rattle.thread_local_schedule.specs.TableMoves.{moved_by_if, IsMoveAllowed}
 use Rattle.thread_local_base.specs.Capacity.{reserves_bucket}
 use Rattle.thread_local_schedule.specs.Table.{Table, published}
 use Rattle.thread_local_schedule.specs.Local.{Local, LocalStep, local_step}
-use Rattle.thread_local_schedule.specs.SharedWalk.{fresh_walk, WalkStep, walk_step}
+use Rattle.thread_local_schedule.specs.SharedWalk.{begun_walk, WalkStep, walk_step}
 use Rattle.thread_local_schedule.specs.OwnerWalk.{rewritten}
 use Rattle.thread_local_schedule.specs.Fits.{StepFits, value_set, number_at}
 use Rattle.thread_local_schedule.proofs.TableLaws.{same_function, numbered_stands}
@@ -222,7 +222,7 @@ step_of-says core (GiveBack number) h = give_back-says core number h
 step_of-says core (Forget number) h = forget-says core number
 step_of-says core BeginWalk h =
     leaves core BeginWalk
-    (record (with_walk core core.walked fresh_walk) { walked = suc core.walked }) refl refl refl
+    (record (with_walk core core.walked (begun_walk core.table)) { walked = suc core.walked }) refl refl refl
     refl refl (λ n then f. f) (λ n local _ at. at)
 step_of-says core (OfWalk number step) h = of_walk-says core number step h
 step_of-says core (EndWalk number) h =

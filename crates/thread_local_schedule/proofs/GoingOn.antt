@@ -5,9 +5,10 @@ use Rattle.thread_local_base.specs.Place.{bucket_of}
 use Rattle.thread_local_base.specs.Learnt.{Learnt, Unknown, Missing, Standing, Vacant, Holding, learnt_by_look}
 use Rattle.thread_local_schedule.specs.Table.{Table, published, bucket_stands}
 use Rattle.thread_local_schedule.specs.Local.{Doing, Gets, Started, Private, Written, Local, LocalStep, local_step}
-use Rattle.thread_local_schedule.specs.Local.{LoadPointer, LookAtFlag, MakeBucket, InstallBucket, WriteValue, SetFlag}
+use Rattle.thread_local_schedule.specs.Local.{LoadPointer, LookAtFlag, MakeBucket, AnnounceBucket, InstallBucket, WriteValue, SetFlag}
 use Rattle.thread_local_schedule.specs.Local.{Reply, learns}
 use Rattle.thread_local_schedule.specs.Calls.{gets_of, closure_of, HasNoCall, HasLearnt, GoesDown, looks_left, started_left, steps_left}
+use Rattle.thread_local_schedule.proofs.EnabledSteps.{private_few}
 
 -- a step of this Local leaves fewer steps than this
 abbrev HasStep : {V E : Type 0} → Table V → Local V E → ℕ → Type 0
@@ -26,7 +27,7 @@ load_get : (T F : Type 0) (count : ℕ) (stands : Bool)
 load_get T F count true = omega arith
 load_get T F count false = omega arith
 
-load_started : (T : Type 0) (stands : Bool) → let learnt : Learnt T = cond stands Standing Missing in started_left learnt < 5
+load_started : (T : Type 0) (stands : Bool) → let learnt : Learnt T = cond stands Standing Missing in started_left learnt < 6
 load_started T true = omega arith
 load_started T false = omega arith
 
@@ -61,7 +62,8 @@ goes_by {V} {E} table local (Gets (suc count)) (Holding v) e l h busy =
     (Reply, rw (e, l) (omega (arith, few_gets V E count (Holding v) refl)))
 goes_by {V} {E} table local (Started create) Unknown e l h busy =
     (LoadPointer, rw (e, l) (load_started V (bucket_stands table (bucket_of local.id))))
-goes_by {V} {E} table local (Started create) Missing e l h busy = (MakeBucket false, rw (e, l) (omega arith))
+goes_by {V} {E} table local (Started create) Missing e l h busy =
+    (MakeBucket false, rw (e, l) (omega (arith, private_few V E create table.made Missing (table.announced (bucket_of local.id)))))
 goes_by {V} {E} table local (Started create) Standing e l h busy = (
   LookAtFlag,
   rw (e, l) (look_started table (record local { learnt = Standing; doing = Started create })
@@ -70,7 +72,8 @@ goes_by {V} {E} table local (Started create) Standing e l h busy = (
 goes_by {V} {E} table local (Started (Ok v)) Vacant e l h busy = (WriteValue, rw (e, l) (omega arith))
 goes_by {V} {E} table local (Started (Err x)) Vacant e l h busy = (WriteValue, rw (e, l) (omega arith))
 goes_by {V} {E} table local (Started create) (Holding v) e l h busy = (Reply, rw (e, l) (omega arith))
-goes_by {V} {E} table local (Private create number) learnt e l h busy = (InstallBucket, rw (e, l, h) (omega arith))
+goes_by {V} {E} table local (Private create number false) learnt e l h busy = (AnnounceBucket, rw e (omega arith))
+goes_by {V} {E} table local (Private create number true) learnt e l h busy = (InstallBucket, rw (e, l, h) (omega arith))
 goes_by {V} {E} table local (Written v) learnt e l h busy = (SetFlag, rw (e, l, h) (omega arith))
 
 pub goes_on : {V E : Type 0} (table : Table V) (local : Local V E) → HasLearnt local.doing local.learnt → (HasNoCall local → ⊥)
@@ -80,7 +83,7 @@ goes_on table local h busy =
     (λ gets closure. busy (record { gets = gets; closure = closure }))
 
 -- few steps are left of any call
-started_few : {V : Type 0} (learnt : Learnt V) → started_left learnt ≤ 5
+started_few : {V : Type 0} (learnt : Learnt V) → started_left learnt ≤ 6
 started_few Unknown = omega arith
 started_few Missing = omega arith
 started_few Standing = omega arith
@@ -94,9 +97,10 @@ looks_few Standing = omega arith
 looks_few Vacant = omega arith
 looks_few (Holding v) = omega arith
 
-pub few_steps : {V E : Type 0} (doing : Doing V E) (learnt : Learnt V) → steps_left doing learnt ≤ gets_of doing + 5
+pub few_steps : {V E : Type 0} (doing : Doing V E) (learnt : Learnt V) → steps_left doing learnt ≤ gets_of doing + 6
 few_steps (Gets zero) learnt = omega arith
 few_steps (Gets (suc count)) learnt = omega (arith, looks_few learnt)
 few_steps (Started create) learnt = started_few learnt
-few_steps (Private create number) learnt = omega arith
+few_steps (Private create number false) learnt = omega arith
+few_steps (Private create number true) learnt = omega arith
 few_steps (Written v) learnt = omega arith

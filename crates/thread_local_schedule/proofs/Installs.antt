@@ -8,7 +8,7 @@ use Rattle.thread_local_base.specs.Held.{is_granted}
 use Rattle.thread_local_schedule.specs.Table.{Bucket, Table, bucket_stands}
 use Rattle.thread_local_schedule.specs.Local.{LocalStep, InstallBucket, local_step}
 use Rattle.thread_local_schedule.proofs.Installing.{installs}
-use Rattle.thread_local_schedule.specs.SharedWalk.{fresh_walk, WalkStep, walk_step}
+use Rattle.thread_local_schedule.specs.SharedWalk.{begun_walk, WalkStep, walk_step}
 use Rattle.thread_local_schedule.specs.Cleared.{emptied_bucket, cleared}
 use Rattle.thread_local_base.specs.Capacity.{reserves_bucket}
 use Rattle.thread_local_schedule.specs.Core.{Core, is_alone}
@@ -118,7 +118,7 @@ step_of-installs core (GiveBack number) bucket none = give_back-installs core nu
 step_of-installs core (Forget number) bucket none = forget-installs core number bucket none
 step_of-installs core BeginWalk bucket none =
     missing core BeginWalk bucket
-    (record (with_walk core core.walked fresh_walk) { walked = suc core.walked }) none
+    (record (with_walk core core.walked (begun_walk core.table)) { walked = suc core.walked }) none
 step_of-installs core (OfWalk number step) bucket none = of_walk-installs core number step bucket none
 step_of-installs core (EndWalk number) bucket none =
     if_there (Installs core (EndWalk number) bucket) _ (core.walks number)

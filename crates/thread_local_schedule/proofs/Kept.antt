@@ -6,7 +6,7 @@ use Rattle.std.specs.Prelude.{unwrap_or}
 use Rattle.thread_local_base.specs.Held.{is_held, least, with_least, without, is_exhausted, is_granted}
 use Rattle.thread_local_base.specs.Answers.{first_view}
 use Rattle.thread_local_schedule.specs.Local.{Local, LocalStep, fresh_local, local_step}
-use Rattle.thread_local_schedule.specs.SharedWalk.{SharedWalk, fresh_walk, WalkStep, walk_step}
+use Rattle.thread_local_schedule.specs.SharedWalk.{SharedWalk, begun_walk, WalkStep, walk_step}
 use Rattle.thread_local_schedule.specs.Fits.{StepFits, value_set}
 use Rattle.thread_local_schedule.specs.Calls.{HasLearnt}
 use Rattle.thread_local_schedule.specs.Numbers.{NumbersGo}
@@ -14,7 +14,7 @@ use Rattle.thread_local_schedule.proofs.LocalLaws.{local_step-fits}
 use Rattle.thread_local_schedule.proofs.NumbersLaws.{local_step-numbers}
 use Rattle.thread_local_schedule.proofs.EnabledSteps.{learnt}
 use Rattle.thread_local_schedule.proofs.Numbers.{taken-NumbersFit, removed-NumbersFit}
-use Rattle.thread_local_schedule.proofs.WalkStepLaws.{walk_step-fits, fresh_walk-fits}
+use Rattle.thread_local_schedule.proofs.WalkStepLaws.{walk_step-fits, begun_walk-fits}
 use Rattle.thread_local_schedule.specs.Core.{Core, shadow, is_alone}
 use Rattle.thread_local_schedule.specs.Events.{Event, TakeId, OfLocal, GiveBack, Forget, BeginWalk, OfWalk, EndWalk}
 use Rattle.thread_local_schedule.specs.Events.{Owner, OwnerCall, RewriteTable, Slots, DrainTable, ClearTable, IntoIter, DropTable}
@@ -136,8 +136,8 @@ begin_walk-fits core h = record {
   table = h.table;
   locals = h.locals;
   walks =
-      walks_put core.table core.walks core.walked (suc core.walked) core.walked (Some fresh_walk)
-      (omega arith) (omega arith) (fresh_walk-fits core.table) h.walks;
+      walks_put core.table core.walks core.walked (suc core.walked) core.walked (Some (begun_walk core.table))
+      (omega arith) (omega arith) (begun_walk-fits core.table h.table.announced) h.walks;
   numbers = h.numbers;
 }
 

@@ -7,6 +7,7 @@ pub mod WalkEvents
 pub mod Open
 pub mod EventRules
 pub mod Installs
+pub mod Announcing
 pub mod PeakLaws
 pub mod TakingBelow
 pub mod FourLocals

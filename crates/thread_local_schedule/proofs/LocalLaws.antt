@@ -8,21 +8,23 @@ use Rattle.thread_local_base.specs.Place.{bucket_of}
 use Rattle.thread_local_base.specs.Answers.{View, Call, Get, GetOr, Answer, Found, Answered, Refused, Failed, Says, answers}
 use Rattle.thread_local_base.proofs.AnswersLaws as says
 use Rattle.thread_local_base.proofs.AnswersLaws.{answers-push, view_after_all-push}
-use Rattle.thread_local_schedule.specs.Table.{Slot, Table, slot_at, published, bucket_stands, value_of, with_table_slot, with_flag}
+use Rattle.thread_local_schedule.specs.Table.{Slot, Table, slot_at, published, bucket_stands, value_of, with_announced, with_table_slot, with_flag}
 use Rattle.thread_local_base.specs.Learnt.{Learnt, Unknown, Missing, Standing, Vacant, Holding, learnt_by_load}
 use Rattle.thread_local_base.specs.Learnt.{learnt_by_look, learnt_by_install, learnt_by_publish}
 use Rattle.thread_local_schedule.specs.Local.{Doing, Gets, Started, Private, Written, Local, after_call, may_look}
-use Rattle.thread_local_schedule.specs.Local.{learns, load_pointer, look_at_flag, make_bucket, offered, install_bucket}
+use Rattle.thread_local_schedule.specs.Local.{learns, load_pointer, look_at_flag, make_bucket, announce_bucket, offered, install_bucket}
 use Rattle.thread_local_schedule.specs.Local.{write_value, set_flag, reply, local_step, LocalStep, BeginGet, BeginGetOr}
-use Rattle.thread_local_schedule.specs.Local.{LoadPointer, LookAtFlag, MakeBucket, InstallBucket, WriteValue, SetFlag}
+use Rattle.thread_local_schedule.specs.Local.{LoadPointer, LookAtFlag, MakeBucket, AnnounceBucket, InstallBucket, WriteValue, SetFlag}
 use Rattle.thread_local_schedule.specs.Local.{Reply, doing_with_get, doing_with_get_or, begin_call, closure_at_missing}
-use Rattle.thread_local_schedule.specs.Local.{closure_at_vacant, ending_of, private_bucket, value_written}
+use Rattle.thread_local_schedule.specs.Local.{closure_at_vacant, ending_of, unannounced_bucket, private_bucket, value_written}
 use Rattle.thread_local_schedule.specs.Fits.{IsWritten, AllWritten, view_now, IsLearnt, IsDoing, ViewFits, LocalFits}
 use Rattle.thread_local_schedule.specs.Fits.{number_at, ChangesOnly, value_set, StepFits}
 use Rattle.thread_local_schedule.proofs.TableLaws.{slot_at-none, published_unset, slot_at-offered}
 use Rattle.thread_local_schedule.proofs.TableLaws.{bucket_stands-offered, published-slot_at, slot_at-with_slot_same}
 use Rattle.thread_local_schedule.proofs.TableLaws.{slot_at-with_slot_other, bucket_stands-with_table_slot, slot_at-made}
 use Rattle.thread_local_schedule.proofs.TableLaws.{bucket_stands-made, number_at-made, number_at-offered, number_at-with_table_slot}
+use Rattle.thread_local_schedule.proofs.TableLaws.{slot_at-with_announced, bucket_stands-with_announced, number_at-with_announced}
+use Rattle.thread_local_schedule.proofs.TableLaws.{announced-more, announced-own, announced-offered, announced-with_table_slot}
 
 learnt_carried : {V : Type 0} (old new : Table V) (id : ℕ) (view : View V) (learnt : Learnt V)
     → slot_at new id ≡ slot_at old id → (IsTrue (bucket_stands old (bucket_of id)) → IsTrue (bucket_stands new (bucket_of id)))
@@ -35,21 +37,25 @@ learnt_carried old new id view (Holding v) same stays l = published-slot_at old 
 
 doing_carried : {V E : Type 0} (old new : Table V) (id : ℕ) (doing : Doing V E)
     → slot_at new id ≡ slot_at old id → (IsTrue (bucket_stands old (bucket_of id)) → IsTrue (bucket_stands new (bucket_of id)))
+    → (IsTrue (old.announced (bucket_of id)) → IsTrue (new.announced (bucket_of id)))
     → IsDoing old id doing → IsDoing new id doing
-doing_carried old new id (Gets count) same stays d = d
-doing_carried old new id (Started create) same stays d = d
-doing_carried old new id (Private create number) same stays d = ap (λ slot. slot.flag) same ∙ d
-doing_carried old new id (Written v) same stays d = (stays d.0, same ∙ d.1)
+doing_carried old new id (Gets count) same stays known d = d
+doing_carried old new id (Started create) same stays known d = d
+doing_carried old new id (Private create number announced) same stays known d =
+    (ap (λ slot. slot.flag) same ∙ d.0, λ t. known (d.1 t))
+doing_carried old new id (Written v) same stays known d = (stays d.0, same ∙ d.1)
 
--- what fits at a slot still fits where the slot is the same and its bucket still stands
+-- what fits at a slot still fits where the slot is the same, and its bucket stands and is announced
+-- if it did and was
 pub view_carried : {V E : Type 0} (old new : Table V) (id : ℕ) (view : View V) (learnt : Learnt V) (doing : Doing V E)
     → slot_at new id ≡ slot_at old id → (IsTrue (bucket_stands old (bucket_of id)) → IsTrue (bucket_stands new (bucket_of id)))
+    → (IsTrue (old.announced (bucket_of id)) → IsTrue (new.announced (bucket_of id)))
     → ViewFits old id view learnt doing → ViewFits new id view learnt doing
-view_carried old new id view learnt doing same stays h = record {
+view_carried old new id view learnt doing same stays known h = record {
   value = h.value ∙ sym (published-slot_at old new id same);
   known = λ t. stays (h.known t);
   learnt_so = learnt_carried old new id view learnt same stays h.learnt_so;
-  doing_so = doing_carried old new id doing same stays h.doing_so;
+  doing_so = doing_carried old new id doing same stays known h.doing_so;
 }
 
 -- a table changes nothing against itself
@@ -58,6 +64,7 @@ same_table table id written = record {
   others = λ other apart. refl;
   standing = λ bucket t. (t, refl);
   installed = λ bucket t. inl t;
+  announced = λ bucket t. t;
   written = written;
 }
 
@@ -170,12 +177,15 @@ look_at_flag-fits table local true written h =
     learns-fits table local (learnt_by_look local.learnt (published table local.id)) written h
     (learnt_by_look_so table local.id (view_now local) local.learnt (published table local.id) written refl h.view.learnt_so)
 
--- no slot changes, no pointer changes that isn't null, and only the bucket of this id may be new
+-- no slot changes, no pointer changes that isn't null, only the bucket of this id may be new, where it
+-- was announced, and each that is announced stays so
 record OffersOnly {V : Type 0} (old new : Table V) (id : ℕ) : Type 0 where
   same : (other : ℕ) → slot_at new other ≡ slot_at old other
   standing : (bucket : ℕ) → IsTrue (bucket_stands old bucket)
       → IsTrue (bucket_stands new bucket) × (number_at new bucket ≡ number_at old bucket)
-  installed : (bucket : ℕ) → IsTrue (bucket_stands new bucket) → IsTrue (bucket_stands old bucket) ⊎ (bucket_of id ≡ bucket)
+  installed : (bucket : ℕ) → IsTrue (bucket_stands new bucket) → IsTrue (bucket_stands old bucket)
+      ⊎ ((bucket_of id ≡ bucket) × IsTrue (old.announced bucket))
+  announced : (bucket : ℕ) → IsTrue (old.announced bucket) → IsTrue (new.announced bucket)
 
 -- a step that changes no slot and ends no call
 offers : {V E : Type 0} (table after : Table V) (local : Local V E) (learnt : Learnt V)
@@ -197,6 +207,7 @@ offers table after local learnt doing written h only l d = record {
     others = λ other apart. only.same other;
     standing = only.standing;
     installed = only.installed;
+    announced = only.announced;
     written = λ id. subst IsWritten (sym (only.same id)) (written id);
   };
   shown = λ id. published-slot_at table after id (only.same id);
@@ -217,20 +228,51 @@ make_bucket-fits table local false (Started create) Missing written h l d =
     let after = record table { made = suc table.made } in
     let same = slot_at-made table (suc table.made) in
     let standing = bucket_stands-made table (suc table.made) in
-    offers table after local local.learnt (Private create table.made) written h
+    offers table after local local.learnt (Private create table.made (table.announced (bucket_of local.id))) written h
     (record {
       same = same;
       standing = λ bucket t. (standing bucket ∙ t, number_at-made table (suc table.made) bucket);
       installed = λ bucket t. inl (sym (standing bucket) ∙ t);
+      announced = λ bucket t. t;
     })
     (learnt_carried table after local.id (view_now local) local.learnt (same local.id)
     (λ t. standing (bucket_of local.id) ∙ t) h.view.learnt_so)
-    (ap (λ slot. slot.flag) (same local.id) ∙ l.0)
+    (ap (λ slot. slot.flag) (same local.id) ∙ l.0, λ t. t)
 make_bucket-fits table local refused _ _ written h l d = tt
 
+-- a call announces its bucket, and no pointer and no slot changes
+announces : {V E : Type 0} (table : Table V) (local : Local V E) (create : Result V E) (number : ℕ)
+    → AllWritten table → LocalFits table local
+    → (slot_at table local.id).flag ≡ false
+    → StepFits table local None
+    (with_announced table (bucket_of local.id), record local { doing = Private create number true })
+announces table local create number written h d =
+    let own = bucket_of local.id in
+    let after = with_announced table own in
+    let same = slot_at-with_announced table own in
+    let standing = bucket_stands-with_announced table own in
+    offers table after local local.learnt (Private create number true) written h
+    (record {
+      same = same;
+      standing = λ bucket t. (standing bucket ∙ t, number_at-with_announced table own bucket);
+      installed = λ bucket t. inl (sym (standing bucket) ∙ t);
+      announced = λ bucket t. announced-more table own bucket t;
+    })
+    (learnt_carried table after local.id (view_now local) local.learnt (same local.id)
+    (λ t. standing own ∙ t) h.view.learnt_so)
+    (ap (λ slot. slot.flag) (same local.id) ∙ d, λ t. announced-own table own)
+
+announce_bucket-fits : {V E : Type 0} (table : Table V) (local : Local V E) (doing : Doing V E)
+    → AllWritten table → LocalFits table local
+    → IsDoing table local.id doing
+    → IfSome (option_map (announce_bucket table local) (unannounced_bucket doing)) (StepFits table local None)
+announce_bucket-fits table local (Private create number false) written h d = announces table local create number written h d.0
+announce_bucket-fits table local _ written h d = tt
+
 -- what an offer does to the pointers: its own isn't null afterwards, and the others stay
-offered_only : {V : Type 0} (table : Table V) (id number : ℕ) → OffersOnly table (offered table (bucket_of id) number) id
-offered_only table id number = record {
+offered_only : {V : Type 0} (table : Table V) (id number : ℕ) → IsTrue (table.announced (bucket_of id))
+    → OffersOnly table (offered table (bucket_of id) number) id
+offered_only table id number known = record {
   same = slot_at-offered table (bucket_of id) number;
   standing = λ bucket t. (
     (bucket_stands-offered table (bucket_of id) number bucket
@@ -240,39 +282,41 @@ offered_only table id number = record {
   );
   installed = λ bucket t.
       ⊎_elim
-      (λ here. inr here)
+      (λ here. inr (here, ap table.announced (sym here) ∙ known))
       (λ apart.
       inl (sym (bucket_stands-offered table (bucket_of id) number bucket
       ∙ ap (λ b. cond b true (bucket_stands table bucket))
       (ne_eqb (bucket_of id) bucket apart))
       ∙ t))
       (cases_eq (bucket_of id) bucket);
+  announced = λ bucket t. ap (λ f. f bucket) (announced-offered table (bucket_of id) number) ∙ t;
 }
 
 -- what an install teaches holds
 install-fits : {V E : Type 0} (table : Table V) (local : Local V E) (create : Result V E)
     (number : ℕ) (learnt : Learnt V)
     → AllWritten table → LocalFits table local
-    → (slot_at table local.id).flag ≡ false
+    → (slot_at table local.id).flag ≡ false → IsTrue (table.announced (bucket_of local.id))
     → IfSome (learns (offered table (bucket_of local.id) number)
     (record local { doing = Started create }) (learnt_by_install learnt))
     (StepFits table local None)
-install-fits table local create number Missing written h d =
+install-fits table local create number Missing written h d known =
     let b = bucket_of local.id in
-    offers table (offered table b number) local Vacant (Started create) written h (offered_only table local.id number) (
+    offers table (offered table b number) local Vacant (Started create) written h (offered_only table local.id number known) (
       (bucket_stands-offered table b number b
           ∙ ap (λ here. cond here true (bucket_stands table b)) (eq-eqb b b refl)),
       ap (λ slot. slot.flag) (slot_at-offered table b number local.id) ∙ d,
     )
     tt
-install-fits table local create number _ written h d = tt
+install-fits table local create number _ written h d known = tt
 
 install_bucket-fits : {V E : Type 0} (table : Table V) (local : Local V E) (doing : Doing V E)
     → AllWritten table → LocalFits table local
     → IsDoing table local.id doing
     → IfSome (option_and_then (install_bucket table local) (private_bucket doing))
     (StepFits table local None)
-install_bucket-fits table local (Private create number) written h d = install-fits table local create number local.learnt written h d
+install_bucket-fits table local (Private create number true) written h d =
+    install-fits table local create number local.learnt written h d.0 (d.1 refl)
 install_bucket-fits table local _ written h d = tt
 
 -- one slot changes, to one whose flag is set only over a written value
@@ -283,6 +327,7 @@ slot_changes table id slot t written here = record {
   others = λ other apart. slot_at-with_slot_other table id other slot apart;
   standing = λ bucket s. (bucket_stands-with_table_slot table id bucket slot ∙ s, number_at-with_table_slot table id bucket slot);
   installed = λ bucket s. inl (sym (bucket_stands-with_table_slot table id bucket slot) ∙ s);
+  announced = λ bucket s. ap (λ f. f bucket) (announced-with_table_slot table id slot) ∙ s;
   written = λ other.
       ⊎_elim
       (λ same.
@@ -419,6 +464,7 @@ local_step-fits table local LookAtFlag written h = look_at_flag-fits table local
 local_step-fits table local (MakeBucket refused) written h =
     make_bucket-fits table local refused local.doing local.learnt written h h.view.learnt_so
     h.view.doing_so
+local_step-fits table local AnnounceBucket written h = announce_bucket-fits table local local.doing written h h.view.doing_so
 local_step-fits table local InstallBucket written h = install_bucket-fits table local local.doing written h h.view.doing_so
 local_step-fits table local WriteValue written h = write_value-fits table local local.doing local.learnt written h h.view.learnt_so
 local_step-fits table local SetFlag written h = set_flag-fits table local local.doing written h h.view.doing_so
@@ -432,5 +478,6 @@ other_fits old new id local only apart h = record {
   answered = h.answered;
   view =
       view_carried old new local.id (view_now local) local.learnt local.doing
-      (only.others local.id apart) (λ t. (only.standing (bucket_of local.id) t).0) h.view;
+      (only.others local.id apart) (λ t. (only.standing (bucket_of local.id) t).0)
+      (only.announced (bucket_of local.id)) h.view;
 }

@@ -8,17 +8,18 @@ use Rattle.thread_local_base.specs.Place.{bucket_of}
 use Rattle.thread_local_base.specs.Answers.{GetOr, Answered}
 use Rattle.thread_local_base.specs.Learnt.{Learnt, Missing, Vacant, Holding, learnt_by_load, learnt_by_look}
 use Rattle.thread_local_base.specs.Learnt.{learnt_by_install, learnt_by_publish}
-use Rattle.thread_local_schedule.specs.Table.{Table, Slot, published, bucket_stands, with_fresh_bucket, with_table_slot, with_flag}
+use Rattle.thread_local_schedule.specs.Table.{Table, Slot, published, bucket_stands, with_announced, with_fresh_bucket, with_table_slot, with_flag}
 use Rattle.thread_local_schedule.specs.Local.{Doing, Gets, Started, Private, Written, Local, after_call, may_look}
-use Rattle.thread_local_schedule.specs.Local.{learns, load_pointer, look_at_flag, make_bucket, offered, install_bucket}
+use Rattle.thread_local_schedule.specs.Local.{learns, load_pointer, look_at_flag, make_bucket, announce_bucket, offered, install_bucket}
 use Rattle.thread_local_schedule.specs.Local.{write_value, set_flag, reply, local_step, LocalStep, BeginGet, BeginGetOr}
-use Rattle.thread_local_schedule.specs.Local.{LoadPointer, LookAtFlag, MakeBucket, InstallBucket, WriteValue, SetFlag}
+use Rattle.thread_local_schedule.specs.Local.{LoadPointer, LookAtFlag, MakeBucket, AnnounceBucket, InstallBucket, WriteValue, SetFlag}
 use Rattle.thread_local_schedule.specs.Local.{Reply, doing_with_get, doing_with_get_or, begin_call, closure_at_missing}
-use Rattle.thread_local_schedule.specs.Local.{closure_at_vacant, ending_of, private_bucket, value_written}
+use Rattle.thread_local_schedule.specs.Local.{closure_at_vacant, ending_of, unannounced_bucket, private_bucket, value_written}
 use Rattle.thread_local_schedule.specs.Fits.{number_at}
 use Rattle.thread_local_schedule.specs.Numbers.{own_number, NumbersGo}
 use Rattle.thread_local_schedule.proofs.CallsLaws.{whatever_is_learnt}
-use Rattle.thread_local_schedule.proofs.TableLaws.{number_at-made, number_at-with_fresh_bucket, number_at-with_table_slot}
+use Rattle.thread_local_schedule.proofs.TableLaws.{number_at-made, number_at-with_announced, number_at-with_fresh_bucket}
+use Rattle.thread_local_schedule.proofs.TableLaws.{number_at-with_table_slot}
 
 -- a step that makes no bucket, changes no pointer, and gives the call no bucket
 same_numbers : {V E : Type 0} (table after : Table V) (local then : Local V E)
@@ -48,6 +49,10 @@ none_own-with_table_slot table id slot local then none =
     same_numbers table (with_table_slot table id slot) local then
     (made-with_table_slot table id slot) (λ bucket. number_at-with_table_slot table id bucket slot)
     (λ number e. cc)
+
+made-with_announced : {V : Type 0} (table : Table V) (bucket : ℕ) → (with_announced table bucket).made ≡ table.made
+unfolding with_announced
+made-with_announced table bucket = refl
 
 begin_get-numbers : {V E : Type 0} (table : Table V) (local : Local V E) (doing : Doing V E)
     → IfSome (option_map (begin_call table local) (doing_with_get doing)) (NumbersGo table local)
@@ -88,6 +93,16 @@ make_bucket-numbers table local false (Started create) Missing = record {
 }
 make_bucket-numbers table local refused _ _ = tt
 
+announce_bucket-numbers : {V E : Type 0} (table : Table V) (local : Local V E) (doing : Doing V E)
+    → local.doing ≡ doing
+    → IfSome (option_map (announce_bucket table local) (unannounced_bucket doing)) (NumbersGo table local)
+announce_bucket-numbers table local (Private create number false) at =
+    same_numbers table (with_announced table (bucket_of local.id)) local _
+    (made-with_announced table (bucket_of local.id))
+    (number_at-with_announced table (bucket_of local.id))
+    (λ k e. ap own_number at ∙ e)
+announce_bucket-numbers table local _ at = tt
+
 -- a pointer that isn't null after an offer led to the same bucket before, or is the one offered to,
 -- which leads to the offered bucket
 pub number_at-with_bucket_same : {V : Type 0} (table : Table V) (bucket number : ℕ)
@@ -125,7 +140,7 @@ install_bucket-numbers : {V E : Type 0} (table : Table V) (local : Local V E) (d
     → local.doing ≡ doing
     → IfSome (option_and_then (install_bucket table local) (private_bucket doing))
     (NumbersGo table local)
-install_bucket-numbers table local (Private create number) at =
+install_bucket-numbers table local (Private create number true) at =
     whatever_is_learnt (offered table (bucket_of local.id) number)
     (record local { doing = Started create }) (learnt_by_install local.learnt)
     (NumbersGo table local)
@@ -175,6 +190,7 @@ local_step-numbers table local (BeginGetOr create) = begin_get_or-numbers table 
 local_step-numbers table local LoadPointer = load_pointer-numbers table local (may_look local.doing)
 local_step-numbers table local LookAtFlag = look_at_flag-numbers table local (may_look local.doing)
 local_step-numbers table local (MakeBucket refused) = make_bucket-numbers table local refused local.doing local.learnt
+local_step-numbers table local AnnounceBucket = announce_bucket-numbers table local local.doing refl
 local_step-numbers table local InstallBucket = install_bucket-numbers table local local.doing refl
 local_step-numbers table local WriteValue = write_value-numbers table local local.doing local.learnt
 local_step-numbers table local SetFlag = set_flag-numbers table local local.doing

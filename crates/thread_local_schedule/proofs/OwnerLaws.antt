@@ -112,3 +112,7 @@ number_at-rewritten table others bucket = number_at-rewritten_bucket (λ index. 
 pub made-rewritten : {V : Type 0} (table : Table V) (others : ℕ → V → V) → (rewritten table others).made ≡ table.made
 unfolding rewritten
 made-rewritten table others = refl
+
+pub announced-rewritten : {V : Type 0} (table : Table V) (others : ℕ → V → V) → (rewritten table others).announced ≡ table.announced
+unfolding rewritten
+announced-rewritten table others = refl

@@ -2,8 +2,9 @@
 use Rattle.std.proofs.Common.{◌≡◌, ℕ, zero, suc, ◌^◌, ◌<◌, ◌≤◌, ◌⊎◌, Bool, true, cond, eqb, List, [], length, Option}
 use Rattle.std.proofs.Common.{Some, None, is_some, is_none, IsTrue, IfSome, refl, ap, sym, ◌∙◌, subst, arith, ⊎_elim}
 use Rattle.std.proofs.Common.{inl, inr, pow_mono}
-use Rattle.std.proofs.lemmas.Bool.{cases_eq, cases_lt, cond_both, eq-eqb, ne_eqb, ltb-true, false≢true, or_cases, or_left, and_parts}
-use Rattle.std.specs.Prelude.{option_map}
+use Rattle.std.proofs.lemmas.Bool.{cases_eq, cases_lt, cond_both, eq-eqb, ne_eqb, lt-ltb, ltb-true, false≢true, or_cases, or_left, and_parts}
+use Rattle.std.proofs.lemmas.Bool.{or_right}
+use Rattle.std.specs.Prelude.{option_map, nat_lt}
 use Rattle.std.proofs.lemmas.Option.{none-some}
 use Rattle.std.proofs.Math.Nat.{two-pow-succ}
 use Rattle.thread_local_base.specs.Place.{bucket_of}
@@ -18,10 +19,12 @@ use Rattle.thread_local_schedule.specs.Cleared.{cleared, drained}
 use Rattle.thread_local_schedule.specs.Fits.{StepFits, with_value_if}
 use Rattle.thread_local_schedule.specs.WalkFits.{WalkFits}
 use Rattle.thread_local_schedule.proofs.TableLaws.{published_stands, slot_at-made_table, bucket_stands-made_table, published_unset}
+use Rattle.thread_local_schedule.proofs.TableLaws.{announced-made_table}
 use Rattle.thread_local_schedule.proofs.LocalLaws.{other_fits}
 use Rattle.thread_local_schedule.proofs.WalkStepLaws.{walk_carried}
-use Rattle.thread_local_schedule.proofs.OwnerLaws.{published-rewritten, AllWritten-rewritten, bucket_stands-rewritten}
-use Rattle.thread_local_schedule.proofs.ClearedLaws.{slot_at-cleared, bucket_stands-cleared, slot_at-drained, bucket_stands-drained}
+use Rattle.thread_local_schedule.proofs.OwnerLaws.{published-rewritten, AllWritten-rewritten, bucket_stands-rewritten, announced-rewritten}
+use Rattle.thread_local_schedule.proofs.ClearedLaws.{slot_at-cleared, bucket_stands-cleared, announced-cleared, slot_at-drained}
+use Rattle.thread_local_schedule.proofs.ClearedLaws.{bucket_stands-drained, announced-drained}
 use Rattle.thread_local_schedule.specs.Core.{Core, made_core, shadow, put, none_below, is_alone, peak}
 use Rattle.thread_local_schedule.proofs.HeldCounts.{held_below}
 use Rattle.thread_local_schedule.proofs.PutLaws.{put_cases, put_same, put_other, still}
@@ -101,6 +104,8 @@ peak-TableFits table capacity peak higher up h = record {
   small = λ b t. omega (arith, h.small b t);
   reserved = h.reserved;
   below = λ id v e. omega (arith, h.below id v e);
+  first_announced = h.first_announced;
+  announced = h.announced;
 }
 
 pub some_value : {A : Type 0} (o : Option A) → IsTrue (is_some o) → (x : A) × (o ≡ Some x)
@@ -183,7 +188,7 @@ step-TableFits core local set after t s h = record {
       (λ before. h.small b before)
       (λ own.
       let l = own_small core.manager.held local.id t in
-      let same : 2 ^ bucket_of local.id ≡ 2 ^ b = ap (λ k. 2 ^ k) own in
+      let same : 2 ^ bucket_of local.id ≡ 2 ^ b = ap (λ k. 2 ^ k) own.0 in
       omega arith)
       (s.changes.installed b stood);
   reserved = λ b l. (s.changes.standing b (h.reserved b l)).0;
@@ -192,6 +197,9 @@ step-TableFits core local set after t s h = record {
       (λ before. h.below id v before)
       (λ own. subst (λ k. k < length core.manager.held) own (held_below core.manager.held local.id t))
       (added (published core.table) local.id set id v (sym (s.shown id) ∙ e));
+  first_announced = λ b l. s.changes.announced b (h.first_announced b l);
+  announced = λ b stood.
+      s.changes.announced b (⊎_elim (λ before. h.announced b before) (λ own. own.1) (s.changes.installed b stood));
 }
 
 pub stepped-fits : {V E : Type 0} (core : Core V E) (number : ℕ) (local : Local V E)
@@ -321,6 +329,8 @@ rewritten-TableFits table others capacity peak h = record {
       let was =
       mapped (others id) (published table id) v (sym (published-rewritten table others id) ∙ e) in
       h.below id was.0 was.1;
+  first_announced = λ b l. ap (λ f. f b) (announced-rewritten table others) ∙ h.first_announced b l;
+  announced = λ b t. ap (λ f. f b) (announced-rewritten table others) ∙ h.announced b (sym (bucket_stands-rewritten table others b) ∙ t);
 }
 
 -- a bucket for a binary digit of a capacity has no more slots than the capacity
@@ -342,19 +352,26 @@ made_small capacity bucket l =
 empty-TableFits : {V : Type 0} (table : Table V) (capacity : ℕ)
     → ((id : ℕ) → slot_at table id ≡ empty_slot)
     → ((bucket : ℕ) → bucket_stands table bucket ≡ reserves_bucket capacity bucket)
+    → ((bucket : ℕ) → bucket < 7 → IsTrue (table.announced bucket))
+    → ((bucket : ℕ) → IsTrue (reserves_bucket capacity bucket) → IsTrue (table.announced bucket))
     → TableFits table capacity 0
-empty-TableFits table capacity empty standing = record {
+empty-TableFits table capacity empty standing first announced = record {
   written = λ id t. absurd (false≢true (sym (ap (λ slot. slot.flag) (empty id)) ∙ t));
   small = λ b t. omega (arith, made_small capacity b (ltb-true b (binary_digits capacity) (sym (standing b) ∙ t)));
   reserved = λ b t. standing b ∙ t;
   below = λ id v e. absurd (none-some v (sym (published_unset table id (ap (λ slot. slot.flag) (empty id))) ∙ e));
+  first_announced = first;
+  announced = λ b t. announced b (sym (standing b) ∙ t);
 }
 
 -- a new core fits
 pub made_core-fits : {V E : Type 0} (capacity extra : ℕ) → capacity < 2 ^ 63 → CoreFits {V = V} {E = E} (made_core capacity extra)
 made_core-fits {V} {E} capacity extra l = record {
   manager = record { peak_room = omega arith; capacity_room = omega arith; peak_ids = omega arith; capacity_ids = l };
-  table = empty-TableFits (made_table capacity) capacity (slot_at-made_table capacity) (bucket_stands-made_table V capacity);
+  table =
+      empty-TableFits (made_table capacity) capacity (slot_at-made_table capacity) (bucket_stands-made_table V capacity)
+      (λ b l. announced-made_table V capacity b ∙ or_left (nat_lt b 7) (reserves_bucket capacity b) (lt-ltb b 7 l))
+      (λ b t. announced-made_table V capacity b ∙ or_right (nat_lt b 7) (reserves_bucket capacity b) t);
   locals = record { each = λ n local e. cc; unshared = λ m n a b e f same. cc; none_from = λ n above. refl };
   walks = record { each = λ n walk e. cc; none_from = λ n above. refl };
   numbers = made-NumbersFit capacity;
@@ -385,6 +402,8 @@ drained-TableFits table capacity peak h = record {
       (sym (published_unset (drained table) id
       (ap (λ slot. slot.flag) (slot_at-drained table id)))
       ∙ e));
+  first_announced = λ b l. ap (λ f. f b) (announced-drained table) ∙ h.first_announced b l;
+  announced = λ b t. ap (λ f. f b) (announced-drained table) ∙ h.announced b (sym (bucket_stands-drained table b) ∙ t);
 }
 
 -- a core fits after a drain
@@ -412,7 +431,9 @@ cleared-fits core alone h = record {
   table =
       empty-TableFits (cleared core.table core.capacity) core.capacity
       (slot_at-cleared core.table core.capacity)
-      (λ b. bucket_stands-cleared core.table core.capacity b (h.table.reserved b));
+      (λ b. bucket_stands-cleared core.table core.capacity b (h.table.reserved b))
+      (λ b l. ap (λ f. f b) (announced-cleared core.table core.capacity) ∙ h.table.first_announced b l)
+      (λ b t. ap (λ f. f b) (announced-cleared core.table core.capacity) ∙ h.table.announced b (h.table.reserved b t));
   locals = no_locals-fit core (cleared core.table core.capacity) [] alone h;
   walks = no_walks-fit core (cleared core.table core.capacity) alone h;
   numbers = cleared-NumbersFit core.table core.capacity core.locals h.numbers;

@@ -13,14 +13,14 @@ use Rattle.thread_local_schedule.specs.Schedule.{is_take, is_refused, is_exclusi
 use Rattle.thread_local_schedule.specs.Schedule.{ends_table, is_granted_take, newcomer, NoneTaken}
 use Rattle.thread_local_schedule.specs.Bounds.{TakesBelow, NothingRefused}
 use mathlib.Core.Logic.{inl, inr}
-use Rattle.std.proofs.Common.{suc, ⊎_elim}
+use Rattle.std.proofs.Common.{suc, ◌+◌, cond, ⊎_elim}
 use Rattle.thread_local_base.specs.Answers.{Get, GetOr}
 use Rattle.thread_local_schedule.specs.Calls.{gets_of, closure_of, CallsStay, GoesOn}
-use Rattle.thread_local_schedule.specs.Local.{LoadPointer, LookAtFlag, InstallBucket, WriteValue, Reply}
+use Rattle.thread_local_schedule.specs.Local.{LoadPointer, LookAtFlag, AnnounceBucket, InstallBucket, WriteValue, Reply}
 use Rattle.std.proofs.lemmas.Bool.{false≢true, eqb-true}
 use Rattle.std.specs.Prelude.{option_map}
 use Rattle.thread_local_schedule.specs.Table.{Table, Bucket}
-use Rattle.thread_local_schedule.specs.SharedWalk.{WalkStep}
+use Rattle.thread_local_schedule.specs.SharedWalk.{WalkStep, buckets_among}
 use Rattle.thread_local_schedule.specs.Fits.{number_at}
 use Rattle.thread_local_schedule.specs.CoreFits.{CoreFits}
 use Rattle.thread_local_schedule.proofs.Clauses.{comes}
@@ -32,7 +32,7 @@ pub private : {V E : Type 0} (id : ℕ) (doing : Doing V E) (number : ℕ)
     → private_slots id doing ≡ 2 ^ bucket_of id
 private id (Gets count) number e = cc
 private id (Started create) number e = cc
-private id (Private create own) number e = refl
+private id (Private create own announced) number e = refl
 private id (Written v) number e = cc
 
 pub nothing : {V E : Type 0} (core : Core V E) (events later : List (Event V E)) (event : Event V E)
@@ -94,11 +94,13 @@ ungranted core refused growth t f = ungranted_of (is_enabled core (TakeId refuse
 pub made : {V E : Type 0} (core : Core V E) (n : ℕ) → is_refused core (OfLocal n (MakeBucket false)) ≡ false
 made core n = and_right (is_enabled core (OfLocal n (MakeBucket false))) false refl
 
-pub own : {V E : Type 0} (create : Result V E) (number : ℕ) → own_number (Private create number) ≡ Some number
-own create number = refl
+pub own : {V E : Type 0} (create : Result V E) (number : ℕ) (announced : Bool)
+    → own_number (Private create number announced) ≡ Some number
+own create number announced = refl
 
-pub own_slots : {V E : Type 0} (id number : ℕ) (create : Result V E) → private_slots id (Private create number) ≡ 2 ^ bucket_of id
-own_slots id number create = refl
+pub own_slots : {V E : Type 0} (id number : ℕ) (create : Result V E) (announced : Bool)
+    → private_slots id (Private create number announced) ≡ 2 ^ bucket_of id
+own_slots id number create announced = refl
 
 pub none_taken : {V E : Type 0} (core : Core V E) (events : List (Event V E)) (event : Event V E) → NoneTaken core events
     → is_granted_take (run core events) event ≡ false
@@ -125,6 +127,16 @@ pub numbers : {V : Type 0} (table : Table V) (bucket number : ℕ)
 unfolding number_at
 numbers table bucket number = number_of (table.pointers bucket) number
 
+-- the buckets among some are counted one by one
+pub none_among : (these : ℕ → Bool) → buckets_among these 0 ≡ 0
+unfolding buckets_among
+none_among these = refl
+
+pub one_among : (these : ℕ → Bool) (bucket : ℕ)
+    → buckets_among these (suc bucket) ≡ buckets_among these bucket + cond (these bucket) 1 0
+unfolding buckets_among
+one_among these bucket = refl
+
 -- no call begins or ends
 abbrev Stay : {V E : Type 0} → Local V E → Local V E → Type 0
 Stay before after =
@@ -137,12 +149,14 @@ stays_of before after x = (x.gets, x.closure, x.calls)
 pub calls_stay : {V E : Type 0} (before after : Local V E)
     → GoesOn LoadPointer before after
     ⊎ (GoesOn LookAtFlag before after
-    ⊎ (GoesOn (MakeBucket false) before after ⊎ GoesOn InstallBucket before after))
+    ⊎ (GoesOn (MakeBucket false) before after
+    ⊎ (GoesOn AnnounceBucket before after ⊎ GoesOn InstallBucket before after)))
     → Stay before after
 calls_stay before after (inl x) = stays_of before after x.calls
 calls_stay before after (inr (inl x)) = stays_of before after x.calls
 calls_stay before after (inr (inr (inl x))) = stays_of before after x.calls
-calls_stay before after (inr (inr (inr x))) = stays_of before after x.calls
+calls_stay before after (inr (inr (inr (inl x)))) = stays_of before after x.calls
+calls_stay before after (inr (inr (inr (inr x)))) = stays_of before after x.calls
 
 -- the publishing call ends
 abbrev End : {V E : Type 0} → Local V E → Local V E → Type 0

@@ -1,19 +1,19 @@
 -- What each step of a `Local` and of a walk needs: it is enabled there, and nowhere else.
-use Rattle.std.proofs.Common.{◌≡◌, ℕ, zero, suc, ◌<◌, ◌⊎◌, inl, inr, Bool, true, false, cond, Option, Some, None, Result, is_some}
+use Rattle.std.proofs.Common.{◌≡◌, ℕ, zero, suc, ◌<◌, ◌⊎◌, inl, inr, Bool, true, false, not, ◌&&◌, cond, Option, Some, None, Result, is_some}
 use Rattle.std.proofs.Common.{IsTrue, refl, ap, sym, ◌∙◌, ⊎_elim}
 use Rattle.std.specs.Prelude.{◌↔◌, ◌≢◌, nat_lt, option_map, option_and_then}
-use Rattle.std.proofs.lemmas.Bool.{false≢true, lt-ltb, ltb-true}
+use Rattle.std.proofs.lemmas.Bool.{false≢true, lt-ltb, ltb-true, not-true}
 use Rattle.thread_local_base.specs.Place.{bucket_of}
 use Rattle.thread_local_base.specs.Learnt.{Learnt, Unknown, Missing, Standing, Vacant, Holding, learnt_by_load, learnt_by_look}
 use Rattle.thread_local_base.specs.Learnt.{learnt_by_install, learnt_by_publish}
 use Rattle.thread_local_schedule.specs.Table.{Table, published, bucket_stands}
 use Rattle.thread_local_schedule.specs.Local.{Doing, Gets, Started, Private, Written, Local, LocalStep, local_step}
-use Rattle.thread_local_schedule.specs.Local.{BeginGet, BeginGetOr, LoadPointer, LookAtFlag, MakeBucket, InstallBucket}
+use Rattle.thread_local_schedule.specs.Local.{BeginGet, BeginGetOr, LoadPointer, LookAtFlag, MakeBucket, AnnounceBucket, InstallBucket}
 use Rattle.thread_local_schedule.specs.Local.{WriteValue, SetFlag, Reply, doing_with_get, doing_with_get_or, may_look}
-use Rattle.thread_local_schedule.specs.Local.{learns, closure_at_missing, private_bucket, closure_at_vacant, value_written}
+use Rattle.thread_local_schedule.specs.Local.{learns, closure_at_missing, unannounced_bucket, private_bucket, closure_at_vacant, value_written}
 use Rattle.thread_local_schedule.specs.Local.{install_bucket, set_flag, ending_of}
 use Rattle.thread_local_schedule.specs.Calls.{HasLearnt}
-use Rattle.thread_local_schedule.specs.SharedWalk.{SharedWalk, WalkStep, Load, Look, walk_step}
+use Rattle.thread_local_schedule.specs.SharedWalk.{SharedWalk, WalkStep, Pass, Load, Look, at_announced, walk_step}
 use Rattle.thread_local_schedule.specs.Core.{Core}
 use Rattle.thread_local_schedule.specs.CoreFits.{CoreFits}
 use Rattle.thread_local_schedule.specs.Events.{Event, OfLocal, OfWalk, with_step, with_walk, step_of, step, is_enabled}
@@ -55,7 +55,7 @@ gets : {V E : Type 0} (doing : Doing V E)
     → IsTrue (is_some (doing_with_get doing)) ↔ ((count : ℕ) × (doing ≡ Gets count))
 gets (Gets count) = (λ t. (count, refl), λ p. refl)
 gets (Started create) = (λ t. absurd (false≢true t), λ p. let e = p.1 in cc)
-gets (Private create number) = (λ t. absurd (false≢true t), λ p. let e = p.1 in cc)
+gets (Private create number announced) = (λ t. absurd (false≢true t), λ p. let e = p.1 in cc)
 gets (Written v) = (λ t. absurd (false≢true t), λ p. let e = p.1 in cc)
 
 none_under_way : {V E : Type 0} (create : Result V E) (doing : Doing V E)
@@ -63,7 +63,7 @@ none_under_way : {V E : Type 0} (create : Result V E) (doing : Doing V E)
 none_under_way create (Gets zero) = (λ t. refl, λ e. refl)
 none_under_way create (Gets (suc count)) = (λ t. absurd (false≢true t), λ e. cc)
 none_under_way create (Started other) = (λ t. absurd (false≢true t), λ e. cc)
-none_under_way create (Private other number) = (λ t. absurd (false≢true t), λ e. cc)
+none_under_way create (Private other number announced) = (λ t. absurd (false≢true t), λ e. cc)
 none_under_way create (Written v) = (λ t. absurd (false≢true t), λ e. cc)
 
 pub get_begins : {V E : Type 0} (core : Core V E) (n : ℕ) (local : Local V E) → core.ended ≡ false
@@ -93,7 +93,7 @@ looking : {V E A : Type 0} (doing : Doing V E) (o : Option A)
     → IsTrue (is_some (cond (may_look doing) o None)) ↔ (IsLooking doing × IsTrue (is_some o))
 looking (Gets count) o = (λ t. (inl (count, refl), t), λ p. p.1)
 looking (Started create) o = (λ t. (inr (create, refl), t), λ p. p.1)
-looking (Private create number) o = (
+looking (Private create number announced) o = (
   λ t. absurd (false≢true t),
   λ p. ⊎_elim (λ x. let e = x.1 in cc) (λ x. let e = x.1 in cc) p.0,
 )
@@ -160,7 +160,7 @@ missing (Started create) Standing = (λ t. absurd (false≢true t), λ p. let e 
 missing (Started create) Vacant = (λ t. absurd (false≢true t), λ p. let e = p.1 in cc)
 missing (Started create) (Holding v) = (λ t. absurd (false≢true t), λ p. let e = p.1 in cc)
 missing (Gets count) learnt = (λ t. absurd (false≢true t), λ p. let e = p.0.1 in cc)
-missing (Private create number) learnt = (λ t. absurd (false≢true t), λ p. let e = p.0.1 in cc)
+missing (Private create number announced) learnt = (λ t. absurd (false≢true t), λ p. let e = p.0.1 in cc)
 missing (Written v) learnt = (λ t. absurd (false≢true t), λ p. let e = p.0.1 in cc)
 
 pub asks : {V E : Type 0} (core : Core V E) (n : ℕ) (local : Local V E) (refused : Bool) → core.ended ≡ false
@@ -183,7 +183,7 @@ vacant (Started create) Missing = (λ t. absurd (false≢true t), λ p. let e = 
 vacant (Started create) Standing = (λ t. absurd (false≢true t), λ p. let e = p.1 in cc)
 vacant (Started create) (Holding v) = (λ t. absurd (false≢true t), λ p. let e = p.1 in cc)
 vacant (Gets count) learnt = (λ t. absurd (false≢true t), λ p. let e = p.0.1 in cc)
-vacant (Private create number) learnt = (λ t. absurd (false≢true t), λ p. let e = p.0.1 in cc)
+vacant (Private create number announced) learnt = (λ t. absurd (false≢true t), λ p. let e = p.0.1 in cc)
 vacant (Written v) learnt = (λ t. absurd (false≢true t), λ p. let e = p.0.1 in cc)
 
 pub writes : {V E : Type 0} (core : Core V E) (n : ℕ) (local : Local V E) → core.ended ≡ false
@@ -197,11 +197,32 @@ writes core n local going at =
     ∙ some_mapped _ (closure_at_vacant local.doing local.learnt))
     (vacant local.doing local.learnt)
 
--- a bucket is installed by the call that has made it
+-- a bucket is announced by the call that has made it and doesn't know it to be announced
+unknown : {V E : Type 0} (doing : Doing V E)
+    → IsTrue (is_some (unannounced_bucket doing))
+    ↔ ((create : Result V E) × (number : ℕ) × (doing ≡ Private create number false))
+unknown (Private create number false) = (λ t. (create, number, refl), λ p. refl)
+unknown (Private create number true) = (λ t. absurd (false≢true t), λ p. let e = p.2 in cc)
+unknown (Gets count) = (λ t. absurd (false≢true t), λ p. let e = p.2 in cc)
+unknown (Started create) = (λ t. absurd (false≢true t), λ p. let e = p.2 in cc)
+unknown (Written v) = (λ t. absurd (false≢true t), λ p. let e = p.2 in cc)
+
+pub announces : {V E : Type 0} (core : Core V E) (n : ℕ) (local : Local V E) → core.ended ≡ false
+    → core.locals n ≡ Some local
+    → IsTrue (is_enabled core (OfLocal n AnnounceBucket))
+    ↔ ((create : Result V E) × (number : ℕ) × (local.doing ≡ Private create number false))
+unfolding local_step
+announces core n local going at =
+    equal_tests _ _
+    (local_enabled core n local AnnounceBucket going at ∙ some_mapped _ (unannounced_bucket local.doing))
+    (unknown local.doing)
+
+-- a bucket is installed by the call that has made it and knows it to be announced
 own : {V E : Type 0} (table : Table V) (local : Local V E) (doing : Doing V E) → HasLearnt doing local.learnt
     → IsTrue (is_some (option_and_then (install_bucket table local) (private_bucket doing)))
-    ↔ ((create : Result V E) × (number : ℕ) × (doing ≡ Private create number))
-own table local (Private create number) h = (λ t. (create, number, refl), λ p. rw (some_learnt _ _ (learnt_by_install local.learnt), h) refl)
+    ↔ ((create : Result V E) × (number : ℕ) × (doing ≡ Private create number true))
+own table local (Private create number false) h = (λ t. absurd (false≢true t), λ p. let e = p.2 in cc)
+own table local (Private create number true) h = (λ t. (create, number, refl), λ p. rw (some_learnt _ _ (learnt_by_install local.learnt), h) refl)
 own table local (Gets count) h = (λ t. absurd (false≢true t), λ p. let e = p.2 in cc)
 own table local (Started create) h = (λ t. absurd (false≢true t), λ p. let e = p.2 in cc)
 own table local (Written v) h = (λ t. absurd (false≢true t), λ p. let e = p.2 in cc)
@@ -209,7 +230,7 @@ own table local (Written v) h = (λ t. absurd (false≢true t), λ p. let e = p.
 pub installs : {V E : Type 0} (core : Core V E) (n : ℕ) (local : Local V E) → CoreFits core → core.ended ≡ false
     → core.locals n ≡ Some local
     → IsTrue (is_enabled core (OfLocal n InstallBucket))
-    ↔ ((create : Result V E) × (number : ℕ) × (local.doing ≡ Private create number))
+    ↔ ((create : Result V E) × (number : ℕ) × (local.doing ≡ Private create number true))
 unfolding local_step
 installs core n local h going at =
     equal_tests _ _ (local_enabled core n local InstallBucket going at)
@@ -221,7 +242,7 @@ wrote : {V E : Type 0} (table : Table V) (local : Local V E) (doing : Doing V E)
 wrote table local (Written v) h = (λ t. (v, refl), λ p. rw (some_learnt _ _ (learnt_by_publish local.learnt v), h) refl)
 wrote table local (Gets count) h = (λ t. absurd (false≢true t), λ p. let e = p.1 in cc)
 wrote table local (Started create) h = (λ t. absurd (false≢true t), λ p. let e = p.1 in cc)
-wrote table local (Private create number) h = (λ t. absurd (false≢true t), λ p. let e = p.1 in cc)
+wrote table local (Private create number announced) h = (λ t. absurd (false≢true t), λ p. let e = p.1 in cc)
 
 pub sets : {V E : Type 0} (core : Core V E) (n : ℕ) (local : Local V E) → CoreFits core → core.ended ≡ false
     → core.locals n ≡ Some local
@@ -262,7 +283,7 @@ answer (Started create) Unknown = no_answer (Started create) Unknown (λ n e a b
 answer (Started create) Missing = no_answer (Started create) Missing (λ n e a b. cc) (λ c v e f. cc)
 answer (Started create) Standing = no_answer (Started create) Standing (λ n e a b. cc) (λ c v e f. cc)
 answer (Started create) Vacant = no_answer (Started create) Vacant (λ n e a b. cc) (λ c v e f. cc)
-answer (Private create number) learnt = no_answer (Private create number) learnt (λ n e a b. cc) (λ c v e f. cc)
+answer (Private create number announced) learnt = no_answer (Private create number announced) learnt (λ n e a b. cc) (λ c v e f. cc)
 answer (Written v) learnt = no_answer (Written v) learnt (λ n e a b. cc) (λ c w e f. cc)
 
 pub replies : {V E : Type 0} (core : Core V E) (n : ℕ) (local : Local V E) → core.ended ≡ false
@@ -273,22 +294,37 @@ replies core n local going at =
     equal_tests _ _ (local_enabled core n local Reply going at ∙ some_mapped _ (ending_of local.doing local.learnt))
     (answer local.doing local.learnt)
 
--- a walk loads a pointer where it doesn't look at a slot and isn't complete, and else looks
-loads_next : {A : Type 0} (looks below : Bool) (x : A)
-    → IsTrue (is_some (cond (cond looks false below) (Some x) None)) ↔ ((looks ≡ false) × IsTrue below)
-loads_next true below x = (λ t. absurd (false≢true t), λ p. absurd (false≢true (sym p.0)))
-loads_next false true x = (λ t. (refl, refl), λ p. refl)
-loads_next false false x = (λ t. absurd (false≢true t), λ p. absurd (false≢true p.1))
+-- A walk loads a pointer where it doesn't look at a slot, isn't complete and is at a bucket that was
+-- announced as it began. It passes any other bucket.
+going_next : {A : Type 0} (looks below this : Bool) (x : A)
+    → IsTrue (is_some (cond (cond looks false below && this) (Some x) None)) ↔ ((looks ≡ false) × IsTrue below × IsTrue this)
+going_next true below this x = (λ t. absurd (false≢true t), λ p. absurd (false≢true (sym p.0)))
+going_next false true true x = (λ t. (refl, refl, refl), λ p. refl)
+going_next false true false x = (λ t. absurd (false≢true t), λ p. absurd (false≢true p.2))
+going_next false false this x = (λ t. absurd (false≢true t), λ p. absurd (false≢true p.1))
 
 pub walk_loads : {V E : Type 0} (core : Core V E) (n : ℕ) (walk : SharedWalk V) → core.ended ≡ false
     → core.walks n ≡ Some walk
-    → IsTrue (is_enabled core (OfWalk n Load)) ↔ ((walk.cursor.looks ≡ false) × (walk.cursor.bucket < 63))
+    → IsTrue (is_enabled core (OfWalk n Load))
+    ↔ ((walk.cursor.looks ≡ false) × (walk.cursor.bucket < 63) × IsTrue (at_announced walk))
 unfolding walk_step
 walk_loads core n walk going at =
     equal_tests _ _ (walk_enabled core n walk Load going at)
-    (let both = loads_next walk.cursor.looks (nat_lt walk.cursor.bucket 63) _ in (
-      λ t. (let p = both.0 t in (p.0, ltb-true walk.cursor.bucket 63 p.1)),
-      λ p. both.1 (p.0, lt-ltb walk.cursor.bucket 63 p.1),
+    (let all = going_next walk.cursor.looks (nat_lt walk.cursor.bucket 63) (at_announced walk) _ in (
+      λ t. (let p = all.0 t in (p.0, ltb-true walk.cursor.bucket 63 p.1, p.2)),
+      λ p. all.1 (p.0, lt-ltb walk.cursor.bucket 63 p.1, p.2),
+    ))
+
+pub walk_passes : {V E : Type 0} (core : Core V E) (n : ℕ) (walk : SharedWalk V) → core.ended ≡ false
+    → core.walks n ≡ Some walk
+    → IsTrue (is_enabled core (OfWalk n Pass))
+    ↔ ((walk.cursor.looks ≡ false) × (walk.cursor.bucket < 63) × (at_announced walk ≡ false))
+unfolding walk_step
+walk_passes core n walk going at =
+    equal_tests _ _ (walk_enabled core n walk Pass going at)
+    (let all = going_next walk.cursor.looks (nat_lt walk.cursor.bucket 63) (not (at_announced walk)) _ in (
+      λ t. (let p = all.0 t in (p.0, ltb-true walk.cursor.bucket 63 p.1, not-true (at_announced walk) p.2)),
+      λ p. all.1 (p.0, lt-ltb walk.cursor.bucket 63 p.1, ap not p.2),
     ))
 
 looks_next : {A : Type 0} (looks : Bool) (x : A) → IsTrue (is_some (cond looks (Some x) None)) ↔ IsTrue looks

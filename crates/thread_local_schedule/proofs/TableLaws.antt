@@ -1,16 +1,16 @@
 -- How installing a bucket and changing a slot change what a table shows.
 use Rattle.std.proofs.Common.{◌≡◌, ℕ, ◌^◌, Bool, true, false, cond, eqb, IsTrue, Option, Some, None, is_some, refl, ap}
 use Rattle.std.proofs.Common.{sym, ◌∙◌, arith, ⊎_elim}
-use Rattle.std.proofs.lemmas.Bool.{cases_eq, cases_Bool, eq-eqb, ne_eqb, false≢true}
+use Rattle.std.proofs.lemmas.Bool.{cases_eq, cases_Bool, cond_both, eq-eqb, ne_eqb, false≢true}
 use Rattle.thread_local_base.specs.Place.{bucket_of, index_of}
 use Rattle.thread_local_base.proofs.PlaceLaws as place
 use Rattle.thread_local_schedule.specs.Table.{Slot, empty_slot, value_of, Bucket, fresh_bucket, Table, slot_of, slot_at}
-use Rattle.thread_local_schedule.specs.Table.{published, bucket_stands, with_fresh_bucket, with_slot_of}
+use Rattle.thread_local_schedule.specs.Table.{published, bucket_stands, with_announced, with_fresh_bucket, with_slot_of}
 use Rattle.thread_local_schedule.specs.Table.{with_table_slot, made_table}
 use Rattle.thread_local_base.specs.Capacity.{reserves_bucket}
 use Rattle.thread_local_schedule.specs.Local.{offered}
 use Rattle.thread_local_schedule.specs.Fits.{number_at, IsSameBucket}
-use Rattle.std.specs.Prelude.{option_map}
+use Rattle.std.specs.Prelude.{option_map, nat_lt, ◌||◌}
 
 pub same_function : {A B : Type 0} (f g : A → B) → ((x : A) → f x ≡ g x) → f ≡ g
 same_function f g h = λ i x. h x i
@@ -186,6 +186,56 @@ number_at-with_table_slot table id bucket slot =
     (with_slot_of (table.pointers bucket) (index_of id) slot) (table.pointers bucket)
     (number_at-with_table_slot_of (table.pointers bucket) (index_of id) slot)
 
+-- to announce a bucket changes no slot and no pointer, and leaves all announced that were
+pub slot_at-with_announced : {V : Type 0} (table : Table V) (bucket id : ℕ) → slot_at (with_announced table bucket) id ≡ slot_at table id
+unfolding slot_at with_announced
+slot_at-with_announced table bucket id = refl
+
+pub bucket_stands-with_announced : {V : Type 0} (table : Table V) (bucket other : ℕ)
+    → bucket_stands (with_announced table bucket) other ≡ bucket_stands table other
+unfolding bucket_stands with_announced
+bucket_stands-with_announced table bucket other = refl
+
+pub number_at-with_announced : {V : Type 0} (table : Table V) (bucket other : ℕ)
+    → number_at (with_announced table bucket) other ≡ number_at table other
+unfolding number_at with_announced
+number_at-with_announced table bucket other = refl
+
+pub announced-with_announced : {V : Type 0} (table : Table V) (bucket other : ℕ)
+    → (with_announced table bucket).announced other ≡ cond (eqb bucket other) true (table.announced other)
+unfolding with_announced
+announced-with_announced table bucket other = refl
+
+pub announced-more : {V : Type 0} (table : Table V) (bucket other : ℕ) → IsTrue (table.announced other)
+    → IsTrue ((with_announced table bucket).announced other)
+announced-more table bucket other t =
+    announced-with_announced table bucket other
+    ∙ cond_both (eqb bucket other) true (table.announced other) (λ b. b ≡ true) (λ _. refl) (λ _. t)
+
+pub announced-own : {V : Type 0} (table : Table V) (bucket : ℕ) → IsTrue ((with_announced table bucket).announced bucket)
+announced-own table bucket =
+    announced-with_announced table bucket bucket ∙ ap (λ here. cond here true (table.announced bucket)) (eq-eqb bucket bucket refl)
+
+-- an offer and a changed slot announce nothing
+announced-with_fresh_bucket : {V : Type 0} (table : Table V) (bucket number : ℕ)
+    → (with_fresh_bucket table bucket number).announced ≡ table.announced
+unfolding with_fresh_bucket
+announced-with_fresh_bucket table bucket number = refl
+
+announced-offer : {V : Type 0} (table : Table V) (bucket number : ℕ) (b : Bool)
+    → (cond b table (with_fresh_bucket table bucket number)).announced ≡ table.announced
+announced-offer table bucket number true = refl
+announced-offer table bucket number false = announced-with_fresh_bucket table bucket number
+
+pub announced-offered : {V : Type 0} (table : Table V) (bucket number : ℕ)
+    → (offered table bucket number).announced ≡ table.announced
+announced-offered table bucket number = announced-offer table bucket number (bucket_stands table bucket)
+
+pub announced-with_table_slot : {V : Type 0} (table : Table V) (id : ℕ) (slot : Slot V)
+    → (with_table_slot table id slot).announced ≡ table.announced
+unfolding with_table_slot
+announced-with_table_slot table id slot = refl
+
 -- an offer leaves every other pointer at its bucket, and its own if it isn't null
 pub number_at-with_fresh_bucket : {V : Type 0} (table : Table V) (bucket number other : ℕ)
     → (bucket ≡ other → ⊥)
@@ -224,6 +274,12 @@ pub bucket_stands-made_table : (T : Type 0) (capacity bucket : ℕ)
     → bucket_stands {V = T} (made_table capacity) bucket ≡ reserves_bucket capacity bucket
 unfolding bucket_stands made_table
 bucket_stands-made_table T capacity bucket = some-made {A = Bucket T} (reserves_bucket capacity bucket) (fresh_bucket bucket)
+
+-- the table of a capacity announces the first seven buckets and those that it reserves
+pub announced-made_table : (T : Type 0) (capacity bucket : ℕ)
+    → (made_table {V = T} capacity).announced bucket ≡ (nat_lt bucket 7 || reserves_bucket capacity bucket)
+unfolding made_table
+announced-made_table T capacity bucket = refl
 
 -- a pointer that leads to a bucket is not null
 some-mapped : {A B : Type 0} (f : A → B) (o : Option A) (b : B) → option_map f o ≡ Some b → IsTrue (is_some o)

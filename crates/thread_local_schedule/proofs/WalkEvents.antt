@@ -1,13 +1,14 @@
 -- What every event does to the shared walks: only a walk's own steps and its end change it.
 use Rattle.std.proofs.Common.{◌≡◌, ℕ, Bool, true, false, cond, Option, Some, None, is_some, IsTrue, IfSome, IsSomeAnd}
 use Rattle.std.proofs.Common.{refl, ap, sym, ◌∙◌, subst, arith, ⊎_elim}
-use Rattle.std.specs.Prelude.{option_map, option_and_then, unwrap_or, suc, ◌++◌, [], ◌∷◌, ◌==◌, if◌then◌else◌}
+use Rattle.std.specs.Prelude.{option_map, option_and_then, unwrap_or, suc, ◌++◌, [], ◌∷◌, ◌&&◌, nat_lt}
 use Rattle.std.proofs.lemmas.Option.{none-some}
 use Rattle.std.proofs.lemmas.Bool.{false≢true, eqb-false, cond_both}
 use Rattle.thread_local_base.specs.Cursor.{is_complete, cursor_id, after_load, after_look}
 use Rattle.thread_local_schedule.specs.Table.{Table, bucket_stands}
 use Rattle.thread_local_schedule.specs.Local.{LocalStep, local_step}
-use Rattle.thread_local_schedule.specs.SharedWalk.{SharedWalk, fresh_walk, with_pair, WalkStep, Load, Look, walk_step, next_step}
+use Rattle.thread_local_schedule.specs.SharedWalk.{SharedWalk, begun_walk, with_pair, WalkStep, Pass, Load, Look, at_announced}
+use Rattle.thread_local_schedule.specs.SharedWalk.{walk_step, next_step}
 use Rattle.thread_local_schedule.specs.WalkFits.{Adds}
 use Rattle.thread_local_schedule.proofs.WalkStepLaws.{walk_step-adds}
 use Rattle.thread_local_schedule.specs.Core.{Core, shadow, is_alone}
@@ -29,7 +30,7 @@ pub record WalksSay {V E : Type 0} (core : Core V E) (event : Event V E) (after 
   pub others : (n : ℕ) (walk : SharedWalk V) → is_of_walk n event ≡ false → core.walks n ≡ Some walk
       → after.walks n ≡ Some walk
   pub comes : (n : ℕ) (walk : SharedWalk V) → core.walks n ≡ None → after.walks n ≡ Some walk
-      → (walk ≡ fresh_walk) × IsTrue (begins_walk event) × (n ≡ core.walked)
+      → (walk ≡ begun_walk core.table) × IsTrue (begins_walk event) × (n ≡ core.walked)
 
 -- an event that leaves all walks
 leaves : {V E : Type 0} (core : Core V E) (event : Event V E) (after : Core V E)
@@ -70,9 +71,9 @@ begin_walk-says core h = record {
       ∙ at;
   comes = λ n walk none at.
       ⊎_elim
-      (λ here. let same : fresh_walk ≡ walk = (let some = here.1 in cc) in (sym same, refl, sym here.0))
+      (λ here. let same : begun_walk core.table ≡ walk = (let some = here.1 in cc) in (sym same, refl, sym here.0))
       (λ apart. absurd (none-some walk (sym none ∙ apart.1)))
-      (put_cases core.walks core.walked (Some fresh_walk) n walk at);
+      (put_cases core.walks core.walked (Some (begun_walk core.table)) n walk at);
 }
 
 of_walk-says : {V E : Type 0} (core : Core V E) (number : ℕ) (step : WalkStep)
@@ -134,10 +135,10 @@ walks_say core event h =
     (λ _. leaves core event core (λ n. refl))
     (λ _. says_of core event (step_of core event) (step_of-says core event h))
 
--- a walk begins fresh
+-- a walk begins with what is announced and published
 pub begins : {V E : Type 0} (core : Core V E) → IsTrue (is_enabled core BeginWalk)
-    → (happens core BeginWalk).walks core.walked ≡ Some fresh_walk
-begins core t = ap (λ after. after.walks core.walked) (goes core BeginWalk t) ∙ put_same core.walks core.walked (Some fresh_walk)
+    → (happens core BeginWalk).walks core.walked ≡ Some (begun_walk core.table)
+begins core t = ap (λ after. after.walks core.walked) (goes core BeginWalk t) ∙ put_same core.walks core.walked (Some (begun_walk core.table))
 
 -- a step of a walk adds to its record as it says
 added : {V E : Type 0} (core : Core V E) (n : ℕ) (step : WalkStep) (o : Option (SharedWalk V))
@@ -172,20 +173,32 @@ pub load_adds : {V E : Type 0} (core : Core V E) (n : ℕ) (before : SharedWalk 
     → IsTrue (is_enabled core (OfWalk n Load))
     → core.walks n ≡ Some before
     → IsSomeAnd ((happens core (OfWalk n Load)).walks n) (λ after.
-    (after.first ≡ (if before.loads == 0 then (shadow core).values else before.first))
+    (after.announced ≡ before.announced) × (after.first ≡ before.first)
     × (after.given ≡ before.given) × (after.read ≡ before.read) × (after.loads ≡ suc before.loads))
 load_adds core n before h t at =
-    some_and _ (Adds core.table Load before) _ (λ after a. (a.first, a.given, a.read, a.loads)) (adds core n Load before h t at)
+    some_and _ (Adds core.table Load before) _
+    (λ after a. (a.keeps.announced, a.keeps.first, a.given, a.read, a.loads)) (adds core n Load before h t at)
+
+pub pass_adds : {V E : Type 0} (core : Core V E) (n : ℕ) (before : SharedWalk V) → CoreFits core
+    → IsTrue (is_enabled core (OfWalk n Pass))
+    → core.walks n ≡ Some before
+    → IsSomeAnd ((happens core (OfWalk n Pass)).walks n) (λ after.
+    (after.announced ≡ before.announced) × (after.first ≡ before.first)
+    × (after.given ≡ before.given) × (after.read ≡ before.read) × (after.loads ≡ before.loads))
+pass_adds core n before h t at =
+    some_and _ (Adds core.table Pass before) _
+    (λ after a. (a.keeps.announced, a.keeps.first, a.given, a.read, a.loads)) (adds core n Pass before h t at)
 
 pub look_adds : {V E : Type 0} (core : Core V E) (n : ℕ) (before : SharedWalk V) → CoreFits core
     → IsTrue (is_enabled core (OfWalk n Look))
     → core.walks n ≡ Some before
     → let id : ℕ = cursor_id before.cursor in IsSomeAnd ((happens core (OfWalk n Look)).walks n) (λ after.
-    (after.first ≡ before.first)
+    (after.announced ≡ before.announced) × (after.first ≡ before.first)
     × (after.given ≡ with_pair before.given id ((shadow core).values id))
     × (after.read ≡ before.read ++ id ∷ []) × (after.loads ≡ before.loads))
 look_adds core n before h t at =
-    some_and _ (Adds core.table Look before) _ (λ after a. (a.first, a.given, a.read, a.loads)) (adds core n Look before h t at)
+    some_and _ (Adds core.table Look before) _
+    (λ after a. (a.keeps.announced, a.keeps.first, a.given, a.read, a.loads)) (adds core n Look before h t at)
 
 -- and its cursor goes on as its step says
 pub load_moves : {V E : Type 0} (core : Core V E) (n : ℕ) (before : SharedWalk V) → CoreFits core
@@ -195,6 +208,12 @@ pub load_moves : {V E : Type 0} (core : Core V E) (n : ℕ) (before : SharedWalk
     after.cursor ≡ after_load before.cursor (bucket_stands core.table before.cursor.bucket))
 load_moves core n before h t at = some_and _ (Adds core.table Load before) _ (λ after a. a.cursor) (adds core n Load before h t at)
 
+pub pass_moves : {V E : Type 0} (core : Core V E) (n : ℕ) (before : SharedWalk V) → CoreFits core
+    → IsTrue (is_enabled core (OfWalk n Pass))
+    → core.walks n ≡ Some before
+    → IsSomeAnd ((happens core (OfWalk n Pass)).walks n) (λ after. after.cursor ≡ after_load before.cursor false)
+pass_moves core n before h t at = some_and _ (Adds core.table Pass before) _ (λ after a. a.cursor) (adds core n Pass before h t at)
+
 pub look_moves : {V E : Type 0} (core : Core V E) (n : ℕ) (before : SharedWalk V) → CoreFits core
     → IsTrue (is_enabled core (OfWalk n Look))
     → core.walks n ≡ Some before
@@ -203,16 +222,17 @@ pub look_moves : {V E : Type 0} (core : Core V E) (n : ℕ) (before : SharedWalk
 look_moves core n before h t at = some_and _ (Adds core.table Look before) _ (λ after a. a.cursor) (adds core n Look before h t at)
 
 -- a walk that isn't complete can make a step
-loads : {V : Type 0} (table : Table V) (walk : SharedWalk V) (looks : Bool)
-    → walk.cursor.looks ≡ looks → is_complete walk.cursor ≡ false
-    → IsTrue (is_some (walk_step table walk (cond looks Look Load)))
+going : {A : Type 0} (below : Bool) (x : A) → cond below false true ≡ false → IsTrue (is_some (cond (below && true) (Some x) None))
+going true x f = refl
+going false x f = absurd (false≢true (sym f))
+
+steps : {V : Type 0} (table : Table V) (walk : SharedWalk V) (looks known : Bool)
+    → walk.cursor.looks ≡ looks → at_announced walk ≡ known → is_complete walk.cursor ≡ false
+    → IsTrue (is_some (walk_step table walk (cond looks Look (cond known Load Pass))))
 unfolding walk_step
-loads table walk true e f = rw e refl
-loads table walk false e f = rw e (below _ _ f)
-  where
-    below : {A : Type 0} (b : Bool) (x : A) → cond b false true ≡ false → IsTrue (is_some (cond b (Some x) None))
-    below true x f = refl
-    below false x f = absurd (false≢true (sym f))
+steps table walk true known e a f = rw e refl
+steps table walk false true e a f = rw (e, a) (going (nat_lt walk.cursor.bucket 63) _ f)
+steps table walk false false e a f = rw (e, a) (going (nat_lt walk.cursor.bucket 63) _ f)
 
 stepped_on : {V E : Type 0} (core : Core V E) (n : ℕ) (o : Option (SharedWalk V))
     → IsTrue (is_some o)
@@ -232,7 +252,7 @@ goes_on core n walk going at f =
     (λ w. option_map (with_walk core n) (walk_step core.table w (next_step walk))) o)))
     (sym at)
     (stepped_on core n (walk_step core.table walk (next_step walk))
-    (loads core.table walk walk.cursor.looks refl f)))
+    (steps core.table walk walk.cursor.looks (at_announced walk) refl refl f)))
 
 -- the end of a walk
 ended : {V E : Type 0} (core : Core V E) (n : ℕ) (o : Option (SharedWalk V))

@@ -1,9 +1,9 @@
 -- Every step of a shared walk keeps its invariant.
-use Rattle.std.proofs.Common.{◌≡◌, ℕ, suc, ◌+◌, ◌-◌, ◌^◌, ◌<◌, ◌≤◌, Bool, true, false, cond, eqb, List, [], ◌∷◌, ◌++◌}
-use Rattle.std.proofs.Common.{length, map, Option, Some, None, is_some, IsTrue, IfSome, refl, ap, sym, ◌∙◌, subst}
-use Rattle.std.proofs.Common.{arith, ⊎_elim, pow_pos, length-append}
+use Rattle.std.proofs.Common.{◌≡◌, ℕ, suc, ◌+◌, ◌-◌, ◌^◌, ◌<◌, ◌≤◌, Bool, true, false, not, ◌&&◌, cond, eqb, List, [], ◌∷◌, ◌++◌}
+use Rattle.std.proofs.Common.{map, Option, Some, None, is_some, IsTrue, IfSome, refl, ap, sym, ◌∙◌, subst}
+use Rattle.std.proofs.Common.{arith, ⊎_elim, pow_pos}
 use Rattle.std.specs.Prelude.{nat_lt}
-use Rattle.std.proofs.lemmas.Bool.{cond_both, cases_lt, eqb-true, false≢true}
+use Rattle.std.proofs.lemmas.Bool.{cond_both, cases_lt, and_parts, not-true, ltb-false, false_from_ne_true, false≢true}
 use Rattle.std.proofs.lemmas.List.{map-append}
 use Rattle.std.proofs.lemmas.List.Elements.{Contains-append_left, Contains-append_right, Contains-append_cases}
 use Rattle.std.proofs.Math.Nat.{two-pow-succ}
@@ -15,9 +15,10 @@ use Rattle.thread_local_base.proofs.CursorLaws as cursors
 use Rattle.thread_local_base.proofs.WalkLaws.{ascends-push, Contains-one}
 use Rattle.thread_local_schedule.proofs.TableLaws.{published_stands}
 use Rattle.thread_local_schedule.specs.Table.{Table, slot_of, slot_at, value_of, published, bucket_stands}
-use Rattle.thread_local_schedule.specs.SharedWalk.{SharedWalk, fresh_walk, walk_load, shown_at, with_pair, walk_look}
-use Rattle.thread_local_schedule.specs.SharedWalk.{WalkStep, Load, Look, walk_step}
-use Rattle.thread_local_schedule.specs.WalkFits.{RecordFits, WalkFits, Loads, Looks, Adds}
+use Rattle.thread_local_schedule.specs.SharedWalk.{SharedWalk, begun_walk, walk_pass, walk_load, shown_at, with_pair, walk_look}
+use Rattle.thread_local_schedule.specs.SharedWalk.{WalkStep, Pass, Load, Look, at_announced, walk_step, buckets_among}
+use Rattle.thread_local_schedule.specs.Fits.{AllAnnounced}
+use Rattle.thread_local_schedule.specs.WalkFits.{RecordFits, WalkFits, Passes, Loads, Looks, Adds}
 
 -- a bound on ascending ids may grow
 ascends_within : (ids : List ℕ) (m n : ℕ) → m ≤ n → IsAscendingBelow ids m → IsAscendingBelow ids n
@@ -41,13 +42,14 @@ pub walk_carried : {V : Type 0} (old new : Table V) (walk : SharedWalk V)
 walk_carried old new walk grows h = record {
   fits = record_carried old new walk.first walk.given walk.read (cursor_id walk.cursor) grows h.fits;
   cursor = h.cursor;
-  unloaded = h.unloaded;
+  seen_announced = h.seen_announced;
+  looks_announced = h.looks_announced;
   loads = h.loads;
 }
 
--- a cursor may pass ids at which nothing seen at first is published
+-- a cursor may pass ids at which nothing was seen at first
 passes : {V : Type 0} (table : Table V) (first : ℕ → Option V) (given : List (ℕ × V)) (read : List ℕ) (m n : ℕ) → m ≤ n
-    → ((id : ℕ) (v : V) → m ≤ id → id < n → published table id ≡ Some v → ⊥)
+    → ((id : ℕ) (v : V) → m ≤ id → id < n → first id ≡ Some v → ⊥)
     → RecordFits table first given read m → RecordFits table first given read n
 passes table first given read m n h none r = record {
   first_stays = r.first_stays;
@@ -57,7 +59,7 @@ passes table first given read m n h none r = record {
   passed = λ id v e l.
       ⊎_elim
       (λ below. r.passed id v e below)
-      (λ above. absurd (none id v above l (r.first_stays id v e)))
+      (λ above. absurd (none id v above l e))
       (cases_lt id m);
 }
 
@@ -68,7 +70,10 @@ reads : {V : Type 0} (table : Table V) (first : ℕ → Option V) (given : List 
     → RecordFits table first given read n → RecordFits table first given (read ++ n ∷ []) (suc n)
 reads table first given read n none r =
     let on = passes table first given read n (suc n) (omega arith)
-    (λ id v low high e. let same : id ≡ n = omega arith in absurd (let f = ap (published table) same in cc)) r in
+    (λ id v low high e.
+    let same : id ≡ n = omega arith in
+    let stays = r.first_stays id v e in
+    absurd (let f = ap (published table) same in cc)) r in
     record {
       first_stays = r.first_stays;
       given_stays = r.given_stays;
@@ -104,88 +109,124 @@ gives table first given read n v some r = record {
       (cases_lt id n);
 }
 
--- where the walk is after a load, in the same bucket or at the next, its count of loads fits
-loaded_once : (cursor : Cursor) → (at_place cursor).bucket + cond (at_place cursor).looks 1 0 ≡ suc cursor.bucket
-loaded_once cursor =
+-- A walk has loaded the pointers of the announced buckets that it passed, and of the one in which it
+-- looks. At a place of a bucket whose pointer it has loaded, that count fits.
+abbrev loaded : (ℕ → Bool) → Cursor → ℕ
+loaded announced cursor = buckets_among announced cursor.bucket + cond cursor.looks 1 0
+
+one_more : (announced : ℕ → Bool) (bucket : ℕ) → IsTrue (announced bucket)
+    → buckets_among announced (suc bucket) ≡ suc (buckets_among announced bucket)
+unfolding buckets_among
+one_more announced bucket t = rw t (omega arith)
+
+none_more : (announced : ℕ → Bool) (bucket : ℕ) → announced bucket ≡ false
+    → buckets_among announced (suc bucket) ≡ buckets_among announced bucket
+unfolding buckets_among
+none_more announced bucket f = rw f (omega arith)
+
+placed : (announced : ℕ → Bool) (cursor : Cursor) → IsTrue (announced cursor.bucket)
+    → loaded announced (at_place cursor) ≡ suc (buckets_among announced cursor.bucket)
+placed announced cursor t =
     cond_both {A = Cursor} (eqb cursor.index (2 ^ cursor.bucket)) (at_next_bucket cursor)
     (record cursor { looks = true })
-    (λ after. after.bucket + cond after.looks 1 0 ≡ suc cursor.bucket)
+    (λ after. loaded announced after ≡ suc (buckets_among announced cursor.bucket))
+    (λ _. omega (arith, one_more announced cursor.bucket t))
     (λ _. omega arith)
-    (λ _. omega arith)
 
-load_counts : (cursor : Cursor) (bucket_stands : Bool)
-    → (after_load cursor bucket_stands).bucket + cond (after_load cursor bucket_stands).looks 1 0
-    ≡ suc cursor.bucket
-load_counts cursor true = loaded_once cursor
-load_counts cursor false = omega arith
+load_counts : (announced : ℕ → Bool) (cursor : Cursor) (bucket_stands : Bool) → IsTrue (announced cursor.bucket)
+    → loaded announced (after_load cursor bucket_stands) ≡ suc (buckets_among announced cursor.bucket)
+load_counts announced cursor true t = placed announced cursor t
+load_counts announced cursor false t = omega (arith, one_more announced cursor.bucket t)
 
--- the first load records what is published, and no id was passed yet
-first_load-fits : {V : Type 0} (table : Table V) (walk : SharedWalk V) → WalkFits table walk
-    → RecordFits table (walk_load table walk).first walk.given walk.read (cursor_id walk.cursor)
-first_load-fits {V} table walk h =
-    cond_both {A = ℕ → Option _} (eqb walk.loads 0) (published table) walk.first
-    (λ first. RecordFits table first walk.given walk.read (cursor_id walk.cursor))
-    (λ t.
-    let e = eqb-true walk.loads 0 t in
-    let start = h.unloaded e in
-    let l = h.loads in
-    let zero_bucket : walk.cursor.bucket ≡ 0 = omega arith in
-    let power : 2 ^ walk.cursor.bucket ≡ 2 ^ 0 = ap (λ k. 2 ^ k) zero_bucket in
-    record {
-      first_stays = λ id v p. p;
-      given_stays = h.fits.given_stays;
-      given_ascend = h.fits.given_ascend;
-      read_ascend = h.fits.read_ascend;
-      passed = λ id v p below. absurd (omega arith);
-    })
-    (λ f. h.fits)
+-- where it looks next, it is in the bucket that it has just loaded
+placed_announced : (announced : ℕ → Bool) (cursor : Cursor) → IsTrue (announced cursor.bucket)
+    → IsTrue (at_place cursor).looks → IsTrue (announced (at_place cursor).bucket)
+placed_announced announced cursor t =
+    cond_both {A = Cursor} (eqb cursor.index (2 ^ cursor.bucket)) (at_next_bucket cursor)
+    (record cursor { looks = true })
+    (λ after. IsTrue after.looks → IsTrue (announced after.bucket))
+    (λ _ f. absurd (false≢true f))
+    (λ _ _. t)
 
--- no value is published in a bucket that doesn't stand
-none_missing : {V : Type 0} (table : Table V) (bucket index id : ℕ) (v : V)
-    → bucket_stands table bucket ≡ false → index ≤ 2 ^ bucket
-    → id_at bucket index ≤ id → id < id_at (suc bucket) 0 → published table id ≡ Some v → ⊥
-none_missing table bucket index id v none i low high e =
+load_announced : (announced : ℕ → Bool) (cursor : Cursor) (bucket_stands : Bool) → IsTrue (announced cursor.bucket)
+    → IsTrue (after_load cursor bucket_stands).looks → IsTrue (announced (after_load cursor bucket_stands).bucket)
+load_announced announced cursor true t = placed_announced announced cursor t
+load_announced announced cursor false t = λ f. absurd (false≢true f)
+
+-- what was seen at first in a bucket lies at its ids
+none_within : {V : Type 0} (first : ℕ → Option V) (bucket index id : ℕ) (v : V) → (bucket_of id ≡ bucket → first id ≡ Some v → ⊥)
+    → index ≤ 2 ^ bucket → id_at bucket index ≤ id → id < id_at (suc bucket) 0 → first id ≡ Some v → ⊥
+none_within first bucket index id v none i low high e =
     let some = pow_pos bucket in
     let twice = two-pow-succ bucket in
     let at : bucket ≡ bucket_of id = (place.only_place id bucket (id + 1 - 2 ^ bucket) (omega arith) (omega arith)).0 in
-    false≢true (sym none ∙ ap (bucket_stands table) at ∙ published_stands table id v e)
+    none (sym at) e
 
--- a load passes no id with a published value
-load_passes : {V : Type 0} (table : Table V) (first : ℕ → Option V) (given : List (ℕ × V))
-    (read : List ℕ) (cursor : Cursor) (number_at : Bool)
-    → bucket_stands table cursor.bucket ≡ number_at
+-- a walk goes on to the next bucket where nothing was seen at first in this one
+next_passes : {V : Type 0} (table : Table V) (first : ℕ → Option V) (given : List (ℕ × V))
+    (read : List ℕ) (cursor : Cursor)
+    → ((id : ℕ) (v : V) → bucket_of id ≡ cursor.bucket → first id ≡ Some v → ⊥)
     → cursor.index ≤ 2 ^ cursor.bucket → RecordFits table first given read (cursor_id cursor)
-    → RecordFits table first given read (cursor_id (after_load cursor number_at))
-load_passes table first given read cursor true e i r = subst (RecordFits table first given read) (sym (cursors.at_place-id cursor)) r
-load_passes table first given read cursor false e i r =
+    → RecordFits table first given read (cursor_id (after_load cursor false))
+next_passes table first given read cursor none i r =
     let some = pow_pos cursor.bucket in
     let twice = two-pow-succ cursor.bucket in
     passes table first given read (cursor_id cursor) (id_at (suc cursor.bucket) 0) (omega arith)
-    (λ id v. none_missing table cursor.bucket cursor.index id v e i) r
+    (λ id v. none_within first cursor.bucket cursor.index id v (none id v) i) r
 
-walk_load-fits : {V : Type 0} (table : Table V) (walk : SharedWalk V)
-    → IsTrue (may_load walk.cursor) → walk.cursor.looks ≡ false → WalkFits table walk
-    → WalkFits table (walk_load table walk)
-walk_load-fits table walk t e h =
-    let l : walk.loads ≡ walk.cursor.bucket + length walk.given + 0 = rw e at h.loads in
-    let counted = load_counts walk.cursor (bucket_stands table walk.cursor.bucket) in
-    record {
-      fits =
-          load_passes table (walk_load table walk).first walk.given walk.read walk.cursor
-          (bucket_stands table walk.cursor.bucket) refl h.cursor.within
-          (first_load-fits table walk h);
-      cursor = cursors.after_load-fits walk.cursor (bucket_stands table walk.cursor.bucket) h.cursor t;
-      unloaded = λ none. absurd (omega arith);
-      loads = omega arith;
-    }
+-- no value is published in a bucket that doesn't stand
+none_missing : {V : Type 0} (table : Table V) (bucket id : ℕ) (v : V) → bucket_stands table bucket ≡ false
+    → bucket_of id ≡ bucket → published table id ≡ Some v → ⊥
+none_missing table bucket id v none at e =
+    false≢true (sym none ∙ ap (bucket_stands table) (sym at) ∙ published_stands table id v e)
 
--- a walk that loads next doesn't look next
+-- a load passes no id at which a value was seen at first
+load_passes : {V : Type 0} (table : Table V) (first : ℕ → Option V) (given : List (ℕ × V))
+    (read : List ℕ) (cursor : Cursor) (stands : Bool)
+    → bucket_stands table cursor.bucket ≡ stands
+    → cursor.index ≤ 2 ^ cursor.bucket → RecordFits table first given read (cursor_id cursor)
+    → RecordFits table first given read (cursor_id (after_load cursor stands))
+load_passes table first given read cursor true e i r = subst (RecordFits table first given read) (sym (cursors.at_place-id cursor)) r
+load_passes table first given read cursor false e i r =
+    next_passes table first given read cursor (λ id v at seen. none_missing table cursor.bucket id v e at (r.first_stays id v seen)) i r
+
+-- a walk that loads or passes next doesn't look next
 not_looking : (cursor : Cursor) → IsTrue (may_load cursor) → cursor.looks ≡ false
 not_looking cursor = by_looks cursor.looks
   where
     by_looks : (looks : Bool) → IsTrue (cond looks false (nat_lt cursor.bucket 63)) → looks ≡ false
     by_looks true t = absurd (false≢true t)
     by_looks false t = refl
+
+walk_pass-fits : {V : Type 0} (table : Table V) (walk : SharedWalk V)
+    → IsTrue (may_load walk.cursor) → at_announced walk ≡ false → WalkFits table walk
+    → WalkFits table (walk_pass walk)
+walk_pass-fits table walk t none h =
+    let l : walk.loads ≡ buckets_among walk.announced walk.cursor.bucket + 0 = rw (not_looking walk.cursor t) at h.loads in
+    record {
+      fits =
+          next_passes table walk.first walk.given walk.read walk.cursor
+          (λ id v at seen. false≢true (sym none ∙ ap walk.announced (sym at) ∙ h.seen_announced id v seen))
+          h.cursor.within h.fits;
+      cursor = cursors.after_load-fits walk.cursor false h.cursor t;
+      seen_announced = h.seen_announced;
+      looks_announced = λ f. absurd (false≢true f);
+      loads = omega (arith, none_more walk.announced walk.cursor.bucket none);
+    }
+
+walk_load-fits : {V : Type 0} (table : Table V) (walk : SharedWalk V)
+    → IsTrue (may_load walk.cursor) → IsTrue (at_announced walk) → WalkFits table walk
+    → WalkFits table (walk_load table walk)
+walk_load-fits table walk t some h =
+    let l : walk.loads ≡ buckets_among walk.announced walk.cursor.bucket + 0 = rw (not_looking walk.cursor t) at h.loads in
+    let stands = bucket_stands table walk.cursor.bucket in
+    record {
+      fits = load_passes table walk.first walk.given walk.read walk.cursor stands refl h.cursor.within h.fits;
+      cursor = cursors.after_load-fits walk.cursor stands h.cursor t;
+      seen_announced = h.seen_announced;
+      looks_announced = load_announced walk.announced walk.cursor stands some;
+      loads = omega (arith, load_counts walk.announced walk.cursor stands some);
+    }
 
 -- the slot at a place shows what is published at its id
 pub shown_at_place : {V : Type 0} (table : Table V) (bucket index : ℕ) → index < 2 ^ bucket
@@ -201,21 +242,14 @@ look_reads : {V : Type 0} (table : Table V) (first : ℕ → Option V) (given : 
 look_reads table first given read id None e r = reads table first given read id e r
 look_reads table first given read id (Some v) e r = gives table first given read id v e r
 
--- a look that gives a value leaves the pointer to be loaded once more
-look_counts : {V : Type 0} (cursor : Cursor) (given : List (ℕ × V)) (id : ℕ) (shown : Option V)
-    → (after_look cursor (is_some shown)).bucket + length (with_pair given id shown)
-    + cond (after_look cursor (is_some shown)).looks 1 0
-    ≡ suc (cursor.bucket + length given)
-look_counts cursor given id None = let once = loaded_once (record cursor { index = suc cursor.index }) in omega arith
-look_counts cursor given id (Some v) = rw (length-append given ((id, v) ∷ [])) (omega arith)
-
 walk_look-fits : {V : Type 0} (table : Table V) (walk : SharedWalk V) → IsTrue walk.cursor.looks
     → WalkFits table walk
     → WalkFits table (walk_look table walk)
 walk_look-fits table walk t h =
     let shown = shown_at table walk.cursor in
-    let l : walk.loads ≡ walk.cursor.bucket + length walk.given + 1 = rw t at h.loads in
-    let counted = look_counts walk.cursor walk.given (cursor_id walk.cursor) shown in
+    let onward = record walk.cursor { index = suc walk.cursor.index } in
+    let here = h.looks_announced t in
+    let l : walk.loads ≡ buckets_among walk.announced walk.cursor.bucket + 1 = rw t at h.loads in
     record {
       fits =
           subst (RecordFits table walk.first (with_pair walk.given (cursor_id walk.cursor) shown)
@@ -225,8 +259,9 @@ walk_look-fits table walk t h =
           (shown_at_place table walk.cursor.bucket walk.cursor.index (h.cursor.looks_inside t))
           h.fits);
       cursor = cursors.after_look-fits walk.cursor (is_some shown) h.cursor t;
-      unloaded = λ none. absurd (omega arith);
-      loads = omega arith;
+      seen_announced = h.seen_announced;
+      looks_announced = placed_announced walk.announced onward here;
+      loads = omega (arith, placed walk.announced onward here);
     }
 
 -- every enabled step of a walk leaves it fitting
@@ -234,26 +269,37 @@ pub walk_step-fits : {V : Type 0} (table : Table V) (walk : SharedWalk V) (step 
     → WalkFits table walk
     → IfSome (walk_step table walk step) (WalkFits table)
 unfolding walk_step
+walk_step-fits table walk Pass h =
+    cond_both {A = Option (SharedWalk _)} (may_load walk.cursor && not (at_announced walk)) (Some (walk_pass walk)) None
+    (λ o. IfSome o (WalkFits table))
+    (λ t.
+    let both = and_parts (may_load walk.cursor) (not (at_announced walk)) t in
+    walk_pass-fits table walk both.0 (not-true (at_announced walk) both.1) h)
+    (λ _. tt)
 walk_step-fits table walk Load h =
-    cond_both {A = Option (SharedWalk _)} (may_load walk.cursor) (Some (walk_load table walk)) None (λ o. IfSome o (WalkFits table))
-    (λ t. walk_load-fits table walk t (not_looking walk.cursor t) h)
+    cond_both {A = Option (SharedWalk _)} (may_load walk.cursor && at_announced walk) (Some (walk_load table walk)) None
+    (λ o. IfSome o (WalkFits table))
+    (λ t. let both = and_parts (may_load walk.cursor) (at_announced walk) t in walk_load-fits table walk both.0 both.1 h)
     (λ _. tt)
 walk_step-fits table walk Look h =
     cond_both {A = Option (SharedWalk _)} walk.cursor.looks (Some (walk_look table walk)) None (λ o. IfSome o (WalkFits table))
     (λ t. walk_look-fits table walk t h)
     (λ _. tt)
 
-pub fresh_walk-fits : {V : Type 0} (table : Table V) → WalkFits table fresh_walk
-fresh_walk-fits table = record {
+-- a walk that begins, where each bucket that stands is announced
+pub begun_walk-fits : {V : Type 0} (table : Table V) → AllAnnounced table → WalkFits table (begun_walk table)
+unfolding buckets_among
+begun_walk-fits table announced = record {
   fits = record {
-    first_stays = λ id v e. cc;
+    first_stays = λ id v e. e;
     given_stays = λ id v e. absurd (omega (arith, e.1));
     given_ascend = record { increasing = λ k l. absurd (omega arith); below = λ k l. absurd (omega arith) };
     read_ascend = record { increasing = λ k l. absurd (omega arith); below = λ k l. absurd (omega arith) };
-    passed = λ id v e l. cc;
+    passed = λ id v e l. absurd (omega arith);
   };
   cursor = cursors.fresh_cursor-fits;
-  unloaded = λ e. refl;
+  seen_announced = λ id v e. announced (bucket_of id) (published_stands table id v e);
+  looks_announced = λ f. absurd (false≢true f);
   loads = refl;
 }
 
@@ -262,14 +308,20 @@ pub walk_step-adds : {V : Type 0} (table : Table V) (walk : SharedWalk V) (step 
     → WalkFits table walk
     → IfSome (walk_step table walk step) (Adds table step walk)
 unfolding walk_step
+walk_step-adds table walk Pass h =
+    cond_both {A = Option (SharedWalk _)} (may_load walk.cursor && not (at_announced walk)) (Some (walk_pass walk)) None
+    (λ o. IfSome o (Passes walk))
+    (λ _. record { keeps = record { announced = refl; first = refl }; given = refl; read = refl; loads = refl; cursor = refl })
+    (λ _. tt)
 walk_step-adds table walk Load h =
-    cond_both {A = Option (SharedWalk _)} (may_load walk.cursor) (Some (walk_load table walk)) None (λ o. IfSome o (Loads table walk))
-    (λ _. record { first = refl; given = refl; read = refl; loads = refl; cursor = refl })
+    cond_both {A = Option (SharedWalk _)} (may_load walk.cursor && at_announced walk) (Some (walk_load table walk)) None
+    (λ o. IfSome o (Loads table walk))
+    (λ _. record { keeps = record { announced = refl; first = refl }; given = refl; read = refl; loads = refl; cursor = refl })
     (λ _. tt)
 walk_step-adds table walk Look h =
     cond_both {A = Option (SharedWalk _)} walk.cursor.looks (Some (walk_look table walk)) None (λ o. IfSome o (Looks table walk))
     (λ t. record {
-      first = refl;
+      keeps = record { announced = refl; first = refl };
       given =
           ap (with_pair walk.given (cursor_id walk.cursor))
           (sym
@@ -288,3 +340,19 @@ pub complete_cursor : {V : Type 0} (table : Table V) (walk : SharedWalk V) → W
     → IsTrue (is_complete walk.cursor)
     → cursor_id walk.cursor ≡ 2 ^ 63 - 1
 complete_cursor table walk h t = cursors.complete_id walk.cursor h.cursor t
+
+-- and loaded the pointer of each bucket that was announced
+is_past : (within : Bool) → IsTrue (cond within false true) → within ≡ false
+is_past true t = absurd (false≢true t)
+is_past false t = refl
+
+pub complete_loads : {V : Type 0} (table : Table V) (walk : SharedWalk V) → WalkFits table walk
+    → IsTrue (is_complete walk.cursor)
+    → walk.loads ≡ buckets_among walk.announced 63
+complete_loads table walk h t =
+    let past : 63 ≤ walk.cursor.bucket = ltb-false walk.cursor.bucket 63 (is_past (nat_lt walk.cursor.bucket 63) t) in
+    let low = h.cursor.in_table in
+    let last : walk.cursor.bucket ≡ 63 = omega arith in
+    let still = false_from_ne_true walk.cursor.looks (λ looks. let inside = h.cursor.looks_in_table looks in omega arith) in
+    let l : walk.loads ≡ buckets_among walk.announced walk.cursor.bucket + 0 = rw still at h.loads in
+    omega (arith, ap (buckets_among walk.announced) last)

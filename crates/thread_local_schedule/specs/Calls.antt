@@ -16,7 +16,7 @@ gets_of doing = 0
 abbrev pub closure_of : {V E : Type 0} → Doing V E → Option (Result V E)
 closure_of (Gets count) = None
 closure_of (Started create) = Some create
-closure_of (Private create number) = Some create
+closure_of (Private create number announced) = Some create
 closure_of (Written v) = Some (Ok v)
 
 -- no call of this Local is under way
@@ -79,7 +79,7 @@ pub record GoesOn {V E : Type 0} (step : LocalStep V E) (before after : Local V 
 -- a Local whose call has a bucket of its own found its bucket missing, and one whose call has
 -- written its value found its slot vacant
 abbrev pub HasLearnt : {V E : Type 0} → Doing V E → Learnt V → Type 0
-HasLearnt (Private create number) learnt = learnt ≡ Missing
+HasLearnt (Private create number announced) learnt = learnt ≡ Missing
 HasLearnt (Written v) learnt = learnt ≡ Vacant
 HasLearnt doing learnt = ⊤
 
@@ -92,8 +92,8 @@ looks_left learnt = 0
 -- how many steps a publishing call still makes that has no bucket of its own and has written
 -- nothing
 abbrev pub started_left : {V : Type 0} → Learnt V → ℕ
-started_left Unknown = 5
-started_left Missing = 4
+started_left Unknown = 6
+started_left Missing = 5
 started_left Standing = 3
 started_left Vacant = 2
 started_left (Holding v) = 1
@@ -104,7 +104,8 @@ abbrev pub steps_left : {V E : Type 0} → Doing V E → Learnt V → ℕ
 steps_left (Gets zero) learnt = 0
 steps_left (Gets (suc count)) learnt = suc count + looks_left learnt
 steps_left (Started create) learnt = started_left learnt
-steps_left (Private create number) learnt = 3
+steps_left (Private create number false) learnt = 4
+steps_left (Private create number true) learnt = 3
 steps_left (Written v) learnt = 1
 
 -- after a step of a Local's call fewer steps are left

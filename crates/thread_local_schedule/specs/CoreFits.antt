@@ -6,7 +6,7 @@ use Rattle.thread_local_base.specs.Capacity.{reserves_bucket, is_reserved}
 use Rattle.thread_local_schedule.specs.Table.{Table, published, bucket_stands}
 use Rattle.thread_local_schedule.specs.Local.{Local}
 use Rattle.thread_local_schedule.specs.SharedWalk.{SharedWalk}
-use Rattle.thread_local_schedule.specs.Fits.{AllWritten, LocalFits, number_at}
+use Rattle.thread_local_schedule.specs.Fits.{AllWritten, AllAnnounced, LocalFits, number_at}
 use Rattle.thread_local_schedule.specs.Calls.{HasLearnt}
 use Rattle.thread_local_schedule.specs.Numbers.{own_number}
 use Rattle.thread_local_schedule.specs.WalkFits.{WalkFits}
@@ -20,13 +20,15 @@ pub record ManagerFits (manager : Manager) (capacity : ℕ) : Type 0 where
   pub capacity_ids : capacity < 2 ^ 63
 
 -- flags are set only over written values; a bucket that stands has no more slots than the capacity
--- or the peak, whichever is greater; the reserved buckets stand; and published values lie below the
--- peak
+-- or the peak, whichever is greater; the reserved buckets stand; published values lie below the
+-- peak; and the first seven buckets are announced, and each that stands
 pub record TableFits {V : Type 0} (table : Table V) (capacity peak : ℕ) : Type 0 where
   pub written : AllWritten table
   pub small : (bucket : ℕ) → IsTrue (bucket_stands table bucket) → 2 ^ bucket ≤ max capacity peak
   pub reserved : (bucket : ℕ) → IsTrue (reserves_bucket capacity bucket) → IsTrue (bucket_stands table bucket)
   pub below : (id : ℕ) (v : V) → published table id ≡ Some v → id < peak
+  pub first_announced : (bucket : ℕ) → bucket < 7 → IsTrue (table.announced bucket)
+  pub announced : AllAnnounced table
 
 -- a Local fits its table, what it does fits what it has learnt, its id is held, and if that is
 -- reserved its bucket is known to stand from the start

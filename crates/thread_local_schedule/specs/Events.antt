@@ -5,7 +5,7 @@ use Rattle.thread_local_base.specs.Held.{least, is_granted, taken_from, given_to
 use Rattle.thread_local_base.specs.Answers.{first_view}
 use Rattle.thread_local_schedule.specs.Local.{Doing, Gets, Local, fresh_local, LocalStep, local_step}
 use Rattle.thread_local_schedule.specs.Table.{Table}
-use Rattle.thread_local_schedule.specs.SharedWalk.{SharedWalk, fresh_walk, WalkStep, walk_step}
+use Rattle.thread_local_schedule.specs.SharedWalk.{SharedWalk, begun_walk, WalkStep, walk_step}
 use Rattle.thread_local_schedule.specs.OwnerWalk.{rewritten}
 use Rattle.thread_local_schedule.specs.Cleared.{cleared, drained}
 use Rattle.thread_local_schedule.specs.Core.{Core, shadow, put, is_alone}
@@ -101,9 +101,9 @@ abbrev pub forget : {V E : Type 0} → Core V E → ℕ → Option (Core V E)
 forget core number =
     option_and_then (λ local. if is_idle local.doing then Some (without_local core number) else None) (core.locals number)
 
--- a walk begins
+-- a walk begins: it loads which buckets are announced
 abbrev pub begin_walk : {V E : Type 0} → Core V E → Option (Core V E)
-begin_walk core = Some (record (with_walk core core.walked fresh_walk) { walked = suc core.walked })
+begin_walk core = Some (record (with_walk core core.walked (begun_walk core.table)) { walked = suc core.walked })
 
 -- a walk under way makes a step
 abbrev pub of_walk : {V E : Type 0} → Core V E → ℕ → WalkStep → Option (Core V E)

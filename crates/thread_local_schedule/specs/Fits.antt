@@ -15,6 +15,10 @@ IsWritten slot = IsTrue slot.flag → IsTrue (is_some slot.written)
 abbrev pub AllWritten : {V : Type 0} → Table V → Type 0
 AllWritten table = (id : ℕ) → IsWritten (slot_at table id)
 
+-- every bucket that stands is announced
+abbrev pub AllAnnounced : {V : Type 0} → Table V → Type 0
+AllAnnounced table = (bucket : ℕ) → IsTrue (bucket_stands table bucket) → IsTrue (table.announced bucket)
+
 -- the view of a Local now: its first view, after its ended calls
 abbrev pub view_now : {V E : Type 0} → Local V E → View V
 view_now local = view_after_all local.start local.calls
@@ -27,12 +31,13 @@ IsLearnt table id view Standing = IsTrue (bucket_stands table (bucket_of id))
 IsLearnt table id view Vacant = IsTrue (bucket_stands table (bucket_of id)) × ((slot_at table id).flag ≡ false)
 IsLearnt table id view (Holding v) = published table id ≡ Some v
 
--- a Local with a bucket of its own finds its flag unset, and one that has written also finds its
--- value
+-- a Local with a bucket of its own finds its flag unset, and its bucket announced where it knows
+-- that, and one that has written also finds its value
 abbrev pub IsDoing : {V E : Type 0} → Table V → ℕ → Doing V E → Type 0
 IsDoing table id (Gets count) = ⊤
 IsDoing table id (Started create) = ⊤
-IsDoing table id (Private create number) = (slot_at table id).flag ≡ false
+IsDoing table id (Private create number announced) =
+    ((slot_at table id).flag ≡ false) × (IsTrue announced → IsTrue (table.announced (bucket_of id)))
 IsDoing table id (Written v) =
     IsTrue (bucket_stands table (bucket_of id))
     × (slot_at table id ≡ record { written = Some v; flag = false })
@@ -59,12 +64,14 @@ number_at table bucket = option_map (λ here. here.number) (table.pointers bucke
 abbrev pub IsSameBucket : {V : Type 0} → Table V → Table V → ℕ → Type 0
 IsSameBucket old new bucket = IsTrue (bucket_stands new bucket) × (number_at new bucket ≡ number_at old bucket)
 
--- Between two tables only the slot of this id may differ, and only its bucket may be new: a bucket
--- that stands stays the same one.
+-- Between two tables only the slot of this id may differ, and only its bucket may be new, where that
+-- was announced. A bucket that stands stays the same one, and one that is announced stays so.
 pub record ChangesOnly {V : Type 0} (old new : Table V) (id : ℕ) : Type 0 where
   pub others : (other : ℕ) → id ≢ other → slot_at new other ≡ slot_at old other
   pub standing : (bucket : ℕ) → IsTrue (bucket_stands old bucket) → IsSameBucket old new bucket
-  pub installed : (bucket : ℕ) → IsTrue (bucket_stands new bucket) → IsTrue (bucket_stands old bucket) ⊎ (bucket_of id ≡ bucket)
+  pub installed : (bucket : ℕ) → IsTrue (bucket_stands new bucket) → IsTrue (bucket_stands old bucket)
+      ⊎ ((bucket_of id ≡ bucket) × IsTrue (old.announced bucket))
+  pub announced : (bucket : ℕ) → IsTrue (old.announced bucket) → IsTrue (new.announced bucket)
   pub written : AllWritten new
 
 -- the value that a step publishes, if any

@@ -6,15 +6,16 @@ use Rattle.thread_local_base.specs.Place.{bucket_of}
 use Rattle.thread_local_base.specs.Answers.{View, Call, Get, GetOr, Answer, Found, Answered, Refused, Failed}
 use Rattle.thread_local_base.specs.Learnt.{Learnt, Unknown, Missing, Vacant, Holding, learnt_by_load, learnt_by_look}
 use Rattle.thread_local_base.specs.Learnt.{learnt_by_install, learnt_by_publish}
-use Rattle.thread_local_schedule.specs.Table.{Table, published, bucket_stands, with_fresh_bucket, with_written, with_flag}
+use Rattle.thread_local_schedule.specs.Table.{Table, published, bucket_stands, with_announced, with_fresh_bucket}
+use Rattle.thread_local_schedule.specs.Table.{with_written, with_flag}
 
 -- What a Local does: any number of gets are under way, or one publishing call. That one has begun,
--- with what its closure would answer; or it has made a bucket of its own, with this number; or it
--- has written its value.
+-- with what its closure would answer; or it has made a bucket of its own, with this number, which it
+-- knows to be announced or not; or it has written its value.
 pub data Doing (V E : Type 0) : Type 0 where
   Gets : (count : ℕ) → Doing V E
   Started : (create : Result V E) → Doing V E
-  Private : (create : Result V E) → (number : ℕ) → Doing V E
+  Private : (create : Result V E) → (number : ℕ) → (announced : Bool) → Doing V E
   Written : (value : V) → Doing V E
 
 -- a Local: its id, what it has learnt and does, its view at the start, and its ended calls with
@@ -39,6 +40,7 @@ pub data LocalStep (V E : Type 0) : Type 0 where
   LoadPointer : LocalStep V E
   LookAtFlag : LocalStep V E
   MakeBucket : (refused : Bool) → LocalStep V E
+  AnnounceBucket : LocalStep V E
   InstallBucket : LocalStep V E
   WriteValue : LocalStep V E
   SetFlag : LocalStep V E
@@ -92,11 +94,13 @@ abbrev pub closure_at_missing : {V E : Type 0} → Doing V E → Learnt V → Op
 closure_at_missing (Started create) Missing = Some create
 closure_at_missing doing learnt = None
 
--- such a call makes a bucket, or ends where memory is refused
+-- such a call makes a bucket, and loads whether it is announced; or it ends where memory is refused
 abbrev pub make_bucket : {V E : Type 0} → Table V → Local V E → Bool → Result V E → Table V × Local V E
 make_bucket table local true create = (table, after_call local (GetOr create true) Refused Missing (Gets 0))
-make_bucket table local false create =
-    (record table { made = suc table.made }, record local { doing = Private create table.made })
+make_bucket table local false create = (
+  record table { made = suc table.made },
+  record local { doing = Private create table.made (table.announced (bucket_of local.id)) },
+)
 
 -- the table after a bucket was offered to a pointer: one that isn't null stays
 abbrev pub offered : {V : Type 0} → Table V → ℕ → ℕ → Table V
@@ -107,9 +111,20 @@ pub record PrivateBucket (V E : Type 0) : Type 0 where
   pub create : Result V E
   pub number : ℕ
 
--- the bucket that a call has made and not yet offered
+-- the bucket that a call has made and doesn't know to be announced
+abbrev pub unannounced_bucket : {V E : Type 0} → Doing V E → Option (PrivateBucket V E)
+unannounced_bucket (Private create number false) = Some (record { create = create; number = number })
+unannounced_bucket doing = None
+
+-- such a call announces it. Where another call has done so in the meantime, nothing changes but that
+-- this one knows it.
+abbrev pub announce_bucket : {V E : Type 0} → Table V → Local V E → PrivateBucket V E → Table V × Local V E
+announce_bucket table local made =
+    (with_announced table (bucket_of local.id), record local { doing = Private made.create made.number true })
+
+-- the bucket that a call has made and not yet offered, and knows to be announced
 abbrev pub private_bucket : {V E : Type 0} → Doing V E → Option (PrivateBucket V E)
-private_bucket (Private create number) = Some (record { create = create; number = number })
+private_bucket (Private create number true) = Some (record { create = create; number = number })
 private_bucket doing = None
 
 -- such a call offers its bucket, and then uses the one that is installed
@@ -165,6 +180,7 @@ local_step table local LoadPointer = if may_look local.doing then load_pointer t
 local_step table local LookAtFlag = if may_look local.doing then look_at_flag table local else None
 local_step table local (MakeBucket refused) =
     option_map (make_bucket table local refused) (closure_at_missing local.doing local.learnt)
+local_step table local AnnounceBucket = option_map (announce_bucket table local) (unannounced_bucket local.doing)
 local_step table local InstallBucket = option_and_then (install_bucket table local) (private_bucket local.doing)
 local_step table local WriteValue = option_map (write_value table local) (closure_at_vacant local.doing local.learnt)
 local_step table local SetFlag = option_and_then (set_flag table local) (value_written local.doing)

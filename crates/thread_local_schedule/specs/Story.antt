@@ -3,7 +3,7 @@
 use Rattle.std.specs.Prelude.{ℕ, zero, suc, false, List, [], ◌∷◌, ◌++◌, Ok}
 use Rattle.thread_local_schedule.specs.Local.{LocalStep, BeginGet, BeginGetOr, LoadPointer, LookAtFlag, MakeBucket}
 use Rattle.thread_local_schedule.specs.Local.{InstallBucket, WriteValue, SetFlag, Reply}
-use Rattle.thread_local_schedule.specs.SharedWalk.{Load, Look}
+use Rattle.thread_local_schedule.specs.SharedWalk.{Pass, Load, Look}
 use Rattle.thread_local_schedule.specs.Core.{Core, new_core}
 use Rattle.thread_local_schedule.specs.Events.{Event, TakeId, OfLocal, GiveBack, BeginWalk, OfWalk, EndWalk, run}
 
@@ -12,7 +12,7 @@ abbrev pub steps_of : {V E : Type 0} → ℕ → List (LocalStep V E) → List (
 steps_of number [] = []
 steps_of number (step ∷ steps) = OfLocal number step ∷ steps_of number steps
 
--- a publishing call whose bucket is missing
+-- a publishing call whose bucket is missing, and announced
 abbrev pub publishes_first : {V E : Type 0} → ℕ → V → List (Event V E)
 publishes_first number value =
     steps_of number (BeginGetOr (Ok value) ∷ LoadPointer ∷ MakeBucket false ∷ InstallBucket ∷ WriteValue ∷ SetFlag ∷ [])
@@ -27,10 +27,10 @@ four_publish a b c d =
     TakeId false 0 ∷ TakeId false 0 ∷ TakeId false 0 ∷ TakeId false 0 ∷ []
     ++ publishes_first 0 a ++ publishes_first 1 b ++ publishes_beside 2 c ++ publishes_first 3 d
 
--- n loads and n looks of a walk, in turn: those that aren't enabled do nothing
+-- n passes, n loads and n looks of a walk, in turn: those that aren't enabled do nothing
 unfoldable pub walk_on : {V E : Type 0} → ℕ → ℕ → List (Event V E)
 walk_on number zero = []
-walk_on number (suc n) = OfWalk number Load ∷ OfWalk number Look ∷ walk_on number n
+walk_on number (suc n) = OfWalk number Pass ∷ OfWalk number Load ∷ OfWalk number Look ∷ walk_on number n
 
 -- a walk, from its start to its end
 unfoldable pub whole_walk : {V E : Type 0} → List (Event V E)

@@ -1,5 +1,5 @@
 -- The model of a table: 63 pointers to buckets, and slots that hold a value and its flag.
-use Rattle.std.specs.Prelude.{ℕ, Bool, true, false, Option, Some, None, is_some, ◌==◌, if◌then◌else◌}
+use Rattle.std.specs.Prelude.{ℕ, Bool, true, false, ◌||◌, nat_lt, Option, Some, None, is_some, ◌==◌, if◌then◌else◌}
 use Rattle.thread_local_base.specs.Place.{bucket_of, index_of}
 use Rattle.thread_local_base.specs.Capacity.{binary_digits, reserves_bucket}
 use Rattle.thread_local_base.specs.Walk.{with_value}
@@ -26,9 +26,11 @@ pub record Bucket (V : Type 0) : Type 0 where
 abbrev pub fresh_bucket : {V : Type 0} → ℕ → Bucket V
 fresh_bucket number = record { number = number; slot = λ _. empty_slot }
 
--- the buckets' pointers, each null or leading to a bucket, and how many buckets were made so far
+-- the buckets' pointers, each null or leading to a bucket, which buckets are announced, and how many
+-- buckets were made so far
 pub record Table (V : Type 0) : Type 0 where
   pub pointers : ℕ → Option (Bucket V)
+  pub announced : ℕ → Bool
   pub made : ℕ
 
 -- the slot at an index of the bucket that a pointer leads to; an empty one where the pointer is
@@ -50,12 +52,18 @@ published table id = value_of (slot_at table id)
 unfoldable pub bucket_stands : {V : Type 0} → Table V → ℕ → Bool
 bucket_stands table bucket = is_some (table.pointers bucket)
 
--- the table of a capacity: exactly the buckets that it reserves, numbered from 0 up
+-- the table of a capacity: exactly the buckets that it reserves, numbered from 0 up. They are
+-- announced, and so are the first seven.
 unfoldable pub made_table : {V : Type 0} → ℕ → Table V
 made_table capacity = record {
   pointers = λ bucket. if reserves_bucket capacity bucket then Some (fresh_bucket bucket) else None;
+  announced = λ bucket. nat_lt bucket 7 || reserves_bucket capacity bucket;
   made = binary_digits capacity;
 }
+
+-- the table after a bucket was announced
+unfoldable pub with_announced : {V : Type 0} → Table V → ℕ → Table V
+with_announced table bucket = record table { announced = λ b. if bucket == b then true else table.announced b }
 
 -- the table after a new bucket was installed
 unfoldable pub with_fresh_bucket : {V : Type 0} → Table V → ℕ → ℕ → Table V

@@ -6,7 +6,7 @@ ghost use Rattle.thread_local_schedule.specs.Fits.{number_at};
 ghost use Rattle.thread_local_schedule.specs.Cleared.{cleared, drained};
 
 /// A clear leaves every slot empty, and of the buckets exactly the reserved ones: the same buckets
-/// as before, not new ones.
+/// as before, not new ones. The same buckets are announced as before.
 pub fn a_clear_keeps_the_reserved<V>()
     ensures empty { (table : Table V) (capacity id : ℕ) → slot_at (cleared table capacity) id ≡ empty_slot }
     ensures stands { (table : Table V) (capacity bucket : ℕ)
@@ -16,9 +16,12 @@ pub fn a_clear_keeps_the_reserved<V>()
         → IsTrue (reserves_bucket capacity bucket)
         → number_at (cleared table capacity) bucket ≡ number_at table bucket }
     ensures made { (table : Table V) (capacity : ℕ) → (cleared table capacity).made ≡ table.made }
+    ensures announced { (table : Table V) (capacity : ℕ)
+        → (cleared table capacity).announced ≡ table.announced }
 {}
 
-/// A drain leaves every slot empty, and every bucket as it stood: the same buckets, not new ones.
+/// A drain leaves every slot empty, and every bucket as it stood: the same buckets, not new ones. The
+/// same are announced as before.
 pub fn a_drain_keeps_every_bucket<V>()
     ensures empty { (table : Table V) (id : ℕ) → slot_at (drained table) id ≡ empty_slot }
     ensures stands { (table : Table V) (bucket : ℕ)
@@ -26,4 +29,5 @@ pub fn a_drain_keeps_every_bucket<V>()
     ensures same { (table : Table V) (bucket : ℕ)
         → number_at (drained table) bucket ≡ number_at table bucket }
     ensures made { (table : Table V) → (drained table).made ≡ table.made }
+    ensures announced { (table : Table V) → (drained table).announced ≡ table.announced }
 {}

@@ -1,11 +1,12 @@
 //! What each event changes of what is seen.
-ghost use Rattle.std.specs.Prelude.{◌≡◌, ◌≢◌, ℕ, ◌↔◌, ◌==◌, true, false, Some, Ok, IsTrue, IsSomeAnd, option_map, if◌then◌else◌};
+ghost use Rattle.std.specs.Prelude.{◌≡◌, ◌≢◌, ℕ, ◌↔◌, ◌==◌, true, false, Some, Result, Ok, IsTrue, IsSomeAnd, option_map, if◌then◌else◌};
 ghost use Rattle.thread_local_base.specs.Place.{bucket_of};
 ghost use Rattle.thread_local_base.specs.Held.{with_least, without};
 ghost use Rattle.thread_local_base.specs.Walk.{with_value};
 ghost use Rattle.thread_local_base.specs.Learnt.{Vacant, Holding};
 ghost use Rattle.thread_local_schedule.specs.Table.{slot_at, bucket_stands};
-ghost use Rattle.thread_local_schedule.specs.Local.{Local, Started, Written, InstallBucket, WriteValue, SetFlag};
+ghost use Rattle.thread_local_schedule.specs.Local.{Local, Started, Private, Written, MakeBucket, AnnounceBucket};
+ghost use Rattle.thread_local_schedule.specs.Local.{InstallBucket, WriteValue, SetFlag};
 ghost use Rattle.thread_local_schedule.specs.Fits.{number_at};
 ghost use Rattle.thread_local_schedule.specs.Numbers.{own_number};
 ghost use Rattle.thread_local_schedule.specs.Core.{Core, shadow};
@@ -75,6 +76,27 @@ pub fn events_change<V, E>()
         → core.locals n ≡ Some local
         → slot_at (happens core (OfLocal n SetFlag)).table local.id
         ≡ record (slot_at core.table local.id) { flag = true } }
+
+    // A call that has made its bucket knows whether it is announced, and where it isn't, announces
+    // that bucket and no other.
+    ensures makes { (core : Core V E) (n : ℕ) (local : Local V E) (create : Result V E)
+        → IsTrue (is_enabled core (OfLocal n (MakeBucket false)))
+        → core.locals n ≡ Some local
+        → local.doing ≡ Started create
+        → IsSomeAnd ((happens core (OfLocal n (MakeBucket false))).locals n) (λ after.
+        after.doing
+        ≡ Private create core.table.made (core.table.announced (bucket_of local.id))) }
+    ensures announces { (core : Core V E) (n : ℕ) (local : Local V E) (bucket : ℕ)
+        → IsTrue (is_enabled core (OfLocal n AnnounceBucket))
+        → core.locals n ≡ Some local
+        → (happens core (OfLocal n AnnounceBucket)).table.announced bucket
+        ≡ (if bucket_of local.id == bucket then true else core.table.announced bucket) }
+    ensures announced { (core : Core V E) (n : ℕ) (local : Local V E) (create : Result V E) (number : ℕ)
+        → IsTrue (is_enabled core (OfLocal n AnnounceBucket))
+        → core.locals n ≡ Some local
+        → local.doing ≡ Private create number false
+        → IsSomeAnd ((happens core (OfLocal n AnnounceBucket)).locals n)
+        (λ after. after.doing ≡ Private create number true) }
 
     // An install makes the bucket of its Local's id stand, and no other: where none stood, it is
     // the one that the call has made.

@@ -9,7 +9,7 @@ ghost use Rattle.thread_local_schedule.specs.Table.{empty_slot, slot_at, bucket_
 ghost use Rattle.thread_local_schedule.specs.Cleared.{cleared, drained};
 ghost use Rattle.thread_local_base.specs.Capacity.{reserves_bucket};
 ghost use Rattle.thread_local_schedule.specs.Local.{Local, LocalStep, BeginGet, BeginGetOr, LoadPointer};
-ghost use Rattle.thread_local_schedule.specs.Local.{LookAtFlag, MakeBucket, InstallBucket, WriteValue};
+ghost use Rattle.thread_local_schedule.specs.Local.{LookAtFlag, MakeBucket, AnnounceBucket, InstallBucket, WriteValue};
 ghost use Rattle.thread_local_schedule.specs.Calls.{gets_of, closure_of, HasNoCall, steps_left, GoesDown, EndsWith};
 ghost use Rattle.thread_local_schedule.specs.SharedWalk.{WalkStep};
 ghost use Rattle.thread_local_schedule.specs.OwnerWalk.{rewritten};
@@ -66,7 +66,7 @@ pub fn events_say<V, E>()
         × IsTrue (is_enabled core (OfLocal n step))
         × IsSomeAnd ((happens core (OfLocal n step)).locals n) (GoesDown local) }
     ensures few_steps { (local : Local V E)
-        → steps_left local.doing local.learnt ≤ gets_of local.doing + 5 }
+        → steps_left local.doing local.learnt ≤ gets_of local.doing + 6 }
 
     // A load teaches whether the bucket stands, and a look what is published. Memory is asked for
     // only where the bucket was missing, and only an install makes a bucket stand, that of its
@@ -100,6 +100,23 @@ pub fn events_say<V, E>()
         → local.learnt ≡ Vacant
         → IsTrue (is_enabled core (OfLocal n WriteValue))
         × IsSomeAnd ((happens core (OfLocal n WriteValue)).locals n) (EndsWith (Failed e) local) }
+
+    // A bucket is announced before it stands, by the step for it of a Local whose bucket it is, and
+    // stays so.
+    ensures announces { (core : Core V E) (event : Event V E) (bucket : ℕ)
+        → core.table.announced bucket ≡ false
+        → IsTrue ((happens core event).table.announced bucket)
+        → (n : ℕ)
+        × (event ≡ OfLocal n AnnounceBucket)
+        × IsSomeAnd (core.locals n) (λ local. bucket_of local.id ≡ bucket) }
+    ensures stays_announced { (core : Core V E) (event : Event V E) (bucket : ℕ)
+        → IsTrue (core.table.announced bucket)
+        → IsTrue ((happens core event).table.announced bucket) }
+    ensures announced_before { (core : Core V E) (event : Event V E) (bucket : ℕ)
+        → IsReached core
+        → bucket_stands core.table bucket ≡ false
+        → IsTrue (bucket_stands (happens core event).table bucket)
+        → IsTrue (core.table.announced bucket) }
 
     // An owner's count changes nothing, and an owner's writes change the table and nothing else.
     // A drain leaves the ids and every bucket, with all slots empty.

@@ -206,6 +206,12 @@ pub fn every_schedule<V, E>()
         → core.locals m ≡ Some a → core.locals n ≡ Some b
         → own_number a.doing ≡ Some number → own_number b.doing ≡ Some number → m ≡ n }
 
+    // Each bucket that stands is announced, and the first seven are so always.
+    ensures announced { (core : Core V E) (bucket : ℕ) → IsReached core
+        → IsTrue (bucket_stands core.table bucket) → IsTrue (core.table.announced bucket) }
+    ensures first_announced { (core : Core V E) (bucket : ℕ)
+        → IsReached core → bucket < 7 → IsTrue (core.table.announced bucket) }
+
     // The peak is the most ids held at once. Each id taken lies below it, and the manager has room
     // for that many.
     ensures peak { (capacity extra : ℕ) (events : List (Event V E))

@@ -1,10 +1,10 @@
 //! When each step can happen, and when it can't.
-ghost use Rattle.std.specs.Prelude.{◌≡◌, ◌≢◌, ℕ, suc, ◌<◌, ◌⊎◌, ◌↔◌, Bool, false, Some, None, Result, IsTrue};
+ghost use Rattle.std.specs.Prelude.{◌≡◌, ◌≢◌, ℕ, suc, ◌<◌, ◌⊎◌, ◌↔◌, Bool, true, false, Some, None, Result, IsTrue};
 ghost use Rattle.thread_local_base.specs.Learnt.{Unknown, Missing, Standing, Vacant, Holding};
 ghost use Rattle.thread_local_schedule.specs.Local.{Local, Gets, Started, Private, Written, BeginGet, BeginGetOr};
-ghost use Rattle.thread_local_schedule.specs.Local.{LoadPointer, LookAtFlag, MakeBucket, InstallBucket, WriteValue};
-ghost use Rattle.thread_local_schedule.specs.Local.{SetFlag, Reply};
-ghost use Rattle.thread_local_schedule.specs.SharedWalk.{SharedWalk, Load, Look};
+ghost use Rattle.thread_local_schedule.specs.Local.{LoadPointer, LookAtFlag, MakeBucket, AnnounceBucket, InstallBucket};
+ghost use Rattle.thread_local_schedule.specs.Local.{WriteValue, SetFlag, Reply};
+ghost use Rattle.thread_local_schedule.specs.SharedWalk.{SharedWalk, Pass, Load, Look};
 ghost use Rattle.thread_local_schedule.specs.Core.{Core};
 ghost use Rattle.thread_local_schedule.specs.Events.{OfLocal, OfWalk, is_enabled};
 ghost use Rattle.thread_local_schedule.specs.Schedule.{IsReached};
@@ -38,17 +38,22 @@ pub fn steps_happen<V, E>()
         ⊎ ((create : Result V E) × (local.doing ≡ Started create)))
         × (local.learnt ≡ Standing)) }
 
-    // A publishing call that found its bucket missing asks for memory, whatever stands by now, and
-    // installs the bucket that it has made. One that found its slot empty writes its value or hands
-    // on the closure's error, and sets the flag over what it has written.
+    // A publishing call that found its bucket missing asks for memory, whatever stands by now. It
+    // announces the bucket that it has made, where it doesn't know that to be announced, and then
+    // installs it. One that found its slot empty writes its value or hands on the closure's error,
+    // and sets the flag over what it has written.
     ensures asks { (core : Core V E) (n : ℕ) (local : Local V E) (refused : Bool)
         → core.ended ≡ false → core.locals n ≡ Some local
         → IsTrue (is_enabled core (OfLocal n (MakeBucket refused)))
         ↔ (((create : Result V E) × (local.doing ≡ Started create)) × (local.learnt ≡ Missing)) }
+    ensures announces { (core : Core V E) (n : ℕ) (local : Local V E)
+        → core.ended ≡ false → core.locals n ≡ Some local
+        → IsTrue (is_enabled core (OfLocal n AnnounceBucket))
+        ↔ ((create : Result V E) × (number : ℕ) × (local.doing ≡ Private create number false)) }
     ensures installs { (core : Core V E) (n : ℕ) (local : Local V E)
         → IsReached core → core.ended ≡ false → core.locals n ≡ Some local
         → IsTrue (is_enabled core (OfLocal n InstallBucket))
-        ↔ ((create : Result V E) × (number : ℕ) × (local.doing ≡ Private create number)) }
+        ↔ ((create : Result V E) × (number : ℕ) × (local.doing ≡ Private create number true)) }
     ensures writes { (core : Core V E) (n : ℕ) (local : Local V E)
         → core.ended ≡ false → core.locals n ≡ Some local
         → IsTrue (is_enabled core (OfLocal n WriteValue))
@@ -68,11 +73,20 @@ pub fn steps_happen<V, E>()
         (((create : Result V E) × (local.doing ≡ Started create))
         × ((v : V) × (local.learnt ≡ Holding v)))) }
 
-    // A walk loads a pointer where it doesn't look at a slot next and isn't complete.
+    // Where a walk doesn't look at a slot next and isn't complete, it loads its bucket's pointer or
+    // passes the bucket, by whether that was announced when it began.
     ensures walk_loads { (core : Core V E) (n : ℕ) (walk : SharedWalk V)
         → core.ended ≡ false → core.walks n ≡ Some walk
         → IsTrue (is_enabled core (OfWalk n Load))
-        ↔ ((walk.cursor.looks ≡ false) × (walk.cursor.bucket < 63)) }
+        ↔ ((walk.cursor.looks ≡ false)
+        × (walk.cursor.bucket < 63)
+        × IsTrue (walk.announced walk.cursor.bucket)) }
+    ensures walk_passes { (core : Core V E) (n : ℕ) (walk : SharedWalk V)
+        → core.ended ≡ false → core.walks n ≡ Some walk
+        → IsTrue (is_enabled core (OfWalk n Pass))
+        ↔ ((walk.cursor.looks ≡ false)
+        × (walk.cursor.bucket < 63)
+        × (walk.announced walk.cursor.bucket ≡ false)) }
     ensures walk_looks { (core : Core V E) (n : ℕ) (walk : SharedWalk V)
         → core.ended ≡ false → core.walks n ≡ Some walk
         → IsTrue (is_enabled core (OfWalk n Look)) ↔ IsTrue walk.cursor.looks }

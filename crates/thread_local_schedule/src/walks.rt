@@ -3,13 +3,15 @@ ghost use Rattle.std.specs.Prelude.{◌≡◌, ℕ, ◌-◌, ◌^◌, Some, opti
 ghost use Rattle.thread_local_base.specs.Walk.{walk};
 ghost use Rattle.thread_local_base.specs.Cursor.{cursor_id, is_complete};
 ghost use Rattle.thread_local_schedule.specs.Table.{Table, published};
-ghost use Rattle.thread_local_schedule.specs.SharedWalk.{SharedWalk, WalkStep, fresh_walk, walk_step};
+ghost use Rattle.thread_local_schedule.specs.SharedWalk.{SharedWalk, WalkStep, begun_walk, walk_step};
+ghost use Rattle.thread_local_schedule.specs.Fits.{AllAnnounced};
 ghost use Rattle.thread_local_schedule.specs.WalkFits.{WalkFits, Adds};
 ghost use Rattle.thread_local_schedule.specs.OwnerWalk.{owner_walk, rewritten};
 
 /// What each step of a shared walk keeps, whatever others publish in between.
 pub fn every_walk_step<V>()
-    ensures begins { (table : Table V) → WalkFits table fresh_walk }
+    ensures begins { (table : Table V)
+        → AllAnnounced table → WalkFits table (begun_walk table) }
     ensures fits { (table : Table V) (walk : SharedWalk V) (step : WalkStep)
         → WalkFits table walk → IfSome (walk_step table walk step) (WalkFits table) }
     ensures adds { (table : Table V) (walk : SharedWalk V) (step : WalkStep)

@@ -1,13 +1,13 @@
 //! What the words of the theorems say, each from the side on which it promises nothing.
 ghost use Rattle.std.specs.Prelude.{◌≡◌, ℕ, ◌+◌, ◌^◌, ◌<◌, ◌⊎◌, Bool, true, false, List, [], Some, None, IsTrue};
-ghost use Rattle.std.specs.Prelude.{◌≢◌, max, IsSomeAnd, ◌∷◌, ◌++◌, Result, ◌↔◌, suc, IsSome};
+ghost use Rattle.std.specs.Prelude.{◌≢◌, max, IsSomeAnd, ◌∷◌, ◌++◌, Result, ◌↔◌, suc, IsSome, if◌then◌else◌};
 ghost use Rattle.thread_local_base.specs.Held.{held_count, HoldsAllBelow, is_held};
 ghost use Rattle.thread_local_base.specs.Walk.{walk};
-ghost use Rattle.thread_local_schedule.specs.Table.{bucket_stands, Table, Slot};
+ghost use Rattle.thread_local_schedule.specs.Table.{bucket_stands, published, Table, Slot};
 ghost use Rattle.thread_local_schedule.specs.Local.{Local, LocalStep, Doing, MakeBucket, Private, BeginGet};
-ghost use Rattle.thread_local_schedule.specs.Local.{BeginGetOr, LoadPointer, LookAtFlag, InstallBucket, WriteValue};
+ghost use Rattle.thread_local_schedule.specs.Local.{BeginGetOr, LoadPointer, LookAtFlag, AnnounceBucket, InstallBucket, WriteValue};
 ghost use Rattle.thread_local_schedule.specs.Local.{SetFlag, Reply, Written};
-ghost use Rattle.thread_local_schedule.specs.SharedWalk.{SharedWalk, fresh_walk, WalkStep};
+ghost use Rattle.thread_local_schedule.specs.SharedWalk.{SharedWalk, begun_walk, WalkStep, buckets_among};
 ghost use Rattle.thread_local_schedule.specs.Fits.{number_at, IsSameBucket, IsWritten};
 ghost use Rattle.thread_local_schedule.specs.Numbers.{own_number};
 ghost use Rattle.thread_local_schedule.specs.Core.{Core, installed_slots, private_slots};
@@ -159,10 +159,10 @@ pub fn words_say<V, E>()
         ↔ IsSomeAnd (table.pointers bucket) (λ here. here.number ≡ number) }
     ensures same_bucket { (old new : Table V) (bucket : ℕ) → IsSameBucket old new bucket
         → IsTrue (bucket_stands new bucket) × (number_at new bucket ≡ number_at old bucket) }
-    ensures own { (create : Result V E) (number : ℕ)
-        → own_number (Private create number) ≡ Some number }
-    ensures own_slots { (id number : ℕ) (create : Result V E)
-        → private_slots id (Private create number) ≡ 2 ^ bucket_of id }
+    ensures own { (create : Result V E) (number : ℕ) (announced : Bool)
+        → own_number (Private create number announced) ≡ Some number }
+    ensures own_slots { (id number : ℕ) (create : Result V E) (announced : Bool)
+        → private_slots id (Private create number announced) ≡ 2 ^ bucket_of id }
 
     // None is taken by no event, and by one more where that is no granted take. No event is a take
     // that comes too late.
@@ -183,13 +183,19 @@ pub fn words_say<V, E>()
         → answers view (call ∷ calls)
         ≡ answer view call ∷ answers (view_after view call) calls }
 
-    // A walk begins at the first slot, with no load, and has read, given and seen nothing.
-    ensures fresh { let walk : SharedWalk V = fresh_walk in
+    // A walk begins at the first slot, with what is announced and published, and has loaded no
+    // pointer, and read and given nothing. The buckets among some are counted one by one.
+    ensures begun { (table : Table V) → let walk = begun_walk table in
         (walk.cursor ≡ record { bucket = 0; index = 0; looks = false })
+        × (walk.announced ≡ table.announced)
+        × (walk.first ≡ published table)
         × (walk.loads ≡ 0)
         × (walk.read ≡ [])
-        × (walk.given ≡ [])
-        × ((id : ℕ) → walk.first id ≡ None) }
+        × (walk.given ≡ []) }
+    ensures none_among { (these : ℕ → Bool) → buckets_among these 0 ≡ 0 }
+    ensures one_among { (these : ℕ → Bool) (bucket : ℕ)
+        → buckets_among these (suc bucket)
+        ≡ buckets_among these bucket + (if these bucket then 1 else 0) }
 
     // There is nobody else where the table is alone; a Local without a call has no get and no
     // closure under way; all ids below a number are held where each is; a slot is written where its
@@ -229,7 +235,8 @@ pub fn words_say<V, E>()
     ensures calls_stay { (before after : Local V E)
         → GoesOn LoadPointer before after
         ⊎ (GoesOn LookAtFlag before after
-        ⊎ (GoesOn (MakeBucket false) before after ⊎ GoesOn InstallBucket before after))
+        ⊎ (GoesOn (MakeBucket false) before after
+        ⊎ (GoesOn AnnounceBucket before after ⊎ GoesOn InstallBucket before after)))
         → (gets_of after.doing ≡ gets_of before.doing)
         × (closure_of after.doing ≡ closure_of before.doing)
         × (after.calls ≡ before.calls) }

@@ -1,79 +1,143 @@
 -- A walk begins and moves on.
-use Rattle.std.proofs.Common.{◌≡◌, ℕ, ◌<◌, ◌≤◌, Bool, true, false}
-use Rattle.std.proofs.Common.{Option, None, Some, IfSome, is_some, refl, ap, sym, ◌∙◌, subst, arith}
-use Rattle.thread_local_base.specs.Cursor.{cursor_id}
-use Rattle.thread_local_base.proofs.CursorLaws.{fresh_cursor-fits}
+use Rattle.std.proofs.Common.{◌≡◌, ℕ, ◌+◌, ◌^◌, ◌<◌, ◌≤◌, Bool, true, false, cond, eqb, List}
+use Rattle.std.proofs.Common.{Option, None, Some, IfSome, refl, ap, sym, ◌∙◌, subst, arith, add-one, pow_mono, ⊎_elim}
+use Rattle.std.specs.Prelude.{MatchBool}
+use Rattle.std.proofs.Math.Nat.{two-pow-succ}
+use Rattle.std.proofs.lemmas.Bool.{eqb-true, ne_eqb, cases_eq, cases_lt}
+use Rattle.thread_local_base.specs.Bits.{is_set, IsLowestSet, IsWordBut}
 use Rattle.thread_local_shared_buckets.specs.declared.row.Row.{Row}
 use Rattle.thread_local_bucket_pointers.specs.declared.cursor.RawIter.{RawIter}
-use Rattle.thread_local_bucket_pointers.specs.Cursor.{next_bucket}
 use Rattle.thread_local_shared_buckets.specs.declared.steps.Own.{Own}
 use Rattle.thread_local_shared_buckets.specs.declared.steps.Walk.{Walk}
-use Rattle.thread_local_shared_buckets.specs.Positions.{resting, owed, lies_in, OwnIsTold}
-use Rattle.thread_local_shared_buckets.specs.Positions.{IsAhead, IsSharedWalk, MovesBehind}
-use Rattle.thread_local_shared_buckets.specs.AtHand.{IsRowOf}
-use Rattle.thread_local_shared_buckets.specs.AtHand.{OwnIsAtHand, IsWalk, GoesOn}
+use Rattle.thread_local_shared_buckets.specs.Positions.{resting, next_id, at_bucket, lies_in, OwnIsTold}
+use Rattle.thread_local_shared_buckets.specs.Positions.{IsAhead, IsSharedWalk, IsBehind, Skips}
+use Rattle.thread_local_shared_buckets.specs.AtHand.{IsRowOf, OwnIsAtHand, HasAll, AreLeft, IsWalk, LooksIn, GoesOn, Reaches}
+use Rattle.thread_local_shared_buckets.specs.Steps.{Leads}
+use Rattle.thread_local_shared_buckets.specs.TableView.{TableView}
 use Rattle.thread_local_ids.specs.TokenLists.{AllOf, NoneIn}
-use Rattle.thread_local_shared_buckets.specs.Positions.{IsBehind}
-use Rattle.thread_local_shared_buckets.proofs.ToldLaws.{unmarked, skips}
-use Rattle.thread_local_shared_buckets.proofs.StepLaws.{leads_on}
-use Rattle.thread_local_shared_buckets.proofs.WalkLaws.{own_after_bucket}
-use Rattle.thread_local_shared_buckets.proofs.BitLaws.{none_set}
+use Rattle.thread_local_ids.specs.Views.{TokenView}
+use Rattle.thread_local_shared_buckets.proofs.ToldLaws.{unmarked, skips, moved, skips_nowhere, skips_then}
+use Rattle.thread_local_shared_buckets.proofs.MoveLaws.{leads_further}
+use Rattle.thread_local_shared_buckets.proofs.StepLaws.{leads_nowhere, leads_then}
+use Rattle.thread_local_shared_buckets.proofs.WalkLaws.{own_after_buckets}
+use Rattle.thread_local_shared_buckets.proofs.BitLaws.{none_set, added_set, keeps_bit, still_set, as_before, by_test}
+
+-- 1. The word of the buckets that are left.
+
+-- what comes of taking a bucket out of those that are left, or none where the number is 63
+pub record TakesFirst (left bucket rest : ℕ) : Type 0 where
+  pub in_table : bucket ≤ 63
+  pub first : (b : ℕ) → b < bucket → is_set left b ≡ false
+  pub some : bucket < 63 → is_set left bucket ≡ true
+  pub others : IsWordBut rest left bucket false
+
+-- those that are left then lie behind it
+left_behind : (left bucket rest b : ℕ) → TakesFirst left bucket rest → b < 64 → is_set rest b ≡ true → bucket < b
+left_behind left bucket rest b takes small set =
+    let both = still_set rest left bucket b takes.others small set in
+    let apart = both.0 in
+    ⊎_elim
+    (λ (below : b < bucket). let never : true ≡ false = sym both.1 ∙ takes.first b below in cc)
+    (λ (above : bucket ≤ b). omega arith)
+    (cases_lt b bucket)
+
+-- one behind it that isn't left then wasn't left before
+unset_before : (left bucket rest b : ℕ) → IsWordBut rest left bucket false → b < 64 → bucket < b → is_set rest b ≡ false → is_set left b ≡ false
+unset_before left bucket rest b but small above unset = sym (as_before rest left bucket b but small (λ e. absurd (omega arith))) ∙ unset
+
+-- 2. A walk moves on, and begins.
 
 module _ {V : Type 0} where
   none_kept : (w : Walk V) (own : Option (Own V)) → w.chunks ≡ 0 → IfSome own (OwnIsAtHand w)
   none_kept w None none = tt
   none_kept w (Some own) none = λ same seen. absurd (omega arith)
 
-  -- the own value stays ahead: the walk moves on by one bucket alone while it is still to be given
-  moved_ahead : (raw to : RawIter) (own : Option (Own V)) → IfSome own (IsAhead raw) → lies_in own raw.bucket ≡ false
-      → (is_some own ≡ true → to ≡ next_bucket raw)
-      → IfSome own (IsAhead to)
-  moved_ahead raw to None ahead elsewhere one = tt
-  moved_ahead raw to (Some own) ahead elsewhere one =
-      subst (λ (r : RawIter). IsAhead r own) (sym (one refl))
-      (own_after_bucket raw (Some own) ahead elsewhere)
+  left_later : (sharing : Option ℕ) (told : List (TokenView V)) (own : Option (Own V)) (from left bucket rest : ℕ)
+      → AreLeft sharing told own from left → from < bucket → TakesFirst left bucket rest
+      → AreLeft sharing told own bucket rest
+  left_later sharing told own from left bucket rest are further takes = record {
+    behind = λ b small set. left_behind left bucket rest b takes small set;
+    none_past =
+        by_test (is_set rest 63)
+        (λ t.
+        let was = (still_set rest left bucket 63 takes.others (omega arith) t).1 in
+        let never : true ≡ false = sym was ∙ are.none_past in cc)
+        (λ f. f);
+    none_told = λ b above low unset. are.none_told b (omega arith) low (unset_before left bucket rest b takes.others (omega arith) above unset);
+    none_owed = λ b above low unset. are.none_owed b (omega arith) low (unset_before left bucket rest b takes.others (omega arith) above unset);
+  }
 
-  pub moves_on : (w : Walk V) (raw : RawIter) (owed : Bool) → IsWalk w → w.rest ≡ 0 → w.raw.bucket < 63
+  -- the first bucket that is left lies behind the walk's
+  first_further : (sharing : Option ℕ) (told : List (TokenView V)) (own : Option (Own V)) (from left bucket rest : ℕ)
+      → AreLeft sharing told own from left → from < 63 → TakesFirst left bucket rest
+      → from < bucket
+  first_further sharing told own from left bucket rest are low takes =
+      ⊎_elim (λ (inside : bucket < 63). are.behind bucket (omega arith) (takes.some inside)) (λ (past : 63 ≤ bucket). omega arith)
+      (cases_lt bucket 63)
+
+  -- the walk moves on
+  abbrev pub further_on : Walk V → ℕ → ℕ → ℕ → Walk V
+  further_on w bucket size rest = record w { raw = at_bucket w.raw bucket size; left = rest; row = None; chunks = 0 }
+
+  elsewhere_to : (w : Walk V) (bucket rest : ℕ) → AreLeft w.buckets.now.sharing w.told w.own w.raw.bucket w.left → TakesFirst w.left bucket rest
       → lies_in w.own w.raw.bucket ≡ false
-      → owed ≡ is_some w.own → MovesBehind w.raw owed raw
+      → (b : ℕ) → w.raw.bucket ≤ b → b < bucket → lies_in w.own b ≡ false
+  elsewhere_to w bucket rest are takes here b up below =
+      let in_table = takes.in_table in
+      ⊎_elim
+      (λ (same : w.raw.bucket ≡ b). subst (λ (n : ℕ). lies_in w.own n ≡ false) same here)
+      (λ apart. are.none_owed b (omega arith) (omega arith) (takes.first b below))
+      (cases_eq w.raw.bucket b)
+
+  pub moves_on : (w : Walk V) (bucket size rest : ℕ) → IsWalk w → w.rest ≡ 0 → w.raw.bucket < 63
+      → lies_in w.own w.raw.bucket ≡ false
+      → size ≡ 2 ^ bucket → TakesFirst w.left bucket rest
       → AllOf w.buckets.now.sharing (λ p. IsBehind w.raw p.id) w.told
-      → ((bucket : ℕ) → w.raw.bucket < bucket → bucket < raw.bucket → NoneIn w.buckets.now.sharing bucket w.told)
-      → GoesOn w (record w { raw = raw; row = None; chunks = 0 })
-  moves_on w raw owed walk none low elsewhere is on behind absent =
-      let further = leads_on (resting w.raw) (resting raw) on.moves.leads walk.walk.fits in
-      let no_lower : cursor_id (resting w.raw) ≤ cursor_id (resting raw) = further.no_lower in
-      let few : w.raw.yielded ≤ cursor_id (resting w.raw) = walk.walk.yielded in
-      let same : raw.yielded ≡ w.raw.yielded = on.moves.yielded in
-      let first : raw.index ≡ 0 = on.first in
+      → GoesOn w (further_on w bucket size rest)
+  moves_on w bucket size rest walk none low elsewhere is takes behind =
+      let in_table = takes.in_table in
+      let further = first_further w.buckets.now.sharing w.told w.own w.raw.bucket w.left bucket rest walk.left low takes in
+      let few : w.raw.yielded ≤ next_id w.raw = walk.walk.yielded in
+      let within : w.raw.index ≤ 2 ^ w.raw.bucket = walk.walk.within in
+      let up : 2 ^ (w.raw.bucket + 1) ≤ 2 ^ bucket = pow_mono (omega arith) in
+      let twice : 2 ^ (w.raw.bucket + 1) ≡ 2 ^ w.raw.bucket + 2 ^ w.raw.bucket = rw add-one (two-pow-succ w.raw.bucket) in
       record {
         walk = record {
           walk = record {
-            fits = further.fits;
-            size = on.moves.size;
-            own_ahead = moved_ahead w.raw raw w.own walk.walk.own_ahead elsewhere (λ some. on.one (is ∙ some));
+            in_table = in_table;
+            within = omega arith;
+            complete = λ _. refl;
+            size = is;
+            own_ahead =
+                own_after_buckets w.raw w.own bucket size walk.walk.own_ahead (elsewhere_to w bucket rest walk.left takes elsewhere);
             yielded = omega arith;
           };
           told = walk.told;
           seen_to = omega arith;
           row = tt;
           at_hand = λ bit small set. none_set w.rest bit none set;
-          kept = none_kept (record w { raw = raw; row = None; chunks = 0 }) w.own refl;
-          marked = unmarked (record w { raw = raw; row = None; chunks = 0 }) refl;
+          kept = none_kept (further_on w bucket size rest) w.own refl;
+          marked = unmarked (further_on w bucket size rest) refl;
+          left = left_later w.buckets.now.sharing w.told w.own w.raw.bucket w.left bucket rest walk.left further takes;
         };
         passed = none;
         buckets = refl;
         own = refl;
-        leads = on.moves.leads;
-        further = on.further;
+        leads = leads_further w.raw bucket low within further in_table;
+        further = further;
         told = refl;
-        skips = skips w raw on.further on.first behind absent;
+        skips =
+            skips w (at_bucket w.raw bucket size) further refl behind
+            (λ b above below. walk.left.none_told b above (omega arith) (takes.first b below));
       }
 
   begins_shared : (raw : RawIter) (own : Option (Own V)) → raw ≡ record { yielded = 0; bucket = 0; bucket_size = 1; index = 0 }
       → IsSharedWalk raw own
   begins_shared raw own is =
       subst (λ (r : RawIter). IsSharedWalk r own) (sym is) record {
-        fits = fresh_cursor-fits;
+        in_table = omega arith;
+        within = omega arith;
+        complete = λ _. refl;
         size = refl;
         own_ahead = first_ahead own;
         yielded = omega arith;
@@ -86,8 +150,9 @@ module _ {V : Type 0} where
   pub begins : (w : Walk V) → w.rest ≡ 0 → w.chunks ≡ 0 → w.row ≡ None
       → w.raw ≡ record { yielded = 0; bucket = 0; bucket_size = 1; index = 0 }
       → IfSome w.own (OwnIsTold w.buckets.now.sharing)
+      → AreLeft w.buckets.now.sharing w.told w.own 0 w.left
       → IsWalk w
-  begins w none unseen no_row is told = record {
+  begins w none unseen no_row is told left = record {
     walk = begins_shared w.raw w.own is;
     told = told;
     seen_to = (let first : w.raw.index ≡ 0 = ap (λ (r : RawIter). r.index) is in omega arith);
@@ -97,4 +162,105 @@ module _ {V : Type 0} where
     at_hand = λ bit small set. none_set w.rest bit none set;
     kept = none_kept w w.own unseen;
     marked = unmarked w unseen;
+    left =
+        subst (λ (r : RawIter). AreLeft w.buckets.now.sharing w.told w.own r.bucket w.left)
+        (sym is) left;
   }
+
+  -- the word of a walk that begins
+  pub has_own : (own : Own V) (announced word : ℕ) → is_set announced 0 ≡ true → is_set announced 63 ≡ false
+      → IsWordBut word announced own.thread.bucket true
+      → HasAll (Some own) announced word
+  has_own own announced word first none_past but =
+      let at : ℕ = own.thread.bucket in
+      let low : at < 63 = own.thread.in_table in
+      record {
+        first = keeps_bit word announced at 0 but (omega arith) first;
+        none_past =
+            but 63 (omega arith) ∙ ap (λ (u : Bool). cond u true (is_set announced 63)) (ne_eqb at 63 (λ e. absurd (omega arith)))
+            ∙ none_past;
+        has_announced = λ bucket small unset.
+            by_test (is_set announced bucket)
+            (λ set. let never : true ≡ false = sym (keeps_bit word announced at bucket but (omega arith) set) ∙ unset in cc)
+            (λ off. off);
+        has_own = λ bucket small unset.
+            by_test (eqb at bucket)
+            (λ t.
+            let here : is_set word at ≡ true = added_set word announced at but (omega arith) in
+            let never : true ≡ false = sym here ∙ ap (λ (b : ℕ). is_set word b) (eqb-true at bucket t) ∙ unset in cc)
+            (λ f. f);
+      }
+
+  pub has_announced : (announced : ℕ) → is_set announced 0 ≡ true → is_set announced 63 ≡ false → HasAll {V = V} None announced announced
+  has_announced announced first none_past =
+      record { first = first; none_past = none_past; has_announced = λ bucket small unset. unset; has_own = λ bucket small unset. refl }
+
+  -- the buckets that a walk begins with, by the word of those that are announced
+  pub begins_left : (sharing : Option ℕ) (told : List (TokenView V)) (own : Option (Own V)) (announced word left : ℕ)
+      → HasAll own announced word → ((first : ℕ) → IsLowestSet word first → IsWordBut left word first false)
+      → ((bucket : ℕ) → bucket < 63 → is_set announced bucket ≡ false → NoneIn sharing bucket told)
+      → AreLeft sharing told own 0 left
+  begins_left sharing told own announced word left all without none =
+      let but : IsWordBut left word 0 false =
+      without 0 (record { within = omega arith; set = all.first; lower = λ i below. absurd (omega arith) }) in
+      record {
+        behind = λ bucket small set.
+            ⊎_elim
+            (λ (first : bucket ≡ 0).
+            let cleared : is_set left 0 ≡ false = but 0 (omega arith) in
+            let never : true ≡ false = sym set ∙ ap (λ (b : ℕ). is_set left b) first ∙ cleared in cc)
+            (λ apart. omega arith)
+            (cases_eq bucket 0);
+        none_past = as_before left word 0 63 but (omega arith) (λ e. absurd (omega arith)) ∙ all.none_past;
+        none_told = λ bucket some low unset. none bucket low (all.has_announced bucket low (unset_before word 0 left bucket but (omega arith) some unset));
+        none_owed = λ bucket some low unset. all.has_own bucket low (unset_before word 0 left bucket but (omega arith) some unset);
+      }
+
+  -- 3. What a walk keeps while it looks in its bucket and moves on, one after the other.
+
+  pub record Comes (w to : Walk V) : Type 0 where
+    pub buckets : to.buckets.now ≡ w.buckets.now
+    pub own : to.own ≡ w.own
+    pub leads : Leads (resting w.raw) (resting to.raw)
+    pub told : to.told ≡ w.told
+    pub skips : AllOf w.buckets.now.sharing (λ p. Skips w.raw to.raw p.id) w.told
+
+  pub comes_nowhere : (w : Walk V) → Comes w w
+  comes_nowhere w = record {
+    buckets = refl;
+    own = refl;
+    leads = leads_nowhere (resting w.raw);
+    told = refl;
+    skips = skips_nowhere w.buckets.now.sharing w.told w.raw;
+  }
+
+  pub comes_by_look : (w to : Walk V) → LooksIn w to → Comes w to
+  comes_by_look w to look = record {
+    buckets = look.buckets;
+    own = look.own;
+    leads = subst (λ (r : RawIter). Leads (resting w.raw) (resting r)) (sym look.raw) (leads_nowhere (resting w.raw));
+    told = look.told;
+    skips =
+        subst (λ (r : RawIter). AllOf w.buckets.now.sharing (λ p. Skips w.raw r p.id) w.told) (sym look.raw)
+        (skips_nowhere w.buckets.now.sharing w.told w.raw);
+  }
+
+  pub comes_by_move : (w to : Walk V) → GoesOn w to → Comes w to
+  comes_by_move w to on = record { buckets = on.buckets; own = on.own; leads = on.leads; told = on.told; skips = on.skips }
+
+  pub comes_then : (w met to : Walk V) → Comes w met → Comes met to → Comes w to
+  comes_then w met to first after = record {
+    buckets = after.buckets ∙ first.buckets;
+    own = after.own ∙ first.own;
+    leads = leads_then (resting w.raw) (resting met.raw) (resting to.raw) first.leads after.leads;
+    told = after.told ∙ first.told;
+    skips =
+        skips_then w.buckets.now.sharing w.told w.raw met.raw to.raw first.skips
+        (moved met.buckets.now.sharing w.buckets.now.sharing met.told w.told (λ p. Skips met.raw to.raw p.id)
+        (ap (λ (t : TableView). t.sharing) first.buckets) first.told after.skips);
+  }
+
+  pub reaches : (w to : Walk V) (found : Bool) → Comes w to → IsWalk to → MatchBool found (0 < to.rest) (63 ≤ to.raw.bucket)
+      → Reaches w found to
+  reaches w to found come walk by =
+      record { walk = walk; buckets = come.buckets; own = come.own; leads = come.leads; told = come.told; skips = come.skips; by = by }

@@ -20,7 +20,16 @@ none_set word bit none set =
     let never : true ≡ false = sym set ∙ ap (λ (n : ℕ). is_set n bit) none ∙ is_set-zero bit in
     cc
 
--- a bit that is set once the lowest is cleared: it is another one, was set, and is higher
+-- a bit that is set once one is cleared: it is another one, and was set
+pub still_set : (rest word low bit : ℕ) → IsWordBut rest word low false → bit < 64 → is_set rest bit ≡ true
+    → (low ≢ bit) × (is_set word bit ≡ true)
+still_set rest word low bit but small set =
+    let e : cond (eqb low bit) false (is_set word bit) ≡ true = sym (but bit small) ∙ set in
+    cond_both {A = Bool} (eqb low bit) false (is_set word bit)
+    (λ (u : Bool). u ≡ true → (low ≢ bit) × (is_set word bit ≡ true))
+    (λ t unset. let never : false ≡ true = unset in cc) (λ f here. (eqb-false low bit f, here)) e
+
+-- once the lowest is cleared, it is higher, too
 pub record IsLater (word low bit : ℕ) : Type 0 where
   pub set : is_set word bit ≡ true
   pub higher : low < bit
@@ -28,11 +37,7 @@ pub record IsLater (word low bit : ℕ) : Type 0 where
 pub later : (rest word low bit : ℕ) → IsLowestSet word low → IsWordBut rest word low false → bit < 64 → is_set rest bit ≡ true
     → IsLater word low bit
 later rest word low bit lowest but small set =
-    let e : cond (eqb low bit) false (is_set word bit) ≡ true = sym (but bit small) ∙ set in
-    let both : (low ≢ bit) × (is_set word bit ≡ true) =
-    cond_both {A = Bool} (eqb low bit) false (is_set word bit)
-    (λ (u : Bool). u ≡ true → (low ≢ bit) × (is_set word bit ≡ true))
-    (λ t unset. let never : false ≡ true = unset in cc) (λ f here. (eqb-false low bit f, here)) e in
+    let both = still_set rest word low bit but small set in
     record {
       set = both.1;
       higher =
@@ -40,11 +45,15 @@ later rest word low bit lowest but small set =
           (λ (above : low ≤ bit). let apart = both.0 in omega arith) (cases_lt bit low);
     }
 
+-- any bit but the one that was cleared is as it was
+pub as_before : (rest word low bit : ℕ) → IsWordBut rest word low false → bit < 64 → low ≢ bit → is_set rest bit ≡ is_set word bit
+as_before rest word low bit but small apart =
+    but bit small ∙ ap (λ (u : Bool). cond u false (is_set word bit)) (ne_eqb low bit apart)
+
 -- a bit that was set, and isn't the lowest, is set still
 pub stays_set : (rest word low bit : ℕ) → IsWordBut rest word low false → bit < 64 → low ≢ bit → is_set word bit ≡ true
     → is_set rest bit ≡ true
-stays_set rest word low bit but small apart set =
-    but bit small ∙ ap (λ (u : Bool). cond u false (is_set word bit)) (ne_eqb low bit apart) ∙ set
+stays_set rest word low bit but small apart set = as_before rest word low bit but small apart ∙ set
 
 -- where one bit is set in addition, that bit is set, and any other was set before
 pub added_set : (word old bit : ℕ) → IsWordBut word old bit true → bit < 64 → is_set word bit ≡ true
@@ -87,7 +96,7 @@ none_in_chunk (Some index) chunk flags word adds none = λ at.
     none_set word (index % 64) none (added_set word flags (index % 64) (adds at) small)
 
 -- where one bit is set in addition, every bit that was set is
-keeps_bit : (word old one bit : ℕ) → IsWordBut word old one true → bit < 64 → is_set old bit ≡ true → is_set word bit ≡ true
+pub keeps_bit : (word old one bit : ℕ) → IsWordBut word old one true → bit < 64 → is_set old bit ≡ true → is_set word bit ≡ true
 keeps_bit word old one bit but small set =
     but bit small ∙ cond_both {A = Bool} (eqb one bit) true (is_set old bit) (λ (u : Bool). u ≡ true) (λ t. refl) (λ f. set)
 

@@ -18,8 +18,12 @@ use Rattle.thread_local_shared_buckets.specs.Shared.{BucketView, Turn, StandingB
 use Rattle.thread_local_shared_buckets.specs.Shared.{tracked_value, pinned_and_told, by, holds, stays, lies_with_slot, shared_slot}
 use Rattle.thread_local_shared_buckets.specs.Shared.{numbered_slot, slots_side, all_unborn, rests, slots_rest, block_rests}
 use Rattle.thread_local_shared_buckets.specs.Shared.{block_stands, beside_pointer, kept, loaded, row_owns, at_rest, len}
-use Rattle.thread_local_shared_buckets.specs.Shared.{first, shown_by, if_set, seen_value, seen_slot, seen_owns}
+use Rattle.thread_local_shared_buckets.specs.Shared.{first, shown_by, grown, if_set, seen_value, seen_slot, seen_owns}
+use Rattle.thread_local_shared_buckets.proofs.AnnouncingSent.{announced_keyless}
 use Rattle.thread_local_bucket_pointers.proofs.Sent.{token_keyless, each_keyless, place_keyless, back_keyless}
+
+pub grown_keyless : (d : BucketView) → Keyless (grown d)
+grown_keyless d = (reached_keyless d.table (shown_by d), announced_keyless d.word d.bucket)
 
 pub chain_keyless : (νs : List Lft) (κ α : Lft) → Keyless (chain νs κ α)
 chain_keyless [] κ α = λ _. tt
@@ -95,7 +99,7 @@ module _ (R : RattleType) (s : IsSend R) where
   beside_keyless d t (block_ptr b o) = λ z. (
     (λ _. tt),
     (
-      (tt, (tt, reached_keyless d.table (shown_by d))),
+      (tt, (tt, grown_keyless d)),
       (tt, (stands_keyless d t (block_ptr b o) z.0, token_keyless (block_ty R (len R d)) (block_ptr b o))),
     ),
   )
@@ -130,7 +134,7 @@ module _ (R : RattleType) (s : IsSend R) where
     (λ _. tt),
     (
       block_rests_keyless d.sharing (first R d) (len R d) b o,
-      (token_keyless (block_ty R (len R d)) (block_ptr b o), reached_keyless d.table (shown_by d)),
+      (token_keyless (block_ty R (len R d)) (block_ptr b o), grown_keyless d),
     ),
   )
 

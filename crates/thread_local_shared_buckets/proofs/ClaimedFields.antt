@@ -111,13 +111,13 @@ claim_ref R = RefOf (0 ∷ []) tt (claim_at R) (λ _. tt)
 module _ {M : Type 1} {𝓤 : Ura M} {𝓛 : Logic 𝓤} {K : Type 0} {Γ : List (Item 𝓤)} {G : Goal 𝓤 𝓛.H} where
   pub splits_ref : K → (a : NamedLft) (R : RattleType) (κ : Lft) (h : claim_value.ClaimedSlot R.Denot) (b o : ℕ)
       → Step K 𝓛 (‵ (fact (IsStateOf R h.state h.learnt))
-      ∷ ‵ (shows_value R a.lft (claim_fields h.id h.index h.bucket h.at h.sharing h.reserved)
+      ∷ ‵ (shows_value R a.lft (claim_fields h.id h.index h.bucket h.at h.sharing h.word h.reserved)
       (value_held h.learnt) κ)
       ∷ ‵ (hidden_shr (FieldsType a R) κ (fields_of a R (kept_of h)) b o) ∷ Γ)
       G (‵ (hidden_shr (claim.the_row a R) κ h b o) ∷ Γ) G
   splits_ref t a R κ h b o =
       let Shown : Fml =
-      claim_shares R a.lft (claim_fields h.id h.index h.bucket h.at h.sharing h.reserved) h.learnt
+      claim_shares R a.lft (claim_fields h.id h.index h.bucket h.at h.sharing h.word h.reserved) h.learnt
       h.state κ in
       step (λ s. use1 𝓛 (‵ (hidden_shr (FieldsType a R) κ (fields_of a R (kept_of h)) b o) ⊛ ‵ (fhide Shown))
       (lent_out 𝓛 (claim.struct a R)

@@ -1,23 +1,27 @@
--- What the buckets of a table at rest show of the ids that were held at once, by the rows of their
--- slots. Assumes `Logic`.
+-- What the buckets of a table at rest show, by the rows of their slots: of the ids that were held at
+-- once, and that buckets are announced. Assumes `Logic`.
 use Rattle.std.proofs.Common.{◌≡◌, ◌∙◌, ℕ, zero, suc, ◌+◌, ◌^◌, ◌<◌, ◌≤◌, ◌==◌, Bool, true, false, List, [], ◌∷◌, length, refl}
 use Rattle.std.proofs.Common.{sym, ap, subst, arith, Option, Some, if◌then◌else◌, eqb, pow_pos}
 use Rattle.std.specs.Prelude.{slice_index_or, nat_lt}
 use Rattle.std.proofs.lemmas.Bool.{eqb-true, eqb-false, eq-eqb, lt-ltb, ltb-true}
 use seplogic.Ra.Ura.{Ura}
 use base.Fml.{Fml, ftrue, fsep}
-use base.Logic.{ent, emp}
+use base.Logic.{ent, emp, guard, id⊢}
 use types.Logic.{Logic, sem}
-use types.Kit.{‵, ◌⊛◌, ◌$◌, ◌∵◌, !, qed, move, use0, use1, use2, split, fsplit, fjoin, rewrite, drop, done}
+use types.Kit.{‵, ◌⊛◌, given, learn, check, ◌$◌, ◌∵◌, !, qed, move, keep, use0, use1, use2, use3, split3, fsplit, fsplit3}
+use types.Kit.{fjoin, fjoin3, rewrite, drop, done}
 use denote.RattleType.{RattleType}
 use denote.Steps.{nothing}
+use Rattle.thread_local_base.specs.Bits.{is_set}
 use Rattle.thread_local_base.specs.Buckets.{row, stands, IsTable}
 use Rattle.thread_local_base.specs.Owned.{Owned}
 use Rattle.thread_local_base.specs.Place.{id_at}
 use Rattle.thread_local_ids.specs.Rights.{reached_owns}
 use Rattle.thread_local_ids.specs.Told.{all_told_or_untold, whole_row, rows_telling}
 use Rattle.thread_local_ids.proofs.ReachedElements.{reached_none, reached_less}
-use Rattle.thread_local_shared_buckets.specs.Shared.{BucketView, ids_shown, shown_by}
+use Rattle.thread_local_shared_buckets.specs.Announcing.{Announcing, announced, lies_with_word}
+use Rattle.thread_local_shared_buckets.proofs.AnnouncingLaws.{shows, begun_announced}
+use Rattle.thread_local_shared_buckets.specs.Shared.{BucketView, ids_shown, shown_by, grown}
 use Rattle.thread_local_shared_buckets.specs.TableView.{TableView, bucket_view}
 use Rattle.thread_local_shared_buckets.specs.Grown.{is_among, stand_among_below, stand_among, only_reserved}
 use Rattle.thread_local_shared_buckets.specs.Lent.{adds_no_bucket, view_with}
@@ -89,14 +93,17 @@ only_reserved_stand owned reserved same kept =
     only_reserved_if owned (λ b there. ap (λ n. nat_lt (id_at b 0) n) same ∙ sym (kept b) ∙ there)
 
 -- ---- what a row shows
+-- no word of announced buckets, for what doesn't depend on it
+abbrev no_word : Announcing
+no_word = record { name = 0; begun = 0 }
+
+abbrev unworded : TableView → ℕ → BucketView
+unworded s b = bucket_view s no_word b
+
 -- how many ids were held at once, by a bucket's row: none where it doesn't stand
 abbrev pub shown_in : {V : Type 0} → BucketView → List (Option V) → ℕ
 shown_in d [] = 0
 shown_in d (c ∷ cs) = shown_by d
-
-pub shown_whole : {V : Type 0} (d : BucketView) (cs : List (Option V)) → 0 < length cs → shown_by d ≡ shown_in d cs
-shown_whole d [] some = absurd (omega arith)
-shown_whole d (c ∷ cs) some = refl
 
 shown_below : (grown reserved : Bool) (bucket n : ℕ) → 2 ^ bucket ≤ n → ids_shown grown reserved bucket ≤ n
 shown_below false reserved bucket n fits = omega arith
@@ -113,60 +120,133 @@ shown_reached d id i ids at held =
 abbrev ByNumber : ℕ → ℕ → (ℕ → ℕ → Type 0) → Type 0
 ByNumber n b P = (i j : ℕ) → j ≡ i + b → i < n → P i j
 
+-- each of these buckets that stands has its bit set in this word
+abbrev pub AllSet : {V : Type 0} → ℕ → ℕ → List (List (Option V)) → Type 0
+AllSet n b rows = ByNumber (length rows) b (λ i j. 0 < length (slice_index_or rows i []) → is_set n j ≡ true)
+
+set_from : {V : Type 0} (n b : ℕ) (cs : List (Option V)) (rows : List (List (Option V)))
+    → (0 < length cs → is_set n b ≡ true) → AllSet n (suc b) rows → AllSet n b (cs ∷ rows)
+set_from n b cs rows first others zero j at near =
+    λ some. let is : b ≡ j = omega (arith, at) in subst (λ k. is_set n k ≡ true) is (first some)
+set_from n b cs rows first others (suc i) j at near = others i j (omega (arith, at)) (omega (arith, near))
+
 module _ (R : RattleType) where
   abbrev Slots : Type 0
   Slots = List (Option R.Denot)
 
-  -- what a bucket's row shows
+  -- what a bucket's row shows of the ids that were held
   abbrev pub row_grown : BucketView → Slots → Fml
   row_grown d cs = reached_owns d.table (shown_in d cs)
 
   -- the same of the rows from this bucket on
   abbrev pub rows_grown : TableView → ℕ → List Slots → Fml
   rows_grown s b [] = ftrue
-  rows_grown s b (cs ∷ rows) = fsep (row_grown (bucket_view s b) cs) (rows_grown s (suc b) rows)
+  rows_grown s b (cs ∷ rows) = fsep (row_grown (unworded s b) cs) (rows_grown s (suc b) rows)
+
+  -- a bucket is announced if it stands, by its row
+  abbrev pub row_announced : Announcing → ℕ → Slots → Fml
+  row_announced m b [] = ftrue
+  row_announced m b (c ∷ cs) = announced m b
+
+  -- the same of the rows from this bucket on
+  abbrev pub rows_announced : Announcing → ℕ → List Slots → Fml
+  rows_announced m b [] = ftrue
+  rows_announced m b (cs ∷ rows) = fsep (row_announced m b cs) (rows_announced m (suc b) rows)
 
   -- what is told of a bucket's slots, and what its row shows
   abbrev pub row_known : BucketView → Slots → Fml
-  row_known d cs = fsep (all_told_or_untold R d.sharing (id_at d.bucket 0) (whole_row d.bucket cs)) (row_grown d cs)
+  row_known d cs =
+      fsep (all_told_or_untold R d.sharing (id_at d.bucket 0) (whole_row d.bucket cs))
+      (fsep (row_grown d cs) (row_announced d.word d.bucket cs))
 
   -- the same of the rows from this bucket on
-  abbrev pub rows_known : TableView → ℕ → List Slots → Fml
-  rows_known s b [] = ftrue
-  rows_known s b (cs ∷ rows) = fsep (row_known (bucket_view s b) cs) (rows_known s (suc b) rows)
+  abbrev pub rows_known : TableView → Announcing → ℕ → List Slots → Fml
+  rows_known s m b [] = ftrue
+  rows_known s m b (cs ∷ rows) = fsep (row_known (bucket_view s m b) cs) (rows_known s m (suc b) rows)
 
 module _ {M : Type 1} {𝓤 : Ura M} (𝓛 : Logic 𝓤) (R : RattleType) where
   open signs 𝓛 use {⟦◌⟧, ◌⊢◌, ◌∗◌}
 
   infix 26 ◌⊢◌
   infixr 35 ◌∗◌
-  pub known_apart : (s : TableView) (b : ℕ) (rows : List (Slots R))
-      → ⟦ rows_known R s b rows ⟧ ⊢ ⟦ rows_telling R s.sharing b rows ⟧ ∗ ⟦ rows_grown R s b rows ⟧
-  known_apart s b [] = qed 𝓛 (‵ ftrue ∷ []) ∵ nothing ! $ done !
-  known_apart s b (cs ∷ rows) =
-      qed 𝓛 (‵ (rows_known R s b (cs ∷ rows)) ∷ []) ∵ fsplit ! $ fsplit ! $ move ! (2 ∷ []) $
-      use1 𝓛 (‵ (rows_telling R s.sharing (suc b) rows) ⊛ ‵ (rows_grown R s (suc b) rows)) (known_apart s (suc b) rows) $
-      split ! $
-      -- [what is told of the others; what they show; what is told of the first; what it shows]
-      move ! (2 ∷ 0 ∷ []) $ fjoin ! $ move ! (2 ∷ 1 ∷ []) $ fjoin ! $ move ! (1 ∷ 0 ∷ []) $ done !
+  -- a block that stands shows what its bucket's row does
+  pub whole_grown : (d : BucketView) (cs : Slots R) → 0 < length cs
+      → ⟦ grown d ⟧ ⊢ ⟦ fsep (row_grown R d cs) (row_announced R d.word d.bucket cs) ⟧
+  whole_grown d [] some = absurd (omega arith)
+  whole_grown d (c ∷ cs) some = id⊢ 𝓤 _
 
-  pub known_together : (s : TableView) (b : ℕ) (rows : List (Slots R))
-      → ⟦ rows_telling R s.sharing b rows ⟧ ∗ ⟦ rows_grown R s b rows ⟧ ⊢ ⟦ rows_known R s b rows ⟧
-  known_together s b [] = qed 𝓛 (‵ ftrue ∷ ‵ ftrue ∷ []) ∵ drop ! $ done !
-  known_together s b (cs ∷ rows) =
-      qed 𝓛 (‵ (rows_telling R s.sharing b (cs ∷ rows)) ∷ ‵ (rows_grown R s b (cs ∷ rows)) ∷ []) ∵ fsplit ! $
-      move ! (2 ∷ []) $ fsplit ! $
-      -- [what the first shows; what the others show; what is told of the first, and of the others]
-      move ! (2 ∷ 0 ∷ []) $ fjoin ! $ move ! (2 ∷ 1 ∷ []) $
-      use2 𝓛 (‵ (rows_known R s (suc b) rows)) (known_together s (suc b) rows) $ move ! (1 ∷ 0 ∷ []) $ fjoin ! $ done !
+  pub known_apart : (s : TableView) (m : Announcing) (b : ℕ) (rows : List (Slots R))
+      → ⟦ rows_known R s m b rows ⟧
+      ⊢ ⟦ rows_telling R s.sharing b rows ⟧ ∗ ⟦ rows_grown R s b rows ⟧ ∗ ⟦ rows_announced R m b rows ⟧
+  known_apart s m b [] = qed 𝓛 (‵ ftrue ∷ []) ∵ nothing ! $ nothing ! $ done !
+  known_apart s m b (cs ∷ rows) =
+      qed 𝓛 (‵ (rows_known R s m b (cs ∷ rows)) ∷ []) ∵ fsplit ! $ fsplit3 ! $ move ! (3 ∷ []) $
+      use1 𝓛 (‵ (rows_telling R s.sharing (suc b) rows) ⊛ ‵ (rows_grown R s (suc b) rows) ⊛ ‵ (rows_announced R m (suc b) rows))
+      (known_apart s m (suc b) rows) $
+      split3 ! $
+      -- [what is told of the others; what they show; they are announced; the same three of the first]
+      move ! (3 ∷ 0 ∷ []) $ fjoin ! $ move ! (3 ∷ 1 ∷ []) $ fjoin ! $ move ! (3 ∷ 2 ∷ []) $ fjoin ! $
+      move ! (2 ∷ 1 ∷ 0 ∷ []) $ done !
+
+  pub known_together : (s : TableView) (m : Announcing) (b : ℕ) (rows : List (Slots R))
+      → ⟦ rows_telling R s.sharing b rows ⟧ ∗ ⟦ rows_grown R s b rows ⟧ ∗ ⟦ rows_announced R m b rows ⟧
+      ⊢ ⟦ rows_known R s m b rows ⟧
+  known_together s m b [] = qed 𝓛 (‵ ftrue ∷ ‵ ftrue ∷ ‵ ftrue ∷ []) ∵ drop ! $ drop ! $ done !
+  known_together s m b (cs ∷ rows) =
+      qed 𝓛 (‵ (rows_telling R s.sharing b (cs ∷ rows)) ∷ ‵ (rows_grown R s b (cs ∷ rows)) ∷ ‵ (rows_announced R m b (cs ∷ rows)) ∷ []) ∵
+      fsplit ! $ move ! (2 ∷ []) $ fsplit ! $ move ! (4 ∷ []) $ fsplit ! $
+      -- [the first is announced; the others; what the first shows; the others; what is told of the first; of the others]
+      move ! (4 ∷ 2 ∷ 0 ∷ []) $ fjoin3 ! $ move ! (3 ∷ 2 ∷ 1 ∷ []) $
+      use3 𝓛 (‵ (rows_known R s m (suc b) rows)) (known_together s m (suc b) rows) $ move ! (1 ∷ 0 ∷ []) $ fjoin ! $ done !
+
+  -- a bucket that stands is announced where its bit was set when the sharing began
+  row_set : (m : Announcing) (b : ℕ) (cs : Slots R) → (0 < length cs → is_set m.begun b ≡ true)
+      → emp 𝓤 ⊢ ⟦ row_announced R m b cs ⟧
+  row_set m b [] set = qed 𝓛 [] ∵ nothing ! $ done !
+  row_set m b (c ∷ cs) set =
+      qed 𝓛 [] ∵ nothing ! $ use1 𝓛 (‵ (announced m b)) (begun_announced 𝓛 m b (set (omega arith))) $ done !
+
+  pub rows_set : (m : Announcing) (b : ℕ) (rows : List (Slots R)) → AllSet m.begun b rows
+      → emp 𝓤 ⊢ ⟦ rows_announced R m b rows ⟧
+  rows_set m b [] set = qed 𝓛 [] ∵ nothing ! $ done !
+  rows_set m b (cs ∷ rows) set =
+      qed 𝓛 [] ∵
+      use0 𝓛 (‵ (rows_announced R m (suc b) rows))
+      (rows_set m (suc b) rows (λ i j e near. set (suc i) j (omega (arith, e)) (omega (arith, near)))) $
+      use0 𝓛 (‵ (row_announced R m b cs)) (row_set m b cs (set 0 b (omega arith) (omega arith))) $ fjoin ! $ done !
+
+  -- the bits of the buckets that stand are set
+  row_shows : (m : Announcing) (n b : ℕ) (cs : Slots R) → b < 63
+      → ⟦ lies_with_word m n ⟧ ∗ ⟦ row_announced R m b cs ⟧
+      ⊢ guard 𝓤 (0 < length cs → is_set n b ≡ true) ⟦ lies_with_word m n ⟧
+  row_shows m n b [] low =
+      qed 𝓛 (‵ (lies_with_word m n) ∷ ‵ ftrue ∷ []) ∵ check ! (λ some. absurd (omega arith)) $ keep ! (0 ∷ []) $ done !
+  row_shows m n b (c ∷ cs) low =
+      qed 𝓛 (‵ (lies_with_word m n) ∷ ‵ (announced m b) ∷ []) ∵
+      use2 𝓛 (given (is_set n b ≡ true) (‵ (lies_with_word m n))) (shows 𝓛 m n b low) $ learn ! (λ is.
+      check ! (λ some. is) $ done !)
+
+  pub rows_show : (m : Announcing) (n b : ℕ) (rows : List (Slots R)) → length rows + b ≤ 63
+      → ⟦ lies_with_word m n ⟧ ∗ ⟦ rows_announced R m b rows ⟧
+      ⊢ guard 𝓤 (AllSet n b rows) ⟦ lies_with_word m n ⟧
+  rows_show m n b [] few =
+      qed 𝓛 (‵ (lies_with_word m n) ∷ ‵ ftrue ∷ []) ∵ check ! (λ i j e near. absurd (omega (arith, near))) $ keep ! (0 ∷ []) $ done !
+  rows_show m n b (cs ∷ rows) few =
+      let Set : Type 0 = 0 < length cs → is_set n b ≡ true in
+      qed 𝓛 (‵ (lies_with_word m n) ∷ ‵ (rows_announced R m b (cs ∷ rows)) ∷ []) ∵ move ! (1 ∷ []) $ fsplit ! $
+      -- [the first is announced; the others; what lies with the word]
+      move ! (2 ∷ 0 ∷ []) $
+      use2 𝓛 (given Set (‵ (lies_with_word m n))) (row_shows m n b cs (omega (arith, few))) $ learn ! (λ first.
+      use2 𝓛 (given (AllSet n (suc b) rows) (‵ (lies_with_word m n))) (rows_show m n (suc b) rows (omega (arith, few))) $
+      learn ! (λ others. check ! (set_from n b cs rows first others) $ done !))
 
   -- rows show nothing where no bucket stands that would
   pub none_grown : (s : TableView) (b : ℕ) (rows : List (Slots R))
-      → ByNumber (length rows) b (λ i j. shown_in (bucket_view s j) (slice_index_or rows i []) ≡ 0)
+      → ByNumber (length rows) b (λ i j. shown_in (unworded s j) (slice_index_or rows i []) ≡ 0)
       → emp 𝓤 ⊢ ⟦ rows_grown R s b rows ⟧
   none_grown s b [] all = qed 𝓛 [] ∵ nothing ! $ done !
   none_grown s b (cs ∷ rows) all =
-      let none : shown_in (bucket_view s b) cs ≡ 0 = all 0 b (omega arith) (omega arith) in
+      let none : shown_in (unworded s b) cs ≡ 0 = all 0 b (omega arith) (omega arith) in
       qed 𝓛 [] ∵
       use0 𝓛 (‵ (rows_grown R s (suc b) rows)) (none_grown s (suc b) rows (λ i j e near. all (suc i) j (omega arith) (omega arith))) $
       use0 𝓛 (‵ (reached_owns s.table 0)) (reached_none 𝓛 s.table) $
@@ -175,14 +255,14 @@ module _ {M : Type 1} {𝓤 : Ura M} (𝓛 : Logic 𝓤) (R : RattleType) where
   -- rows show as much as others of the same table, where each shows no more
   pub less_grown : (s s' : TableView) (b : ℕ) (before after : List (Slots R)) → s'.table ≡ s.table → length before ≡ length after
       → ByNumber (length after) b (λ i j.
-      shown_in (bucket_view s' j) (slice_index_or after i []) ≤ shown_in (bucket_view s j) (slice_index_or before i []))
+      shown_in (unworded s' j) (slice_index_or after i []) ≤ shown_in (unworded s j) (slice_index_or before i []))
       → ⟦ rows_grown R s b before ⟧ ⊢ ⟦ rows_grown R s' b after ⟧
   less_grown s s' b [] [] same long all = qed 𝓛 (‵ ftrue ∷ []) ∵ done !
   less_grown s s' b [] (r' ∷ after) same long all = absurd (omega arith)
   less_grown s s' b (r ∷ before) [] same long all = absurd (omega arith)
   less_grown s s' b (r ∷ before) (r' ∷ after) same long all =
-      let n : ℕ = shown_in (bucket_view s b) r in
-      let m : ℕ = shown_in (bucket_view s' b) r' in
+      let n : ℕ = shown_in (unworded s b) r in
+      let m : ℕ = shown_in (unworded s' b) r' in
       let less : m ≤ n = all 0 b (omega arith) (omega arith) in
       qed 𝓛 (‵ (rows_grown R s b (r ∷ before)) ∷ []) ∵ fsplit ! $
       use1 𝓛 (‵ (reached_owns s.table m)) (reached_less 𝓛 s.table n m less) $
@@ -195,7 +275,7 @@ module _ {M : Type 1} {𝓤 : Ura M} (𝓛 : Logic 𝓤) (R : RattleType) where
 module _ {V : Type 0} where
   none_shown : (grown reserved : Bool) (t n b : ℕ) (sharing : Option ℕ) (cs : List (Option V))
       → (nat_lt 0 (length cs) ≡ true → grown ≡ true → reserved ≡ true)
-      → shown_in record { table = t; sharing = sharing; bucket = b; reserved = reserved; grown_by_ids = grown } cs ≡ 0
+      → shown_in record { table = t; sharing = sharing; bucket = b; reserved = reserved; grown_by_ids = grown; word = no_word } cs ≡ 0
   none_shown grown reserved t n b sharing [] so = refl
   none_shown false reserved t n b sharing (c ∷ cs) so = refl
   none_shown true true t n b sharing (c ∷ cs) so = refl
@@ -205,19 +285,19 @@ module _ {V : Type 0} where
   -- where the view says that a table grew by ids alone only if no bucket stands but reserved ones
   pub nothing_shown : (s : TableView) (owned : Owned V) → owned.reserved ≡ s.reserved → IsTable owned.contents
       → (s.grown_by_ids ≡ true → only_reserved owned ≡ true)
-      → ByNumber (length owned.contents.rows) 0 (λ i j. shown_in (bucket_view s j) (slice_index_or owned.contents.rows i []) ≡ 0)
+      → ByNumber (length owned.contents.rows) 0 (λ i j. shown_in (unworded s j) (slice_index_or owned.contents.rows i []) ≡ 0)
   nothing_shown s owned same table only i j at near =
       let low : i < 63 = omega (arith, near, table.buckets) in
       let is : j ≡ i = omega (arith, at) in
-      subst (λ (k : ℕ). shown_in (bucket_view s k) (row owned.contents i) ≡ 0) (sym is)
+      subst (λ (k : ℕ). shown_in (unworded s k) (row owned.contents i) ≡ 0) (sym is)
       (none_shown s.grown_by_ids (nat_lt (id_at i 0) s.reserved) s.table s.reserved i s.sharing (row owned.contents i)
       (λ there grown. subst (λ (n : ℕ). nat_lt (id_at i 0) n ≡ true) same
       (stands_among (λ bucket. nat_lt (id_at bucket 0) owned.reserved) (stands owned.contents) (only grown) i low there)))
 
   shown_less : (grown' grown reserved' reserved : Bool) (t' t b : ℕ) (sharing' sharing : Option ℕ) (after before : List (Option V))
       → (grown' ≡ true → (grown ≡ true) × (reserved' ≡ reserved) × (nat_lt 0 (length after) ≡ true → nat_lt 0 (length before) ≡ true))
-      → shown_in record { table = t'; sharing = sharing'; bucket = b; reserved = reserved'; grown_by_ids = grown' } after
-      ≤ shown_in record { table = t; sharing = sharing; bucket = b; reserved = reserved; grown_by_ids = grown } before
+      → shown_in record { table = t'; sharing = sharing'; bucket = b; reserved = reserved'; grown_by_ids = grown'; word = no_word } after
+      ≤ shown_in record { table = t; sharing = sharing; bucket = b; reserved = reserved; grown_by_ids = grown; word = no_word } before
   shown_less grown' grown reserved' reserved t' t b sharing' sharing [] before so = omega arith
   shown_less false grown reserved' reserved t' t b sharing' sharing (c ∷ after) before so = omega arith
   shown_less true grown reserved' reserved t' t b sharing' sharing (c ∷ after) [] so =
@@ -232,10 +312,10 @@ module _ {V : Type 0} where
   -- or not
   left_shown : (s : TableView) (lent left : Owned V) → lent.reserved ≡ s.reserved → (i : ℕ) → i < 63
       → (only : Bool) → only_reserved left ≡ only
-      → shown_in (bucket_view (view_with s lent left) i) (row left.contents i) ≤ shown_in (bucket_view s i) (row lent.contents i)
+      → shown_in (unworded (view_with s lent left) i) (row left.contents i) ≤ shown_in (unworded s i) (row lent.contents i)
   left_shown s lent left same i low true only =
       let s' : TableView = view_with s lent left in
-      let none : shown_in (bucket_view s' i) (row left.contents i) ≡ 0 =
+      let none : shown_in (unworded s' i) (row left.contents i) ≡ 0 =
       none_shown s'.grown_by_ids (nat_lt (id_at i 0) left.reserved) s.table left.reserved i s'.sharing (row left.contents i)
       (λ there grown. stands_among (λ bucket. nat_lt (id_at bucket 0) left.reserved) (stands left.contents) only i low there) in
       omega (arith, none)
@@ -254,13 +334,13 @@ module _ {V : Type 0} where
   -- an owner that had the buckets on loan leaves no bucket that shows more
   pub lent_shown : (s : TableView) (lent left : Owned V) → lent.reserved ≡ s.reserved → IsTable left.contents
       → ByNumber (length left.contents.rows) 0 (λ i j.
-      shown_in (bucket_view (view_with s lent left) j) (slice_index_or left.contents.rows i [])
-      ≤ shown_in (bucket_view s j) (slice_index_or lent.contents.rows i []))
+      shown_in (unworded (view_with s lent left) j) (slice_index_or left.contents.rows i [])
+      ≤ shown_in (unworded s j) (slice_index_or lent.contents.rows i []))
   lent_shown s lent left same table i j at near =
       let low : i < 63 = omega (arith, near, table.buckets) in
       let is : j ≡ i = omega (arith, at) in
       let s' : TableView = view_with s lent left in
-      let F : ℕ → Type 0 = λ k. shown_in (bucket_view s' k) (row left.contents i) ≤ shown_in (bucket_view s k) (row lent.contents i) in
+      let F : ℕ → Type 0 = λ k. shown_in (unworded s' k) (row left.contents i) ≤ shown_in (unworded s k) (row lent.contents i) in
       subst F (sym is) (left_shown s lent left same i low (only_reserved left) refl)
 
 -- a view of the same buckets in another sharing, of the table of this name

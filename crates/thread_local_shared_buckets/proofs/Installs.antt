@@ -14,6 +14,7 @@ use denote.Steps.{nothing}
 use Rattle.thread_local_ids.specs.Rights.{right_owns}
 use Rattle.thread_local_bucket_pointers.specs.Slots.{value_offset}
 use Rattle.thread_local_base.specs.Fact.{fact}
+use Rattle.thread_local_shared_buckets.specs.Announcing.{Announcing}
 use Rattle.thread_local_shared_buckets.specs.Shared.{BucketView, Turn, StandingBlock, Sized, block_code, len, bucket_invariant, kept, loaded}
 use Rattle.thread_local_shared_buckets.proofs.Loads.{part, reaches}
 use Rattle.thread_local_base.specs.Learnt.{Vacant}
@@ -23,7 +24,7 @@ use Rattle.thread_local_base.proofs.Signs.{signs}
 use Rattle.thread_local_shared_buckets.proofs.Inside.{placed}
 
 module _ {M : Type 1} {𝓤 : Ura M} (𝓛 : Logic 𝓤) (R : RattleType) (d : BucketView) (t : Turn)
-    (β : Lft) (wb wo pb o id i : ℕ) (sharing : Option ℕ) (reserved : Bool) where
+    (β : Lft) (wb wo pb o id i : ℕ) (sharing : Option ℕ) (word : Announcing) (reserved : Bool) where
   open 𝓛 use {H, A}
   open signs 𝓛 use {⟦◌⟧, ◌⊢◌, ◌∗◌}
 
@@ -37,7 +38,7 @@ module _ {M : Type 1} {𝓤 : Ura M} (𝓛 : Logic 𝓤) (R : RattleType) (d : B
 
   -- the claim once the block stands
   abbrev pub Now : ClaimFields
-  Now = claim_fields id i w (value_at R p i) sharing reserved
+  Now = claim_fields id i w (value_at R p i) sharing word reserved
 
   pub installs : (table : ℕ) (q : Share) (zz : StandingBlock × Share) → IsOf R table Now d →
       ⟦ part 𝓛 R d t p zz ⟧ ∗ ⟦ kept R d t wb (wo + 0) β ⟧ ∗ A.lft t.life q

@@ -5,6 +5,9 @@ pub mod CompleteWalks
 mod Turned
 pub mod Fields
 pub mod GrownLaws
+pub mod AnnouncingLaws
+pub mod AnnouncingSent
+pub mod AnnouncedTokens
 pub mod StepLaws
 pub mod MoveLaws
 pub mod WalkLaws

@@ -10,25 +10,26 @@ use Rattle.std.specs.List.{range_with_len}
 use mathlib.Core.Logic.{inl, inr}
 use Rattle.thread_local_base.specs.Place.{id_at}
 use Rattle.thread_local_base.specs.Owned.{Owned, AreOfFirstBuckets, IsOwned}
+use Rattle.thread_local_shared_buckets.specs.Announcing.{Announcing}
 use Rattle.thread_local_shared_buckets.specs.Shared.{BucketView}
 use Rattle.thread_local_shared_buckets.specs.Fit.{Fit}
 use Rattle.thread_local_shared_buckets.specs.TableView.{TableView, bucket_view, bucket_at, table_view_of, AreBuckets}
 
 -- the views of a table's buckets
-unfoldable pub table_buckets : TableView → List BucketView
-table_buckets s = map (bucket_view s) (range_with_len 0 63)
+unfoldable pub table_buckets : TableView → Announcing → List BucketView
+table_buckets s w = map (bucket_view s w) (range_with_len 0 63)
 
-pub table_long : (s : TableView) → length (table_buckets s) ≡ 63
+pub table_long : (s : TableView) (w : Announcing) → length (table_buckets s w) ≡ 63
 unfolding table_buckets
-table_long s = length-map-range_with_len (bucket_view s) 0 63
+table_long s w = length-map-range_with_len (bucket_view s w) 0 63
 
-table_bucket : (s : TableView) (i : ℕ) → i < 63 → bucket_at (table_buckets s) i ≡ bucket_view s i
+table_bucket : (s : TableView) (w : Announcing) (i : ℕ) → i < 63 → bucket_at (table_buckets s w) i ≡ bucket_view s w i
 unfolding table_buckets
-table_bucket s i near = get_or-map-range_with_len (bucket_view s) 0 63 i i _ near (omega arith)
+table_bucket s w i near = get_or-map-range_with_len (bucket_view s w) 0 63 i i _ near (omega arith)
 
-pub table_named : (s : TableView) → AreBuckets (table_buckets s) s.reserved
-table_named s b near =
-    table_bucket s b near
+pub table_named : (s : TableView) (w : Announcing) → AreBuckets (table_buckets s w) w s.reserved
+table_named s w b near =
+    table_bucket s w b near
     ∙ sym
     (ap (λ (d : BucketView). record {
       table = d.table;
@@ -36,50 +37,51 @@ table_named s b near =
       bucket = b;
       reserved = nat_lt (id_at b 0) s.reserved;
       grown_by_ids = d.grown_by_ids;
+      word = w;
     })
-    (table_bucket s 0 (omega arith)))
+    (table_bucket s w 0 (omega arith)))
 
-pub table_seen : (s : TableView) → table_view_of (table_buckets s) s.reserved ≡ s
-table_seen s =
+pub table_seen : (s : TableView) (w : Announcing) → table_view_of (table_buckets s w) s.reserved ≡ s
+table_seen s w =
     ap (λ (d : BucketView). record {
       table = d.table;
       sharing = d.sharing;
       reserved = s.reserved;
       grown_by_ids = d.grown_by_ids;
     })
-    (table_bucket s 0 (omega arith))
+    (table_bucket s w 0 (omega arith))
 
 -- these are a table's buckets from this number on
-abbrev pub AreOf : TableView → ℕ → List BucketView → Type 0
-AreOf s b [] = Unit {0}
-AreOf s b (d ∷ ds) = (d ≡ bucket_view s b) × AreOf s (suc b) ds
+abbrev pub AreOf : TableView → Announcing → ℕ → List BucketView → Type 0
+AreOf s w b [] = Unit {0}
+AreOf s w b (d ∷ ds) = (d ≡ bucket_view s w b) × AreOf s w (suc b) ds
 
-are_of_from : (s : TableView) (b : ℕ) (ds : List BucketView)
-    → ((i : ℕ) → i < length ds → bucket_at ds i ≡ bucket_view s (i + b))
-    → AreOf s b ds
-are_of_from s b [] all = tt
-are_of_from s b (d ∷ ds) all = let here : 0 + b ≡ b = omega arith in (
-  all 0 (omega arith) ∙ ap (bucket_view s) here,
-  are_of_from s (suc b) ds (λ i near.
+are_of_from : (s : TableView) (w : Announcing) (b : ℕ) (ds : List BucketView)
+    → ((i : ℕ) → i < length ds → bucket_at ds i ≡ bucket_view s w (i + b))
+    → AreOf s w b ds
+are_of_from s w b [] all = tt
+are_of_from s w b (d ∷ ds) all = let here : 0 + b ≡ b = omega arith in (
+  all 0 (omega arith) ∙ ap (bucket_view s w) here,
+  are_of_from s w (suc b) ds (λ i near.
       let next : suc i + b ≡ i + suc b = omega arith in
-      all (suc i) (omega arith) ∙ ap (bucket_view s) next),
+      all (suc i) (omega arith) ∙ ap (bucket_view s w) next),
 )
 
-pub table_are_of : (s : TableView) → AreOf s 0 (table_buckets s)
-table_are_of s =
-    let long : length (table_buckets s) ≡ 63 = table_long s in
-    are_of_from s 0 (table_buckets s) (λ i near.
+pub table_are_of : (s : TableView) (w : Announcing) → AreOf s w 0 (table_buckets s w)
+table_are_of s w =
+    let long : length (table_buckets s w) ≡ 63 = table_long s w in
+    are_of_from s w 0 (table_buckets s w) (λ i near.
     let same : i ≡ i + 0 = omega arith in
-    table_bucket s i (omega arith) ∙ ap (bucket_view s) same)
+    table_bucket s w i (omega arith) ∙ ap (bucket_view s w) same)
 
-pub named_are_of : (ds : List BucketView) (reserved : ℕ) → length ds ≡ 63 → AreBuckets ds reserved
-    → AreOf (table_view_of ds reserved) 0 ds
-named_are_of ds reserved long named =
+pub named_are_of : (ds : List BucketView) (w : Announcing) (reserved : ℕ) → length ds ≡ 63 → AreBuckets ds w reserved
+    → AreOf (table_view_of ds reserved) w 0 ds
+named_are_of ds w reserved long named =
     let s : TableView = table_view_of ds reserved in
-    are_of_from s 0 ds (λ i near.
+    are_of_from s w 0 ds (λ i near.
     let within : i < 63 = omega arith in
     let same : i ≡ i + 0 = omega arith in
-    named i within ∙ ap (bucket_view s) same)
+    named i within ∙ ap (bucket_view s w) same)
 
 module _ {V W : Type 0} (slots : W → List (Option V)) where
   abbrev pub Fits : List BucketView → List W → Type 0
@@ -125,8 +127,8 @@ module _ {V W : Type 0} (slots : W → List (Option V)) where
   standing_if d cs kept (inl f) = let no : true ≡ false = sym kept ∙ f.1 in cc
   standing_if d cs kept (inr f) = let some_slots : 0 < 2 ^ d.bucket = pow_pos d.bucket in lt-ltb 0 (length cs) (omega arith)
 
-  module _ (ds : List BucketView) (ws : List W) (reserved : ℕ) (long : length ds ≡ 63)
-      (named : AreBuckets ds reserved) (first : AreOfFirstBuckets reserved) (f : Fits ds ws) where
+  module _ (ds : List BucketView) (w : Announcing) (ws : List W) (reserved : ℕ) (long : length ds ≡ 63)
+      (named : AreBuckets ds w reserved) (first : AreOfFirstBuckets reserved) (f : Fits ds ws) where
     whole_at : (b : ℕ) (t : Bool) → nat_lt b 63 ≡ t → (length (slots_at ws b) ≡ 0) ⊎ (length (slots_at ws b) ≡ 2 ^ b)
     whole_at b true e =
         let near : b < 63 = ltb-true b 63 e in
@@ -147,10 +149,10 @@ module _ {V W : Type 0} (slots : W → List (Option V)) where
           (fits_at ds ws f b (omega arith));
     }
 
-  module _ (s : TableView) (ws : List W) (owned : IsOwned (owned_of ws s.reserved)) where
+  module _ (s : TableView) (w : Announcing) (ws : List W) (owned : IsOwned (owned_of ws s.reserved)) where
     fit_if : (i : ℕ) → i < 63 → (t : Bool) → nat_lt (id_at i 0) s.reserved ≡ t
         → (length (slots_at ws i) ≡ 0) ⊎ (length (slots_at ws i) ≡ 2 ^ i)
-        → Fit (bucket_view s i) (slots_at ws i)
+        → Fit (bucket_view s w i) (slots_at ws i)
     fit_if i near t e (inr all) = inr all
     fit_if i near false e (inl none) = inl (none, e)
     fit_if i near true e (inl none) =
@@ -159,11 +161,11 @@ module _ {V W : Type 0} (slots : W → List (Option V)) where
         (owned.standing i near (ltb-true (id_at i 0) s.reserved e)) in
         absurd (omega arith)
 
-    pub fit_all : Fits (table_buckets s) ws
+    pub fit_all : Fits (table_buckets s w) ws
     fit_all =
-        let long : length (table_buckets s) ≡ 63 = table_long s in
-        fits_from (table_buckets s) ws (sym (length-map ws slots) ∙ owned.table.buckets ∙ sym long)
+        let long : length (table_buckets s w) ≡ 63 = table_long s w in
+        fits_from (table_buckets s w) ws (sym (length-map ws slots) ∙ owned.table.buckets ∙ sym long)
         (λ i near.
         let within : i < 63 = omega arith in
-        subst (λ (d : BucketView). Fit d (slots_at ws i)) (sym (table_bucket s i within))
+        subst (λ (d : BucketView). Fit d (slots_at ws i)) (sym (table_bucket s w i within))
         (fit_if i within (nat_lt (id_at i 0) s.reserved) refl (owned.table.whole i)))

@@ -18,12 +18,15 @@ use denote.Steps.{nothing}
 use denote.SharingLaws.{ends_shr_laws}
 use Rattle.std.specs.Sync.RawAtomic.Pointer.{cell, asks_ptr}
 use Rattle.thread_local_base.specs.Fact.{fact}
+use Rattle.thread_local_ids.specs.Rights.{reached_owns}
 use Rattle.thread_local_ids.specs.Told.{untold_in, tells}
 use Rattle.thread_local_ids.proofs.ToldElements.{telling_alike}
 use Rattle.thread_local_ids.proofs.ReachedElements.{reached_twice}
 use Rattle.thread_local_ids.specs.Views.{TokenView}
 use Rattle.thread_local_ids.specs.TokenLists.{AllOf, tell_each}
 use Rattle.thread_local_ids.proofs.TokenListLaws.{slot_agrees}
+use Rattle.thread_local_shared_buckets.specs.Announcing.{announced}
+use Rattle.thread_local_shared_buckets.proofs.AnnouncingLaws.{announced_twice}
 use Rattle.thread_local_shared_buckets.proofs.ChunkLooks.{all_from}
 use Rattle.thread_local_shared_buckets.specs.Shared.{BucketView, Turn, StandingBlock, block_code, Sized, len, first, shown_by, grown}
 use Rattle.thread_local_shared_buckets.specs.Shared.{all_unborn, standing, beside_pointer, bucket_invariant, loaded}
@@ -103,6 +106,18 @@ module _ {M : Type 1} {𝓤 : Ura M} (𝓛 : Logic 𝓤) (R : RattleType) (d : B
   pub forgets : ent 𝓤 (sem 𝓛 (tell_each R tokens)) (sem 𝓛 ftrue)
   forgets = qed 𝓛 (‵ (tell_each R tokens) ∷ []) ∵ drop ! $ nothing ! $ done !
 
+-- what a block shows can be had twice
+pub grown_twice : {M : Type 1} {𝓤 : Ura M} (𝓛 : Logic 𝓤) (d : BucketView)
+    → ent 𝓤 (sem 𝓛 (grown d)) (sep 𝓤 (sem 𝓛 (grown d)) (sem 𝓛 (grown d)))
+grown_twice 𝓛 d =
+    let Held : Fml = reached_owns d.table (shown_by d) in
+    let Known : Fml = announced d.word d.bucket in
+    qed 𝓛 (‵ (grown d) ∷ []) ∵ fsplit ! $
+    use1 𝓛 (‵ Held ⊛ ‵ Held) (reached_twice 𝓛 d.table (shown_by d)) $ split ! $ move ! (2 ∷ []) $
+    use1 𝓛 (‵ Known ⊛ ‵ Known) (announced_twice 𝓛 d.word d.bucket) $ split ! $
+    -- [that it is announced, twice; how many ids were held, twice]
+    move ! (2 ∷ 0 ∷ []) $ fjoin ! $ move ! (2 ∷ 1 ∷ []) $ fjoin ! $ done !
+
 module _ {M : Type 1} {𝓤 : Ura M} (𝓛 : Logic 𝓤) (R : RattleType) (d : BucketView) (t : Turn) where
   open 𝓛 use {H, A}
   open signs 𝓛 use {⟦◌⟧, ◌⊢◌, ◌∗◌}
@@ -127,7 +142,7 @@ module _ {M : Type 1} {𝓤 : Ura M} (𝓛 : Logic 𝓤) (R : RattleType) (d : B
       let ν : Lft = z.0.block_life ∷ [] in
       qed 𝓛 (‵ (standing R d t p z) ∷ []) ∵ fsplit ! $ fpick ! (λ so. drop ! $ fsplit3 ! $
       fsplit3 ! $ move ! (2 ∷ []) $
-      use1 𝓛 (‵ (grown d) ⊛ ‵ (grown d)) (reached_twice 𝓛 d.table (shown_by d)) $ split ! $
+      use1 𝓛 (‵ (grown d) ⊛ ‵ (grown d)) (grown_twice 𝓛 d) $ split ! $
       move ! (3 ∷ []) $ res_dup ! $ move ! (5 ∷ []) $
       use1 𝓛 (‵ (flft ν (left z.1)) ⊛ ‵ (flft ν (right z.1))) (𝓛.lfts.lft_split ν z.1) $ split ! $
       -- [the left half; the right; which, twice; what it shows, twice; its authority; the slots

@@ -62,6 +62,7 @@ module _ {V : Type 0} where
                   (added_set rest 0 (i % 64) but (omega arith)),
             ));
         marked = marked;
+        left = walk.left;
       }
 
   -- the walk once it has looked on: its row, what it saw, how many chunks, and the flags at hand
@@ -168,6 +169,7 @@ module _ {V : Type 0} where
             };
         kept = kept_read w (after_look w row (Some seen) chunks flags) of w.own seen refl walk.kept none read;
         marked = marked;
+        left = walk.left;
       }
 
   -- the walk with another row of the same bucket, of which it has seen nothing that is at hand
@@ -181,6 +183,7 @@ module _ {V : Type 0} where
     at_hand = λ bit small set. none_set w.rest bit none set;
     kept = walk.kept;
     marked = walk.marked;
+    left = walk.left;
   }
 
   -- the own slot alone comes to hand, at its index in the bucket

@@ -15,6 +15,7 @@ use Rattle.thread_local_shared_buckets.specs.Positions.{resting, past, owed, is_
 use Rattle.thread_local_shared_buckets.specs.Positions.{IsToldAt, IsSharedWalk}
 use Rattle.thread_local_shared_buckets.specs.AtHand.{IsSetIn, IsGivenBy, slot_of, HasSeen, IsAtHand}
 use Rattle.thread_local_shared_buckets.specs.AtHand.{OwnIsAtHand, IsWalk}
+use Rattle.thread_local_shared_buckets.proofs.MoveLaws.{resting-id}
 use Rattle.thread_local_shared_buckets.proofs.WalkLaws.{few, IsBefore, given_found, Gave, gave_own}
 use Rattle.thread_local_shared_buckets.proofs.ToldLaws.{marked_later}
 use Rattle.thread_local_shared_buckets.proofs.BitLaws.{both_if, both_so, by_test, later, stays_set}
@@ -34,6 +35,7 @@ module _ {V : Type 0} where
       let power : 2 ^ seen.of.bucket ≡ 2 ^ raw.bucket = ap (λ k. 2 ^ k) h.1 in
       let chunk : chunks ≡ seen.chunk + 1 = h.2 in
       let id : x.0.id ≡ id_at seen.of.bucket (seen.chunk * 64 + bit) = given.id in
+      let at = resting-id (past raw ((chunks - 1) * 64 + bit)) in
       record { sharing = given.sharing ∙ h.0; id = omega arith; value = given.value }
 
   -- the walk once it gave the value of this bit
@@ -99,6 +101,12 @@ module _ {V : Type 0} where
               (λ apart. apart));
           kept = tt;
           marked = marked_later w low rest None walk lowest but;
+          left = (let left = walk.left in record {
+            behind = left.behind;
+            none_past = left.none_past;
+            none_told = left.none_told;
+            none_owed = λ bucket above below unset. refl;
+          });
         };
         gives =
             subst (λ (o : Option (Own V)).
@@ -171,6 +179,7 @@ module _ {V : Type 0} where
           at_hand = at_hand_later w low rest w.own walk lowest but (λ bit higher elsewhere. elsewhere);
           kept = kept_later w low rest w.own there.some walk.kept lowest but apart;
           marked = marked_later w low rest w.own walk lowest but;
+          left = walk.left;
         };
         gives = all.gives;
         told =

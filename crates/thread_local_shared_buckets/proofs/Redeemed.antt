@@ -29,7 +29,7 @@ use Rattle.thread_local_shared_buckets.specs.Shared.{slots_rest, Sized, len, fir
 use Rattle.thread_local_ids.specs.Told.{told_or_untold, all_told_or_untold, whole_row}
 use Rattle.thread_local_ids.specs.Rights.{reached_owns}
 use Rattle.thread_local_ids.proofs.ReachedElements.{reached_none}
-use Rattle.thread_local_shared_buckets.proofs.GrownLaws.{row_known, shown_whole}
+use Rattle.thread_local_shared_buckets.proofs.GrownLaws.{row_grown, row_announced, row_known, whole_grown}
 use Rattle.thread_local_shared_buckets.proofs.Rested.{redeems}
 use Rattle.thread_local_shared_buckets.specs.Fit.{Fit}
 use Rattle.thread_local_base.proofs.Signs.{signs}
@@ -270,7 +270,7 @@ module _ {M : Type 1} {𝓤 : Ura M} (𝓛 : Logic 𝓤) (R : RattleType) (L : L
     pub redeems_bucket : (p : Ptr) → ⟦ at_rest R d p ⟧ ⊢ H.⇛ (ex 𝓤 (Plain p))
     redeems_bucket null_ptr =
         qed 𝓛 (‵ (at_rest R d null_ptr) ∷ []) ∵ updating ! $ fsplit ! $ fpick ! (λ free. drop ! $
-        use0 𝓛 (‵ (reached_owns d.table 0)) (reached_none 𝓛 d.table) $ move ! (1 ∷ 0 ∷ []) $ fjoin ! $
+        use0 𝓛 (‵ (reached_owns d.table 0)) (reached_none 𝓛 d.table) $ nothing ! $ move ! (2 ∷ 1 ∷ 0 ∷ []) $ fjoin3 ! $
         now ! $ show ! (Plain null_ptr) [] $ check ! (inl (refl, free)) $
         nothing ! $ fpack ! (null_ptr ≡ null_ptr) (λ _. ftrue) refl $ done !)
     redeems_bucket (block_ptr b o) =
@@ -285,7 +285,7 @@ module _ {M : Type 1} {𝓤 : Ura M} (𝓛 : Logic 𝓤) (R : RattleType) (L : L
         move ! (0 ∷ 2 ∷ 3 ∷ []) $
         use3 𝓛 (‵ (pointer_owns R heap_token p cs)) (plain_block b o cs long so) $ move ! (1 ∷ []) $
         use1 𝓛 (‵ (Telling cs)) (tells_whole cs long) $ move ! (2 ∷ []) $
-        rewrite ! 0 (λ (m : ℕ). ‵ (reached_owns d.table m)) (shown_whole d cs (has_slots cs long)) refl $
+        use1 𝓛 (‵ (fsep (row_grown R d cs) (row_announced R d.word d.bucket cs))) (whole_grown 𝓛 R d cs (has_slots cs long)) $
         move ! (1 ∷ 0 ∷ []) $ fjoin ! $ move ! (1 ∷ 0 ∷ []) $
         now ! $ show ! (Plain p) cs $ check ! (inr long) $ done !)))
 

@@ -2,14 +2,14 @@
 use Rattle.std.proofs.Common.{◌≡◌, ℕ, zero, suc, ◌+◌, ◌-◌, ◌^◌, ◌<◌, ◌≤◌, Bool, true, false, cond, eqb, List, [], ◌∷◌}
 use Rattle.std.proofs.Common.{◌++◌, IsTrue, refl, sym, subst, arith}
 use Rattle.std.specs.Prelude.{MatchBool}
-use Rattle.std.proofs.lemmas.Bool.{cond_both, eqb-true, lt-ltb}
+use Rattle.std.proofs.lemmas.Bool.{cond_both, eqb-true, eqb-false, lt-ltb}
 use Rattle.thread_local_base.specs.Cursor.{Cursor, cursor_id, may_load, at_next_bucket, at_place, after_load, after_look, CursorFits}
 use Rattle.thread_local_base.proofs.CursorLaws.{after_load-fits, after_look-fits, never_lower, after_look-id}
 use Rattle.thread_local_shared_buckets.specs.Steps.{after_step, GivesNothing, Passes, Leads}
 
 -- a cursor of a walk that loads the bucket's pointer next
-abbrev pub resting_at : ℕ → ℕ → Cursor
-resting_at bucket index = record { bucket = bucket; index = index; looks = false }
+abbrev pub loading_at : ℕ → ℕ → Cursor
+loading_at bucket index = record { bucket = bucket; index = index; looks = false }
 
 -- a cursor of a walk that looks at the slot next
 abbrev pub looking_at : ℕ → ℕ → Cursor
@@ -61,45 +61,65 @@ leads_on from to leads fits = passes_on from to leads.found leads.passes fits
 
 -- 3. The steps in one bucket.
 
-at_place-inside : (bucket index : ℕ) → index < 2 ^ bucket → at_place (resting_at bucket index) ≡ looking_at bucket index
+pub at_place-inside : (bucket index : ℕ) → index < 2 ^ bucket → at_place (loading_at bucket index) ≡ looking_at bucket index
 at_place-inside bucket index inside =
-    cond_both {A = Cursor} (eqb index (2 ^ bucket)) (at_next_bucket (resting_at bucket index))
+    cond_both {A = Cursor} (eqb index (2 ^ bucket)) (at_next_bucket (loading_at bucket index))
     (looking_at bucket index) (λ c. c ≡ looking_at bucket index)
     (λ t. let last = eqb-true index (2 ^ bucket) t in absurd (omega arith))
     (λ f. refl)
 
-may_load-in_table : (bucket index : ℕ) → bucket < 63 → IsTrue (may_load (resting_at bucket index))
+at_place-end : (bucket index : ℕ) → index ≡ 2 ^ bucket → at_place (loading_at bucket index) ≡ loading_at (suc bucket) 0
+at_place-end bucket index end =
+    cond_both {A = Cursor} (eqb index (2 ^ bucket)) (loading_at (suc bucket) 0) (looking_at bucket index)
+    (λ c. c ≡ loading_at (suc bucket) 0)
+    (λ t. refl)
+    (λ f. let apart = eqb-false index (2 ^ bucket) f in absurd (apart end))
+
+may_load-in_table : (bucket index : ℕ) → bucket < 63 → IsTrue (may_load (loading_at bucket index))
 may_load-in_table bucket index low = lt-ltb bucket 63 low
 
 -- a load that finds no bucket passes it over
-pub passes_bucket : (bucket index : ℕ) → bucket < 63 → Leads (resting_at bucket index) (resting_at (bucket + 1) 0)
+pub passes_bucket : (bucket index : ℕ) → bucket < 63 → Leads (loading_at bucket index) (loading_at (bucket + 1) 0)
 passes_bucket bucket index low =
     let next : suc bucket ≡ bucket + 1 = omega arith in
-    subst (λ (b : ℕ). Leads (resting_at bucket index) (resting_at b 0)) next
-    (leads_step (resting_at bucket index) false (may_load-in_table bucket index low))
+    subst (λ (b : ℕ). Leads (loading_at bucket index) (loading_at b 0)) next
+    (leads_step (loading_at bucket index) false (may_load-in_table bucket index low))
 
-looks_past : (bucket from to n : ℕ) → from + n ≡ to → to < 2 ^ bucket → Leads (looking_at bucket from) (looking_at bucket to)
+pub looks_past : (bucket from to n : ℕ) → from + n ≡ to → to < 2 ^ bucket → Leads (looking_at bucket from) (looking_at bucket to)
 looks_past bucket from to zero is inside =
     let same : from ≡ to = omega arith in
     subst (λ (k : ℕ). Leads (looking_at bucket from) (looking_at bucket k)) same
     (leads_nowhere (looking_at bucket from))
 looks_past bucket from to (suc n) is inside =
     let further : suc from < 2 ^ bucket = omega arith in
-    let one : Leads (looking_at bucket from) (at_place (resting_at bucket (suc from))) = leads_step (looking_at bucket from) false refl in
+    let one : Leads (looking_at bucket from) (at_place (loading_at bucket (suc from))) = leads_step (looking_at bucket from) false refl in
     leads_then (looking_at bucket from) (looking_at bucket (suc from)) (looking_at bucket to)
     (subst (λ (c : Cursor). Leads (looking_at bucket from) c) (at_place-inside bucket (suc from) further) one)
     (looks_past bucket (suc from) to n (omega arith) inside)
 
+-- looks that find nothing lead to the next bucket
+pub looks_to_end : (bucket from : ℕ) → from < 2 ^ bucket → Leads (looking_at bucket from) (loading_at (bucket + 1) 0)
+looks_to_end bucket from inside =
+    let last : ℕ = 2 ^ bucket - 1 in
+    let end : suc last ≡ 2 ^ bucket = omega arith in
+    let next : suc bucket ≡ bucket + 1 = omega arith in
+    let n : ℕ = last - from in
+    let one : Leads (looking_at bucket last) (at_place (loading_at bucket (suc last))) = leads_step (looking_at bucket last) false refl in
+    leads_then (looking_at bucket from) (looking_at bucket last) (loading_at (bucket + 1) 0)
+    (looks_past bucket from last n (omega arith) (omega arith))
+    (subst (λ (b : ℕ). Leads (looking_at bucket last) (loading_at b 0)) next
+    (subst (λ (c : Cursor). Leads (looking_at bucket last) c) (at_place-end bucket (suc last) end) one))
+
 -- a load that finds the bucket, and looks that find nothing, lead to a slot of it
 pub leads_to_slot : (bucket from to : ℕ) → bucket < 63 → from ≤ to → to < 2 ^ bucket
-    → Leads (resting_at bucket from) (looking_at bucket to)
+    → Leads (loading_at bucket from) (looking_at bucket to)
 leads_to_slot bucket from to low ahead inside =
     let near : from < 2 ^ bucket = omega arith in
-    let found : Leads (resting_at bucket from) (at_place (resting_at bucket from)) =
-    leads_step (resting_at bucket from) true (may_load-in_table bucket from low) in
-    let in_bucket : Leads (resting_at bucket from) (looking_at bucket from) =
-    subst (λ (c : Cursor). Leads (resting_at bucket from) c)
+    let found : Leads (loading_at bucket from) (at_place (loading_at bucket from)) =
+    leads_step (loading_at bucket from) true (may_load-in_table bucket from low) in
+    let in_bucket : Leads (loading_at bucket from) (looking_at bucket from) =
+    subst (λ (c : Cursor). Leads (loading_at bucket from) c)
     (at_place-inside bucket from near) found in
     let n : ℕ = to - from in
-    leads_then (resting_at bucket from) (looking_at bucket from) (looking_at bucket to) in_bucket
+    leads_then (loading_at bucket from) (looking_at bucket from) (looking_at bucket to) in_bucket
     (looks_past bucket from to n (omega arith) inside)

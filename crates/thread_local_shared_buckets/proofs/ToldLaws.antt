@@ -15,9 +15,10 @@ use Rattle.thread_local_shared_buckets.specs.declared.seen.Seen.{Seen}
 use Rattle.thread_local_shared_buckets.specs.declared.steps.Own.{Own}
 use Rattle.thread_local_shared_buckets.specs.declared.steps.Walk.{Walk}
 use Rattle.thread_local_shared_buckets.specs.Walks.{Meets}
-use Rattle.thread_local_shared_buckets.specs.Positions.{Item, resting, past, Skips, Stops, IsBehind, IsToldAt}
+use Rattle.thread_local_shared_buckets.specs.Positions.{Item, resting, past, next_id, Skips, Stops, IsBehind, IsToldAt}
 use Rattle.thread_local_shared_buckets.specs.AtHand.{IsRowOf, IsFoundAt, FindsTokens, slot_of, IsMarked, IsWalk}
 use Rattle.thread_local_shared_buckets.proofs.BitLaws.{none_set, stays_set}
+use Rattle.thread_local_shared_buckets.proofs.MoveLaws.{resting-id}
 use Rattle.thread_local_shared_buckets.proofs.WalkLaws.{later_bucket}
 
 skips_at : (from to : RawIter) (id : ℕ) → from.bucket < to.bucket → to.index ≡ 0 → IsBehind from id
@@ -172,7 +173,7 @@ module _ {V : Type 0} where
 
   pub skips_nowhere : (sharing : Option ℕ) (tokens : List (TokenView V)) (raw : RawIter) → AllOf sharing (λ p. Skips raw raw p.id) tokens
   skips_nowhere sharing tokens raw = λ named k d near same.
-      cases_lt (slice_index_or tokens k d).id (cursor_id (resting raw))
+      cases_lt (slice_index_or tokens k d).id (next_id raw)
 
   pub skips_then : (sharing : Option ℕ) (tokens : List (TokenView V)) (from met to : RawIter)
       → AllOf sharing (λ p. Skips from met p.id) tokens → AllOf sharing (λ p. Skips met to p.id) tokens
@@ -184,7 +185,7 @@ module _ {V : Type 0} where
 
   meet_none : (from to : RawIter) (p : TokenView V) → 63 ≤ to.bucket → p.id < 2 ^ 63 - 1 → Skips from to p.id
       → Meets (resting from) None (resting to) p
-  meet_none from to p end in_range (inl low) = low
+  meet_none from to p end in_range (inl low) = let at = resting-id from in omega arith
   meet_none from to p end in_range (inr high) =
       let power : 2 ^ 63 ≤ 2 ^ to.bucket = pow_mono end in
       absurd (omega arith)
@@ -198,9 +199,11 @@ module _ {V : Type 0} where
   meet_some : (from met to : RawIter) (x : Item V) (p : TokenView V) → Skips from met p.id → Stops met to p.id
       → cursor_id (resting to) ≡ suc x.0.id → x.0.value ≡ x.1.now → (p.id ≡ x.0.id → p.value ≡ x.0.value)
       → Meets (resting from) (Some x.1) (resting to) p
-  meet_some from met to x p (inl low) stop at value agrees = λ ahead below. absurd (omega arith)
+  meet_some from met to x p (inl low) stop at value agrees = λ ahead below. let start = resting-id from in absurd (omega arith)
   meet_some from met to x p (inr high) stop at value agrees = λ ahead below.
-      let last : cursor_id (resting to) ≡ suc p.id = stop high below in
+      let end = resting-id to in
+      let one : next_id to ≡ suc p.id = stop high (omega arith) in
+      let last : cursor_id (resting to) ≡ suc p.id = end ∙ one in
       (last, agrees (omega arith) ∙ value)
 
   pub meets_some : (sharing : Option ℕ) (tokens : List (TokenView V)) (from met to : RawIter) (x : Item V)

@@ -1,19 +1,19 @@
 -- Turns shared buckets at rest into an owner's buckets and back: the machine values are the same.
 -- Assumes `Logic`.
-use Rattle.std.proofs.Common.{map, suc, ◌≡◌, ℕ, ◌<◌, ◌^◌, w64, List, [], ◌∷◌, ◌++◌, length, refl, sym, ap, ◌∙◌, subst}
-use Rattle.std.proofs.Common.{arith, Option, None, Some, true, ◌==◌}
+use Rattle.std.proofs.Common.{map, suc, ◌≡◌, ℕ, ◌+◌, ◌<◌, ◌^◌, w64, List, [], ◌∷◌, ◌++◌, length, refl, sym, ap, ◌∙◌, subst}
+use Rattle.std.proofs.Common.{arith, Option, None, Some, true, false, ◌==◌}
 use seplogic.Ra.Ura.{Ura}
 use mir.Val.{Val, vint, vstruct, vcons, vnil, of_list}
 use base.Fml.{Fml, ftrue, ffalse, fsep}
 use base.Logic.{SProp, ex, guard, via, never_e}
 use types.Owned.{basic}
 use types.Logic.{Logic}
-use types.Kit.{use2, split, by, ◌⊛◌, use0, ‵, some, given, later, ◌$◌, ◌∵◌, !, qed, move, keep, drop, use1, fsplit}
+use types.Kit.{use2, use3, split, split3, by, ◌⊛◌, use0, ‵, some, given, later, ◌$◌, ◌∵◌, !, qed, move, keep, drop, use1, fsplit}
 use types.Kit.{fsplit3, fjoin, fjoin3, fpick, fpack, pick, learn, check, show, feq_i, feq_l, flt_i, await, updating}
 use types.Kit.{now, rewrite, done}
 use denote.RattleType.{RattleType, Valss}
 use denote.RawPtr.{Ptr}
-use denote.Builtin.{usize}
+use denote.Builtin.{u64, usize}
 use base.Fraction.{full_share}
 use denote.Memory.{part_at, part_of, cell_at}
 use denote.Laws.{Typed, Is, shows}
@@ -24,13 +24,21 @@ use denote.Param.Laws.{Laws}
 use Rattle.std.proofs.cell.Inside.{one}
 use denote.Struct.Struct.{Struct, Shape, within}
 use Rattle.std.specs.contracts.alloc.Global as heap
-use Rattle.thread_local_base.specs.Buckets.{Contents, IsTable}
+use Rattle.std.proofs.lemmas.Bool.{ltb-true, lt-ltb}
+use Rattle.thread_local_base.specs.Bits.{is_set}
+use Rattle.thread_local_base.specs.Buckets.{Contents, row, IsTable}
 use Rattle.thread_local_base.specs.Owned.{Owned, AreOfFirstBuckets, IsOwned}
 use Rattle.thread_local_judged.specs.Judged.{Judged}
 use Rattle.thread_local_bucket_pointers.specs.Slots.{heap_token}
 use Rattle.thread_local_bucket_pointers.specs.PointerOwns.{pointer_owns}
 use Rattle.thread_local_bucket_pointers.specs.contracts.bucket_pointer.BucketPointer as plain
 use Rattle.thread_local_bucket_pointers.proofs.bucket_pointer.BucketPointer.TheLaws as plain'
+use Rattle.thread_local_bucket_pointers.specs.Announced.{Announces}
+use Rattle.thread_local_bucket_pointers.specs.contracts.announced.AnnouncedBuckets as bits
+use Rattle.thread_local_bucket_pointers.proofs.announced.AnnouncedBuckets.TheLaws as bits'
+use Rattle.thread_local_shared_buckets.specs.Announcing.{Announcing, BeginsWithFirst, lies_with_word}
+use Rattle.thread_local_shared_buckets.specs.contracts.announcements.Announcements as shared_word
+use Rattle.thread_local_shared_buckets.proofs.AnnouncingLaws.{bits_untold, new_rights, rights_new, first_set, none_past, begins}
 use Rattle.thread_local_shared_buckets.specs.Shared.{BucketView, at_rest}
 use Rattle.thread_local_ids.specs.Told.{rows_telling, rows_tell, book_owns}
 use Rattle.thread_local_ids.proofs.ToldElements.{source}
@@ -53,7 +61,8 @@ use Rattle.thread_local_shared_buckets.proofs.Lists.{AreOf, table_are_of, named_
 use Rattle.thread_local_shared_buckets.proofs.Lists.{are_owned, fit_all, table_buckets, table_long, table_named}
 use Rattle.thread_local_shared_buckets.proofs.Lists.{table_seen}
 use Rattle.thread_local_shared_buckets.specs.Grown.{only_reserved}
-use Rattle.thread_local_shared_buckets.proofs.GrownLaws.{row_known, rows_known, rows_grown, known_apart, known_together}
+use Rattle.thread_local_shared_buckets.proofs.GrownLaws.{row_known, rows_known, rows_grown, rows_announced, AllSet, known_apart}
+use Rattle.thread_local_shared_buckets.proofs.GrownLaws.{known_together, rows_show, rows_set}
 use Rattle.thread_local_shared_buckets.proofs.GrownLaws.{none_grown, less_grown, nothing_shown, lent_shown, view_again, grown_in}
 use Rattle.thread_local_shared_buckets.proofs.Redeemed.{redeems_bucket, rests_bucket}
 use Rattle.thread_local_base.proofs.Signs.{signs}
@@ -122,14 +131,14 @@ module _ {M : Type 1} {𝓤 : Ura M} (𝓛 : Logic 𝓤) (R : RattleType) (L : L
       fjoin3 ! $ done !)
 
   -- ---- one after another, from the bucket b of a table on
-  module _ (s : TableView) where
+  module _ (s : TableView) (m : Announcing) where
     abbrev RowsTell : ℕ → List W.Denot → Fml
-    RowsTell b ws = rows_known R s b (map slots ws)
+    RowsTell b ws = rows_known R s m b (map slots ws)
 
     abbrev All : ℕ → List BucketView → List Val → List W.Denot → SProp 𝓤
     All b ds us ws = guard 𝓤 (Fits slots ds ws) (⟦ each W.Denot W.own_val ws us ⟧ ∗ ⟦ RowsTell b ws ⟧)
 
-    each_redeems : (b : ℕ) (ds : List BucketView) (us : List Val) → AreOf s b ds
+    each_redeems : (b : ℕ) (ds : List BucketView) (us : List Val) → AreOf s m b ds
         → ⟦ each BucketView S.own_val ds us ⟧ ⊢ H.⇛ (ex 𝓤 (All b ds us))
     each_redeems b [] [] are =
         qed 𝓛 (‵ ftrue ∷ []) ∵ updating ! $ now ! $ show ! (All b [] []) [] $ check ! tt $
@@ -152,7 +161,7 @@ module _ {M : Type 1} {𝓤 : Ura M} (𝓛 : Logic 𝓤) (R : RattleType) (L : L
         now ! $ show ! (All b (d ∷ ds) (u ∷ us)) (w ∷ ws) $ check ! (fit, fits) $ done !))))
 
     each_rests : Judged R → (b : ℕ) (ds : List BucketView) (ws : List W.Denot) (us : List Val)
-        → AreOf s b ds → Fits slots ds ws
+        → AreOf s m b ds → Fits slots ds ws
         → ⟦ each W.Denot W.own_val ws us ⟧ ∗ ⟦ RowsTell b ws ⟧ ⊢ ⟦ each BucketView S.own_val ds us ⟧
     each_rests j b [] [] [] are f = qed 𝓛 (‵ ftrue ∷ ‵ ftrue ∷ []) ∵ drop ! $ done !
     each_rests j b [] [] (u ∷ us) are f = qed 𝓛 (‵ ffalse ∷ ‵ ftrue ∷ []) ∵ keep ! (0 ∷ []) $ by ! (never_e 𝓤 _)
@@ -180,35 +189,35 @@ module _ {M : Type 1} {𝓤 : Ura M} (𝓛 : Logic 𝓤) (R : RattleType) (L : L
       check ! j $ fjoin ! $ done !)
 
   -- ---- the array
-  abbrev Arrays : TableView → List BucketView → List Val → List W.Denot → SProp 𝓤
-  Arrays s ds vs ws =
+  abbrev Arrays : TableView → Announcing → List BucketView → List Val → List W.Denot → SProp 𝓤
+  Arrays s m ds vs ws =
       guard 𝓤 (Judged R × (length ds ≡ 63) × Fits slots ds ws)
-      (⟦ (Array W 63).own_val ws vs ⟧ ∗ ⟦ RowsTell s 0 ws ⟧)
+      (⟦ (Array W 63).own_val ws vs ⟧ ∗ ⟦ RowsTell s m 0 ws ⟧)
 
-  array_redeems : (s : TableView) (ds : List BucketView) (vs : List Val)
-      → (length ds ≡ 63 → AreOf s 0 ds)
-      → ⟦ (Array S 63).own_val ds vs ⟧ ⊢ H.⇛ (ex 𝓤 (Arrays s ds vs))
-  array_redeems s ds vs are =
+  array_redeems : (s : TableView) (m : Announcing) (ds : List BucketView) (vs : List Val)
+      → (length ds ≡ 63 → AreOf s m 0 ds)
+      → ⟦ (Array S 63).own_val ds vs ⟧ ⊢ H.⇛ (ex 𝓤 (Arrays s m ds vs))
+  array_redeems s m ds vs are =
       qed 𝓛 (‵ ((Array S 63).own_val ds vs) ∷ []) ∵ updating ! $ fpick ! (λ us. fsplit ! $
       fsplit ! $ feq_l ! (λ e. feq_l ! (λ long.
       use1 𝓛 (given (Judged R) (‵ (each BucketView S.own_val ds us))) (each_judged ds us long) $ learn ! (λ j.
       use1 𝓛 (later (some (λ (ws : List W.Denot).
-      given (Fits slots ds ws) (‵ (each W.Denot W.own_val ws us) ⊛ ‵ (RowsTell s 0 ws)))))
-      (each_redeems s 0 ds us (are long)) $
+      given (Fits slots ds ws) (‵ (each W.Denot W.own_val ws us) ⊛ ‵ (RowsTell s m 0 ws)))))
+      (each_redeems s m 0 ds us (are long)) $
       await ! tt $ pick ! (λ ws. learn ! (λ f. split ! $
-      now ! $ show ! (Arrays s ds vs) ws $ check ! (j, long, f) $
+      now ! $ show ! (Arrays s m ds vs) ws $ check ! (j, long, f) $
       feq_i ! ℕ (length ws) 63 (fits_long slots ds ws f ∙ long) $
       feq_i ! (List Val) vs (array_val us ∷ []) e $ fjoin ! $ fjoin ! $
       fpack ! (List Val) (λ zs. fsep (shape 63 ws vs zs) (each W.Denot W.own_val ws zs)) us $ done !))))))
 
   array_rests : Judged R
-      → (s : TableView) (ds : List BucketView) (ws : List W.Denot) (vs : List Val) → length ds ≡ 63
-      → AreOf s 0 ds → Fits slots ds ws
-      → ⟦ (Array W 63).own_val ws vs ⟧ ∗ ⟦ RowsTell s 0 ws ⟧ ⊢ ⟦ (Array S 63).own_val ds vs ⟧
-  array_rests j s ds ws vs long are f =
-      qed 𝓛 (‵ ((Array W 63).own_val ws vs) ∷ ‵ (RowsTell s 0 ws) ∷ []) ∵ fpick ! (λ us. fsplit ! $
+      → (s : TableView) (m : Announcing) (ds : List BucketView) (ws : List W.Denot) (vs : List Val) → length ds ≡ 63
+      → AreOf s m 0 ds → Fits slots ds ws
+      → ⟦ (Array W 63).own_val ws vs ⟧ ∗ ⟦ RowsTell s m 0 ws ⟧ ⊢ ⟦ (Array S 63).own_val ds vs ⟧
+  array_rests j s m ds ws vs long are f =
+      qed 𝓛 (‵ ((Array W 63).own_val ws vs) ∷ ‵ (RowsTell s m 0 ws) ∷ []) ∵ fpick ! (λ us. fsplit ! $
       fsplit ! $ feq_l ! (λ e. drop ! $
-      use2 𝓛 (‵ (each BucketView S.own_val ds us)) (each_rests s j 0 ds ws us are f) $
+      use2 𝓛 (‵ (each BucketView S.own_val ds us)) (each_rests s m j 0 ds ws us are f) $
       feq_i ! ℕ (length ds) 63 long $ feq_i ! (List Val) vs (array_val us ∷ []) e $ fjoin ! $
       fjoin ! $
       fpack ! (List Val) (λ zs. fsep (shape 63 ds vs zs) (each BucketView S.own_val ds zs)) us $
@@ -224,6 +233,10 @@ module _ {M : Type 1} {𝓤 : Ura M} (𝓛 : Logic 𝓤) (R : RattleType) (L : L
   abbrev shape_with : List RattleType → Shape
   shape_with fields = record { name = []; args = []; types = []; fields = fields }
 
+  -- a word as the one field of a struct
+  abbrev BitsIn : ℕ → List Val → Fml
+  BitsIn n vs = (Struct (shape_with (u64 ∷ []))).own_val (n, tt) vs
+
   abbrev Plain : RattleType
   Plain = all_pointers.the_row R
 
@@ -236,10 +249,19 @@ module _ {M : Type 1} {𝓤 : Ura M} (𝓛 : Logic 𝓤) (R : RattleType) (L : L
   abbrev Heap : RattleType
   Heap = heap.the_row
 
+  -- the word of announced buckets: an owner's, and one that threads share
+  abbrev Bits : RattleType
+  Bits = bits.the_row
+
+  abbrev SharedWord : RattleType
+  SharedWord = shared_word.the_row
+
   -- the fields that have this view: of an owner's pointers, of an owner's buckets, and of shared
   -- buckets
   abbrev PointersOf : Plain.Denot → Type 0
-  PointersOf c = (x : (all_pointers.TheInside.the_row R).Denot) × ((contents_of x.pointers ≡ c) × IsTable (contents_of x.pointers))
+  PointersOf c =
+      (x : (all_pointers.TheInside.the_row R).Denot)
+      × ((contents_of x.pointers ≡ c) × (IsTable (contents_of x.pointers) × Announces x.announced.bits (contents_of x.pointers)))
 
   abbrev OwnedOf : Owner.Denot → Type 0
   OwnedOf y =
@@ -251,15 +273,20 @@ module _ {M : Type 1} {𝓤 : Ura M} (𝓛 : Logic 𝓤) (R : RattleType) (L : L
   SharedOf s =
       (x : (all_shared.TheInside.the_row R).Denot)
       × ((table_view_of x.pointers.pointers.pointers x.reserved ≡ s)
-      × (AreBuckets x.pointers.pointers.pointers x.reserved × AreOfFirstBuckets x.reserved))
+      × (AreBuckets x.pointers.pointers.pointers x.pointers.announced x.reserved
+      × BeginsWithFirst x.pointers.announced × AreOfFirstBuckets x.reserved))
 
-  -- what is known of the slots of an owner's buckets, if they are shared as this says
-  abbrev pub AllTell : TableView → Owner.Denot → Fml
-  AllTell s y = rows_known R s 0 y.contents.rows
+  -- what is told of the slots of an owner's buckets, if they are shared as this says
+  abbrev pub AllTold : TableView → Owner.Denot → Fml
+  AllTold s y = rows_telling R s.sharing 0 y.contents.rows
 
   -- what an owner's buckets show, if they are shared as this says
+  abbrev pub Shown : TableView → Owner.Denot → Fml
+  Shown s y = rows_grown R s 0 y.contents.rows
+
+  -- the same, and the rights of a new sharing's word
   abbrev pub AllGrown : TableView → Owner.Denot → Fml
-  AllGrown s y = rows_grown R s 0 y.contents.rows
+  AllGrown s y = fsep (Shown s y) new_rights
 
   -- the fields of an owner's buckets fit together
   fit_together : (y : Owner.Denot) (vs : List Val) → ⟦ Owner.own_val y vs ⟧ ⊢ guard 𝓤 (IsOwned y) ⟦ Owner.own_val y vs ⟧
@@ -268,86 +295,163 @@ module _ {M : Type 1} {𝓤 : Ura M} (𝓛 : Logic 𝓤) (R : RattleType) (L : L
       fpack ! (OwnedOf y) (λ a. fsep ((buckets.TheInside.the_row R).own_val a.0 vs) ftrue) h $ done !)
 
   abbrev pub Out : TableView → List Val → Owner.Denot → SProp 𝓤
-  Out s vs y = guard 𝓤 (Judged R × (y.reserved ≡ s.reserved)) (⟦ Owner.own_val y vs ⟧ ∗ ⟦ AllTell s y ⟧)
+  Out s vs y = guard 𝓤 (Judged R × (y.reserved ≡ s.reserved)) (⟦ Owner.own_val y vs ⟧ ∗ ⟦ AllTold s y ⟧ ∗ ⟦ Shown s y ⟧)
+
+  -- a word that a sharing ends with announces what stands
+  ends_announced : (m : Announcing) (n : ℕ) (c : Contents R.Denot) → IsTable c → BeginsWithFirst m
+      → ⟦ lies_with_word m n ⟧ ∗ ⟦ rows_announced R m 0 c.rows ⟧ ⊢ guard 𝓤 (Announces n c) ⟦ ftrue ⟧
+  ends_announced m n c table first =
+      let long : length c.rows ≡ 63 = table.buckets in
+      qed 𝓛 (‵ (lies_with_word m n) ∷ ‵ (rows_announced R m 0 c.rows) ∷ []) ∵
+      use2 𝓛 (given (AllSet n 0 c.rows) (‵ (lies_with_word m n))) (rows_show 𝓛 R m n 0 c.rows (omega (arith, long))) $
+      learn ! (λ all.
+      use1 𝓛 (given ((bit : ℕ) → bit < 7 → is_set n bit ≡ true) (‵ (lies_with_word m n)))
+      (first_set 𝓛 m n 7 (omega arith) first) $ learn ! (λ seven.
+      use1 𝓛 (given (is_set n 63 ≡ false) (‵ (lies_with_word m n))) (none_past 𝓛 m n) $ learn ! (λ none.
+      check ! (record {
+        first = seven;
+        standing = λ b low there.
+            let at : b ≡ b + 0 = omega arith in
+            all b b at (omega (arith, low, long)) (ltb-true 0 (length (row c b)) there);
+        none_past = none;
+      }) $
+      drop ! $ nothing ! $ done !)))
+
+  -- and the other way round: what stands is announced in a sharing that begins with the word
+  begins_announced : (γ n : ℕ) (c : Contents R.Denot) → IsTable c → Announces n c
+      → ⟦ bits_untold γ 63 ⟧
+      ⊢ ⟦ lies_with_word (record { name = γ; begun = n }) n ⟧ ∗ ⟦ rows_announced R (record { name = γ; begun = n }) 0 c.rows ⟧
+  begins_announced γ n c table is =
+      let m : Announcing = record { name = γ; begun = n } in
+      let long : length c.rows ≡ 63 = table.buckets in
+      qed 𝓛 (‵ (bits_untold γ 63) ∷ []) ∵ use1 𝓛 (‵ (lies_with_word m n)) (begins 𝓛 γ n is.none_past) $
+      use0 𝓛 (‵ (rows_announced R m 0 c.rows))
+      (rows_set 𝓛 R m 0 c.rows (λ i j at near some.
+      let same : i ≡ j = omega (arith, at) in
+      subst (λ (k : ℕ). is_set n k ≡ true) same
+      (is.standing i (omega (arith, near, long)) (lt-ltb 0 (length (row c i)) some)))) $
+      move ! (1 ∷ 0 ∷ []) $ done !
 
   pub turns_plain : (s : TableView) (vs : List Val) → ⟦ Shared.own_val s vs ⟧ ⊢ H.⇛ (ex 𝓤 (Out s vs))
   turns_plain s vs =
       qed 𝓛 (‵ (Shared.own_val s vs) ∷ []) ∵ updating ! $ fpick ! (λ h. fsplit ! $ fpick ! (λ vss.
       fsplit3 ! $ move ! (1 ∷ []) $ fpick ! (λ uss. fsplit3 ! $ move ! (1 ∷ []) $ fpick ! (λ tss.
       fsplit3 ! $ move ! (1 ∷ []) $
-      let ds : List BucketView = h.0.pointers.pointers.pointers in let n : ℕ = h.0.reserved in let s' : TableView = table_view_of ds n in
+      let ds : List BucketView = h.0.pointers.pointers.pointers in let m : Announcing = h.0.pointers.announced in
+      let n : ℕ = h.0.reserved in let s' : TableView = table_view_of ds n in
       use1 𝓛 (later (some (λ (ws : List W.Denot).
       given (Judged R × (length ds ≡ 63) × Fits slots ds ws)
-      (‵ ((Array W 63).own_val ws tss.0) ⊛ ‵ (RowsTell s' 0 ws)))))
-      (array_redeems s' ds tss.0 (λ long. named_are_of ds n long h.1.1.0)) $
+      (‵ ((Array W 63).own_val ws tss.0) ⊛ ‵ (RowsTell s' m 0 ws)))))
+      (array_redeems s' m ds tss.0 (λ long. named_are_of ds m n long h.1.1.0)) $
       await ! tt $ pick ! (λ ws. learn ! (λ g. split ! $
-      let y : Owned R.Denot = owned_of slots ws n in let owned : IsOwned y = are_owned slots ds ws n g.1 h.1.1.0 h.1.1.1 g.2 in
-      move ! (1 ∷ []) $ rewrite ! 0 (λ (z : TableView). ‵ (AllTell z y)) h.1.0 refl $
-      -- [what is told; the array; its value; nothing; the pointers' value; the heap; the struct's
-      -- value; the number; nothing]
-      move ! (2 ∷ 1 ∷ 3 ∷ []) $ fjoin3 ! $
+      let y : Owned R.Denot = owned_of slots ws n in let owned : IsOwned y = are_owned slots ds m ws n g.1 h.1.1.0 h.1.1.2 g.2 in
+      move ! (1 ∷ []) $ rewrite ! 0 (λ (z : TableView). ‵ (rows_known R z m 0 y.contents.rows)) h.1.0 refl $
+      use1 𝓛 (‵ (AllTold s y) ⊛ ‵ (Shown s y) ⊛ ‵ (rows_announced R m 0 y.contents.rows))
+      (known_apart 𝓛 R s m 0 y.contents.rows) $ split3 ! $
+      -- [what is told; what they show; they are announced; the array; its value; nothing; the pointers' value; the heap
+      -- with the word; the struct's value; the number; nothing]
+      move ! (7 ∷ []) $ fsplit3 ! $ move ! (1 ∷ []) $ fsplit ! $ move ! (1 ∷ []) $ fpick ! (λ bits. fsplit ! $
+      -- [the word; what lies with it; its type; the heap; nothing; what is told; what they show; they are announced; the array;
+      -- its value; nothing; the pointers' value; the struct's value; the number; nothing]
+      move ! (1 ∷ 7 ∷ []) $
+      use2 𝓛 (given (Announces bits y.contents) (‵ ftrue))
+      (ends_announced m bits y.contents owned.table h.1.1.1) $ learn ! (λ announces. drop ! $
+      -- [the word; its type; the heap; nothing; what is told; what they show; the array; its value; nothing; the pointers'
+      -- value; the struct's value; the number; nothing]
+      move ! (7 ∷ 6 ∷ 8 ∷ []) $ fjoin3 ! $
       fpack ! (Valss (Array W 63 ∷ [])) (within (shape_with (Array W 63 ∷ [])) (ws, tt) uss.0) tss $
-      move ! (2 ∷ 0 ∷ 3 ∷ []) $ fjoin3 ! $
-      fpack ! (Valss (Line ∷ Heap ∷ []))
-      (within (shape_with (Line ∷ Heap ∷ []))
-      (record { pointers = ws }, (h.0.pointers.alloc, tt)) vss.0)
+      -- [the line; the word; its type; the heap; nothing; what is told; what they show; the pointers' value; the struct's value;
+      -- the number; nothing]
+      move ! (3 ∷ 1 ∷ 4 ∷ []) $ move ! (1 ∷ 2 ∷ []) $ fjoin ! $ move ! (1 ∷ 0 ∷ []) $ fjoin ! $
+      -- [the heap with the word; the line; its type; what is told; what they show; the pointers' value; ..]
+      move ! (5 ∷ 1 ∷ 0 ∷ []) $ fjoin3 ! $
+      fpack ! (Valss (Line ∷ Heap ∷ Bits ∷ []))
+      (within (shape_with (Line ∷ Heap ∷ Bits ∷ []))
+      (record { pointers = ws }, (h.0.pointers.alloc, (record { bits = bits }, tt))) vss.0)
       uss $
       nothing ! $ move ! (1 ∷ 0 ∷ []) $ fjoin ! $
       fpack ! (PointersOf y.contents)
       (λ a. fsep ((all_pointers.TheInside.the_row R).own_val a.0 vss.0) ftrue) (
-        record { pointers = record { pointers = ws }; alloc = h.0.pointers.alloc },
-        (refl, owned.table),
+        record { pointers = record { pointers = ws }; alloc = h.0.pointers.alloc; announced = record { bits = bits } },
+        (refl, (owned.table, announces)),
       ) $
-      move ! (2 ∷ 0 ∷ 3 ∷ []) $ fjoin3 ! $
+      -- [the pointers; its type; what is told; what they show; the struct's value; the number; nothing]
+      move ! (4 ∷ 0 ∷ 5 ∷ []) $ fjoin3 ! $
       fpack ! (Valss (Plain ∷ usize ∷ []))
       (within (shape_with (Plain ∷ usize ∷ [])) (y.contents, (n, tt)) vs) vss $
-      move ! (0 ∷ 2 ∷ []) $ fjoin ! $
+      nothing ! $ move ! (1 ∷ 0 ∷ []) $ fjoin ! $
       fpack ! (OwnedOf y) (λ a. fsep ((buckets.TheInside.the_row R).own_val a.0 vs) ftrue)
       (record { pointers = y.contents; reserved = n }, (refl, owned)) $
-      now ! $ show ! (Out s vs) y $ check ! (g.0, ap (λ (z : TableView). z.reserved) h.1.0) $ done !))))))
+      now ! $ show ! (Out s vs) y $ check ! (g.0, ap (λ (z : TableView). z.reserved) h.1.0) $ keep ! (0 ∷ 2 ∷ 3 ∷ []) $ done !))))))))
 
   pub turns_shared : Judged R → (s : TableView) (y : Owner.Denot) (vs : List Val)
       → s.reserved ≡ y.reserved
-      → ⟦ Owner.own_val y vs ⟧ ∗ ⟦ AllTell s y ⟧ ⊢ ⟦ Shared.own_val s vs ⟧
+      → ⟦ Owner.own_val y vs ⟧ ∗ ⟦ AllTold s y ⟧ ∗ ⟦ AllGrown s y ⟧ ⊢ ⟦ Shared.own_val s vs ⟧
   turns_shared j s y vs same =
-      let ds : List BucketView = table_buckets s in
-      qed 𝓛 (‵ (Owner.own_val y vs) ∷ ‵ (AllTell s y) ∷ []) ∵ fpick ! (λ h. fsplit ! $
+      qed 𝓛 (‵ (Owner.own_val y vs) ∷ ‵ (AllTold s y) ∷ ‵ (AllGrown s y) ∷ []) ∵
+      move ! (2 ∷ []) $ fsplit ! $ move ! (1 ∷ []) $ fpick ! (λ γ. move ! (2 ∷ []) $ fpick ! (λ h. fsplit ! $
       fpick ! (λ vss. fsplit3 ! $ move ! (1 ∷ []) $ fpick ! (λ h'. fsplit ! $ fpick ! (λ uss.
       fsplit3 ! $ move ! (1 ∷ []) $ fpick ! (λ tss. fsplit3 ! $
       let ws : List W.Denot = h'.0.pointers.pointers in
+      let bits : ℕ = h'.0.announced.bits in
+      let m : Announcing = record { name = γ; begun = bits } in
+      let ds : List BucketView = table_buckets s m in
+      let c : Contents R.Denot = record { rows = map slots ws } in
       let e : h.0.reserved ≡ s.reserved = ap (λ (o : Owned R.Denot). o.reserved) h.1.0 ∙ sym same in
       let owned : IsOwned (owned_of slots ws s.reserved) =
       subst (λ (o : Owned R.Denot). IsOwned o)
       (λ i. record { contents = sym h'.1.0 i; reserved = e i }) h.1.1 in
-      let rows : y.contents ≡ record { rows = map slots ws } = ap (λ (o : Owned R.Denot). o.contents) (sym h.1.0) ∙ sym h'.1.0 in
+      let rows : y.contents ≡ c = ap (λ (o : Owned R.Denot). o.contents) (sym h.1.0) ∙ sym h'.1.0 in
+      let is : Announces bits c = h'.1.1.1 in
+      -- [the array's value; the array; nothing; the pointers' value; the heap with the word; nothing; the struct's value; the
+      -- number; nothing; the rights; what they show; what is told]
       move ! (9 ∷ []) $
-      rewrite ! 0 (λ (z : Contents R.Denot). ‵ (rows_known R s 0 z.rows)) rows refl $
-      move ! (2 ∷ 0 ∷ []) $
+      use1 𝓛 (‵ (lies_with_word m bits) ⊛ ‵ (rows_announced R m 0 c.rows)) (begins_announced γ bits c h'.1.1.0 is) $ split ! $
+      -- [what lies with the word; they are announced; the array's value; the array; nothing; the pointers' value; the heap with the
+      -- word; nothing; the struct's value; the number; nothing; what they show; what is told]
+      move ! (12 ∷ []) $
+      rewrite ! 0 (λ (z : Contents R.Denot). ‵ (rows_telling R s.sharing 0 z.rows)) rows refl $ move ! (12 ∷ []) $
+      rewrite ! 0 (λ (z : Contents R.Denot). ‵ (rows_grown R s 0 z.rows)) rows refl $ move ! (1 ∷ 0 ∷ 3 ∷ []) $
+      use3 𝓛 (‵ (rows_known R s m 0 c.rows)) (known_together 𝓛 R s m 0 c.rows) $
+      -- [what is known; what lies with the word; the array's value; the array; nothing; ..]
+      move ! (3 ∷ 0 ∷ []) $
       use2 𝓛 (‵ ((Array S 63).own_val ds tss.0))
-      (array_rests j s ds ws tss.0 (table_long s) (table_are_of s)
-      (fit_all slots s ws owned)) $
-      -- [the array; its value; nothing; the pointers' value; the heap; nothing; the struct's value;
-      -- the number; nothing]
-      move ! (1 ∷ 0 ∷ []) $ fjoin3 ! $
+      (array_rests j s m ds ws tss.0 (table_long s m) (table_are_of s m)
+      (fit_all slots s m ws owned)) $
+      -- [the array; what lies with the word; its value; nothing; the pointers' value; the heap with the word; nothing; the struct's
+      -- value; the number; nothing]
+      move ! (2 ∷ 0 ∷ 3 ∷ []) $ fjoin3 ! $
       fpack ! (Valss (Array S 63 ∷ [])) (within (shape_with (Array S 63 ∷ [])) (ds, tt) uss.0) tss $
-      move ! (1 ∷ 0 ∷ []) $ fjoin3 ! $
-      fpack ! (Valss (SharedLine ∷ Heap ∷ []))
-      (within (shape_with (SharedLine ∷ Heap ∷ []))
-      (record { pointers = ds }, (h'.0.alloc, tt)) vss.0)
+      -- [the line; what lies with the word; the pointers' value; the heap with the word; nothing; ..]
+      move ! (3 ∷ []) $ fsplit3 ! $ move ! (1 ∷ []) $
+      peeks ! Bits (Is Bits) (shows 𝓛 Bits) (record { bits = bits }) uss.1.1.0 (λ typed.
+      move ! (0 ∷ 4 ∷ []) $ fjoin ! $
+      fpack ! ℕ (λ k. fsep (BitsIn k uss.1.1.0) (lies_with_word m k)) bits $
+      nothing ! $ fpack ! (Typed SharedWord.mir uss.1.1.0) (λ _. ftrue) ((bits'.the_row_laws.lawful 𝓛).typed (record { bits = bits }) uss.1.1.0 typed) $
+      fjoin ! $
+      -- [the word; the heap; nothing; the line; the pointers' value; nothing; ..]
+      move ! (0 ∷ 2 ∷ []) $ fjoin ! $ move ! (1 ∷ 0 ∷ []) $ fjoin ! $ move ! (2 ∷ 1 ∷ 0 ∷ []) $ fjoin3 ! $
+      fpack ! (Valss (SharedLine ∷ Heap ∷ SharedWord ∷ []))
+      (within (shape_with (SharedLine ∷ Heap ∷ SharedWord ∷ []))
+      (record { pointers = ds }, (h'.0.alloc, (m, tt))) vss.0)
       uss $
+      -- [the pointers; nothing; the struct's value; the number; nothing]
       move ! (1 ∷ []) $ drop ! $
       move ! (2 ∷ []) $ rewrite ! 0 (λ (n : ℕ). ‵ (fsep (usize.own_val n vss.1.0) ftrue)) e refl $
       move ! (2 ∷ 1 ∷ 0 ∷ []) $ fjoin3 ! $
       fpack ! (Valss (all_buckets'.the_row R ∷ usize ∷ []))
       (within (shape_with (all_buckets'.the_row R ∷ usize ∷ []))
-      (record { pointers = record { pointers = ds }; alloc = h'.0.alloc }, (s.reserved, tt)) vs)
+      (record { pointers = record { pointers = ds }; alloc = h'.0.alloc; announced = m }, (s.reserved, tt)) vs)
       vss $
       fjoin ! $
       fpack ! (SharedOf s) (λ a. fsep ((all_shared.TheInside.the_row R).own_val a.0 vs) ftrue) (
-        record { pointers = record { pointers = record { pointers = ds }; alloc = h'.0.alloc }; reserved = s.reserved },
-        (table_seen s, (table_named s, owned.first)),
+        record {
+          pointers = record { pointers = record { pointers = ds }; alloc = h'.0.alloc; announced = m };
+          reserved = s.reserved;
+        },
+        (table_seen s m, (table_named s m, is.first, owned.first)),
       ) $
-      done !)))))
+      done !)))))))
 
   -- ---- in memory
   abbrev pub Row : RattleType
@@ -363,18 +467,17 @@ module _ {M : Type 1} {𝓤 : Ura M} (𝓛 : Logic 𝓤) (R : RattleType) (L : L
   unfolding part_of
   lies_plain s b o = qed 𝓛 (‵ (part_at Row full_share s b o) ∷ []) ∵ updating ! $ fpick ! (λ vs. fsplit3 ! $ move ! (2 ∷ []) $
       use1 𝓛 (later (some (λ (y : Owner.Denot).
-      given (Judged R × (y.reserved ≡ s.reserved)) (‵ (Owner.own_val y vs) ⊛ ‵ (AllTell s y)))))
+      given (Judged R × (y.reserved ≡ s.reserved)) (‵ (Owner.own_val y vs) ⊛ ‵ (AllTold s y) ⊛ ‵ (Shown s y)))))
       (turns_plain s vs) $
-      await ! tt $ pick ! (λ y. learn ! (λ so. split ! $
+      await ! tt $ pick ! (λ y. learn ! (λ so. split3 ! $
       use1 𝓛 (given (IsOwned y) (‵ (Owner.own_val y vs))) (fit_together y vs) $ learn ! (λ owned.
-      -- [the buckets; what is known of them; the memory]
-      move ! (2 ∷ 0 ∷ []) $ fjoin ! $
+      -- [the buckets; what is told of them; what they show; the memory]
+      move ! (3 ∷ 0 ∷ []) $ fjoin ! $
       fpack ! (List Val) (λ us. fsep (cell_at full_share Owner.mir us b o) (Owner.own_val y us))
       vs $
-      move ! (1 ∷ []) $
-      use1 𝓛 (‵ (rows_telling R s.sharing 0 y.contents.rows) ⊛ ‵ (AllGrown s y)) (known_apart 𝓛 R s 0 y.contents.rows) $
-      split ! $
-      now ! $ show ! (Lies s b o) y $ check ! (so.0, so.1, owned) $ keep ! (2 ∷ 1 ∷ []) $ done !))))
+      use0 𝓛 (later (‵ new_rights)) (via 𝓤 _ (rights_new 𝓛) (basic 𝓛 _)) $ await ! tt $
+      move ! (3 ∷ 0 ∷ []) $ fjoin ! $
+      now ! $ show ! (Lies s b o) y $ check ! (so.0, so.1, owned) $ keep ! (1 ∷ 0 ∷ []) $ done !))))
 
   pub lies_shared : (s : TableView) (w : Owner.Denot) → IsLent s w → (b o : ℕ) (y : Owner.Denot)
       → ⟦ part_at Owner full_share y b o ⟧ ∗ ⟦ AllGrown s w ⟧ ⊢ ⟦ part_at Row full_share (view_with s w y) b o ⟧
@@ -385,13 +488,12 @@ module _ {M : Type 1} {𝓤 : Ura M} (𝓛 : Logic 𝓤) (R : RattleType) (L : L
       qed 𝓛 (‵ (part_at Owner full_share y b o) ∷ ‵ (AllGrown s w) ∷ []) ∵ fpick ! (λ vs. fsplit ! $ move ! (1 ∷ []) $
       peeks ! Owner (Is Owner) (shows 𝓛 Owner) y vs (λ is.
       use1 𝓛 (given (IsOwned y) (‵ (Owner.own_val y vs))) (fit_together y vs) $ learn ! (λ owned.
-      move ! (2 ∷ []) $
-      use1 𝓛 (‵ (AllGrown s' y))
+      move ! (2 ∷ []) $ fsplit ! $
+      use1 𝓛 (‵ (Shown s' y))
       (less_grown 𝓛 R s s' 0 w.contents.rows y.contents.rows refl
-      (lent.2.table.buckets ∙ sym owned.table.buckets) (lent_shown s w y lent.1 owned.table)) $
-      use0 𝓛 (‵ (rows_telling R None 0 y.contents.rows)) (none_rows 𝓛 R 0 y.contents.rows) $
-      use2 𝓛 (‵ (AllTell s' y)) (known_together 𝓛 R s' 0 y.contents.rows) $ move ! (1 ∷ 0 ∷ []) $
-      use2 𝓛 (‵ (Shared.own_val s' vs)) (turns_shared j s' y vs refl) $ nothing ! $
+      (lent.2.table.buckets ∙ sym owned.table.buckets) (lent_shown s w y lent.1 owned.table)) $ fjoin ! $
+      use0 𝓛 (‵ (rows_telling R None 0 y.contents.rows)) (none_rows 𝓛 R 0 y.contents.rows) $ move ! (2 ∷ 0 ∷ 1 ∷ []) $
+      use3 𝓛 (‵ (Shared.own_val s' vs)) (turns_shared j s' y vs refl) $ nothing ! $
       fpack ! (Typed Row.mir vs) (λ _. ftrue)
       (((buckets'.the_row_laws R L).lawful 𝓛).typed y vs is) $
       fjoin ! $ move ! (1 ∷ 0 ∷ []) $ fjoin ! $
@@ -419,17 +521,17 @@ module _ {M : Type 1} {𝓤 : Ura M} (𝓛 : Logic 𝓤) (R : RattleType) (L : L
       → IsOwned (record { contents = c; reserved = s.reserved })
       → Typed Row.mir (pair_val v s.reserved ∷ [])
       → (s.grown_by_ids ≡ true → only_reserved (record { contents = c; reserved = s.reserved }) ≡ true)
-      → ⟦ Plain.own_val c (v ∷ []) ⟧ ∗ ⟦ rows_telling R s.sharing 0 c.rows ⟧
+      → ⟦ Plain.own_val c (v ∷ []) ⟧ ∗ ⟦ rows_telling R s.sharing 0 c.rows ⟧ ∗ ⟦ new_rights ⟧
       ⊢ ⟦ Row.own_val s (pair_val v s.reserved ∷ []) ⟧
   makes_shared j s c v fits owned typed only =
       let n : ℕ = s.reserved in
       let vs : List Val = pair_val v n ∷ [] in
       let y : Owner.Denot = record { contents = c; reserved = n } in
-      qed 𝓛 (‵ (Plain.own_val c (v ∷ [])) ∷ ‵ (rows_telling R s.sharing 0 c.rows) ∷ []) ∵
+      qed 𝓛 (‵ (Plain.own_val c (v ∷ [])) ∷ ‵ (rows_telling R s.sharing 0 c.rows) ∷ ‵ new_rights ∷ []) ∵
       use1 𝓛 (‵ (Owner.own_val y vs)) (makes_owner c n v fits owned) $
-      use0 𝓛 (‵ (AllGrown s y)) (none_grown 𝓛 R s 0 c.rows (nothing_shown s y refl owned.table only)) $
-      move ! (2 ∷ 0 ∷ []) $ use2 𝓛 (‵ (AllTell s y)) (known_together 𝓛 R s 0 c.rows) $ move ! (1 ∷ 0 ∷ []) $
-      use2 𝓛 (‵ (Shared.own_val s vs)) (turns_shared j s y vs refl) $
+      use0 𝓛 (‵ (Shown s y)) (none_grown 𝓛 R s 0 c.rows (nothing_shown s y refl owned.table only)) $
+      move ! (0 ∷ 3 ∷ []) $ fjoin ! $ move ! (1 ∷ 2 ∷ 0 ∷ []) $
+      use3 𝓛 (‵ (Shared.own_val s vs)) (turns_shared j s y vs refl) $
       nothing ! $ fpack ! (Typed Row.mir vs) (λ _. ftrue) typed $ fjoin ! $ done !
 
   -- another sharing of the same buckets
@@ -439,19 +541,20 @@ module _ {M : Type 1} {𝓤 : Ura M} (𝓛 : Logic 𝓤) (R : RattleType) (L : L
       let s' : TableView = view_again s table γ in
       qed 𝓛 (‵ (Row.own_val s vs) ∷ ‵ (source 𝓛 γ 0) ∷ []) ∵ updating ! $ fsplit ! $ fpick ! (λ typed. drop ! $
       use1 𝓛 (later (some (λ (y : Owner.Denot).
-      given (Judged R × (y.reserved ≡ s.reserved)) (‵ (Owner.own_val y vs) ⊛ ‵ (AllTell s y)))))
+      given (Judged R × (y.reserved ≡ s.reserved)) (‵ (Owner.own_val y vs) ⊛ ‵ (AllTold s y) ⊛ ‵ (Shown s y)))))
       (turns_plain s vs) $
-      await ! tt $ pick ! (λ y. learn ! (λ so. split ! $
+      await ! tt $ pick ! (λ y. learn ! (λ so. split3 ! $
       use1 𝓛 (given (IsOwned y) (‵ (Owner.own_val y vs))) (fit_together y vs) $ learn ! (λ owned.
       let rows = y.contents.rows in
-      -- [the buckets; what is known of them; the source]
-      move ! (1 ∷ []) $
-      use1 𝓛 (‵ (rows_telling R s.sharing 0 rows) ⊛ ‵ (AllGrown s y)) (known_apart 𝓛 R s 0 rows) $ split ! $ drop ! $
-      use1 𝓛 (‵ (AllGrown s' y)) (grown_in 𝓛 R s s' refl (s.table == table) refl refl rows) $ move ! (2 ∷ []) $
+      -- [the buckets; what is told of them; what they show; the source]
+      move ! (1 ∷ []) $ drop ! $ move ! (1 ∷ []) $
+      use1 𝓛 (‵ (Shown s' y)) (grown_in 𝓛 R s s' refl (s.table == table) refl refl rows) $
+      use0 𝓛 (later (‵ new_rights)) (via 𝓤 _ (rights_new 𝓛) (basic 𝓛 _)) $ await ! tt $ move ! (1 ∷ 0 ∷ []) $ fjoin ! $
+      move ! (2 ∷ []) $
       use1 𝓛 (later (‵ (rows_telling R (Some γ) 0 rows)))
       (via 𝓤 _ (rows_drawn 𝓛 R γ 0 rows (table_whole y.contents owned.table)) (basic 𝓛 _)) $
-      await ! tt $ use2 𝓛 (‵ (AllTell s' y)) (known_together 𝓛 R s' 0 rows) $ move ! (1 ∷ 0 ∷ []) $
-      use2 𝓛 (‵ (Shared.own_val s' vs)) (turns_shared so.0 s' y vs (sym so.1)) $
+      await ! tt $ move ! (2 ∷ 0 ∷ 1 ∷ []) $
+      use3 𝓛 (‵ (Shared.own_val s' vs)) (turns_shared so.0 s' y vs (sym so.1)) $
       nothing ! $ fpack ! (Typed Row.mir vs) (λ _. ftrue) typed $ fjoin ! $ now ! $ done !))))
 
   abbrev pub Given : TableView → Val → Plain.Denot → SProp 𝓤
@@ -466,12 +569,12 @@ module _ {M : Type 1} {𝓤 : Ura M} (𝓛 : Logic 𝓤) (R : RattleType) (L : L
       let vs : List Val = vstruct (vcons v (vcons u vnil)) ∷ [] in
       qed 𝓛 (‵ (Row.own_val s vs) ∷ []) ∵ updating ! $ fsplit ! $ move ! (1 ∷ []) $
       use1 𝓛 (later (some (λ (y : Owner.Denot).
-      given (Judged R × (y.reserved ≡ s.reserved)) (‵ (Owner.own_val y vs) ⊛ ‵ (AllTell s y)))))
+      given (Judged R × (y.reserved ≡ s.reserved)) (‵ (Owner.own_val y vs) ⊛ ‵ (AllTold s y) ⊛ ‵ (Shown s y)))))
       (turns_plain s vs) $
-      await ! tt $ pick ! (λ y. learn ! (λ so. split ! $
+      await ! tt $ pick ! (λ y. learn ! (λ so. split3 ! $
       fpick ! (λ h. fsplit ! $ fpick ! (λ vss. fsplit3 ! $ feq_l ! (λ e.
       peeks ! Plain (Is Plain) (shows 𝓛 Plain) h.0.pointers vss.0 (λ is.
-      -- [the pointers; the number; nothing; what is told; a fact]
+      -- [the pointers; the number; nothing; what is told; what they show; a fact]
       let got =
       one (layout Plain) vss.0
       (((all_pointers'.the_row_laws R L).lawful 𝓛).typed h.0.pointers vss.0 is) in
@@ -481,9 +584,7 @@ module _ {M : Type 1} {𝓤 : Ura M} (𝓛 : Logic 𝓤) (R : RattleType) (L : L
       let same : v ≡ got.0 = cc in
       let kept : h.0.reserved ≡ s.reserved = ap (λ (o : Owned R.Denot). o.reserved) h.1.0 ∙ so.1 in
       rewrite ! 0 (λ (ws : List Val). ‵ (Plain.own_val c ws)) (got.1 ∙ sym (ap (λ (x : Val). x ∷ []) same)) refl $
-      move ! (3 ∷ []) $
-      use1 𝓛 (‵ (rows_telling R s.sharing 0 y.contents.rows) ⊛ ‵ (AllGrown s y)) (known_apart 𝓛 R s 0 y.contents.rows) $
-      split ! $ move ! (0 ∷ 2 ∷ []) $
+      move ! (3 ∷ 0 ∷ []) $
       rewrite ! 0 (λ (z : Contents R.Denot). ‵ (rows_telling R s.sharing 0 z.rows))
       (ap (λ (o : Owned R.Denot). o.contents) (sym h.1.0)) refl $
       use1 𝓛 (later (‵ (rows_tell R s.sharing 0 c.rows)))

@@ -1,20 +1,20 @@
 -- The moves of the code keep the invariant of a walk, and do what the contract of `next` says.
-use Rattle.std.proofs.Common.{◌≡◌, ℕ, suc, ◌+◌, ◌^◌, ◌<◌, ◌≤◌, Bool, true, false, cond, inl, inr, ⊎_elim, Option}
-use Rattle.std.proofs.Common.{None, Some, IfSome, option_map, refl, ap, sym, ◌∙◌, subst, arith, pow_mono}
+use Rattle.std.proofs.Common.{◌≡◌, ℕ, suc, ◌^◌, ◌<◌, ◌≤◌, Bool, true, false, cond, inl, inr, ⊎_elim, Option}
+use Rattle.std.proofs.Common.{None, Some, IfSome, option_map, IsTrue, refl, ap, sym, ◌∙◌, subst, arith, pow_mono}
 use Rattle.std.proofs.Math.Nat.{two-pow-succ}
-use Rattle.std.proofs.lemmas.Bool.{eqb-true, eqb-false, cases_eq, le-ltb}
+use Rattle.std.proofs.lemmas.Bool.{eqb-true, eqb-false, cases_eq, cases_lt, le-ltb}
 use Rattle.thread_local_base.specs.Place.{id_at}
-use Rattle.thread_local_base.specs.Cursor.{Cursor, cursor_id, after_look, CursorFits}
+use Rattle.thread_local_base.specs.Cursor.{Cursor, cursor_id, is_complete, after_look, CursorFits}
 use Rattle.thread_local_base.proofs.CursorLaws.{after_look-fits, bounded}
 use Rattle.thread_local_bucket_pointers.specs.declared.cursor.RawIter.{RawIter}
 use Rattle.thread_local_shared_buckets.specs.declared.steps.Own.{Own}
 use Rattle.thread_local_shared_buckets.specs.Steps.{Leads}
 use Rattle.thread_local_shared_buckets.specs.Walks.{Owed, YieldsOwn, Yields, Ends}
-use Rattle.thread_local_bucket_pointers.specs.Cursor.{next_bucket}
 use Rattle.thread_local_ids.specs.declared.witness.Witness.{Witness}
-use Rattle.thread_local_shared_buckets.specs.Positions.{resting, past, owed, lies_in, Item, OwnIsTold}
+use Rattle.thread_local_shared_buckets.specs.Positions.{resting, loading, past, next_id, at_bucket, owed, lies_in, Item, OwnIsTold}
 use Rattle.thread_local_shared_buckets.specs.Positions.{IsToldAt, IsAhead, IsSharedWalk}
-use Rattle.thread_local_shared_buckets.proofs.StepLaws.{resting_at, looking_at, leads_then, leads_on, leads_to_slot}
+use Rattle.thread_local_shared_buckets.proofs.StepLaws.{looking_at, leads_then, leads_on}
+use Rattle.thread_local_shared_buckets.proofs.MoveLaws.{resting-id, resting-first, resting-fits, rests_behind, leads_in}
 
 -- a place in a later bucket has a greater id
 pub later_bucket : (a b i j : ℕ) → a < b → i < 2 ^ a → id_at a i < id_at b j
@@ -24,16 +24,24 @@ later_bucket a b i j later inside =
     omega arith
 
 module _ {V : Type 0} where
-  -- 1. Moving on to the next bucket.
+  -- 1. Moving on to a later bucket.
 
-  pub own_after_bucket : (raw : RawIter) (own : Option (Own V)) → IfSome own (IsAhead raw)
-      → lies_in own raw.bucket ≡ false
-      → IfSome own (IsAhead (next_bucket raw))
-  own_after_bucket raw None ahead elsewhere = tt
-  own_after_bucket raw (Some own) ahead elsewhere =
-      let apart = eqb-false own.thread.bucket raw.bucket elsewhere in
-      let low = ahead.bucket in
-      record { bucket = omega arith; index = λ _. omega arith }
+  -- the own value stays ahead: it lies in none of the buckets that are passed
+  pub own_after_buckets : (raw : RawIter) (own : Option (Own V)) (bucket size : ℕ) → IfSome own (IsAhead raw)
+      → ((b : ℕ) → raw.bucket ≤ b → b < bucket → lies_in own b ≡ false)
+      → IfSome own (IsAhead (at_bucket raw bucket size))
+  own_after_buckets raw None bucket size ahead elsewhere = tt
+  own_after_buckets raw (Some own) bucket size ahead elsewhere =
+      let up = ahead.bucket in
+      ⊎_elim
+      (λ (passed : own.thread.bucket < bucket).
+      absurd (eqb-false own.thread.bucket own.thread.bucket (elsewhere own.thread.bucket up passed) refl))
+      (λ (further : bucket ≤ own.thread.bucket). record { bucket = further; index = λ _. omega arith })
+      (cases_lt own.thread.bucket bucket)
+
+  -- a walk is at a cursor that fits
+  pub fits : (raw : RawIter) (own : Option (Own V)) → IsSharedWalk raw own → CursorFits (resting raw)
+  fits raw own walk = resting-fits raw walk.in_table walk.within walk.complete
 
   -- 2. Giving a value at a slot of the bucket.
 
@@ -49,16 +57,22 @@ module _ {V : Type 0} where
       → Given raw own index v left
   given_at raw own index v left walk low ahead inside own_ahead own_given =
       let met : Cursor = looking_at raw.bucket index in
-      let leads : Leads (resting raw) met = leads_to_slot raw.bucket raw.index index low ahead inside in
-      let on = leads_on (resting raw) met leads walk.fits in
-      let next : suc index ≡ index + 1 = omega arith in
-      let found : after_look met true ≡ resting (past raw index) = ap (resting_at raw.bucket) next in
+      let leads : Leads (resting raw) met = leads_in raw index low ahead inside in
+      let on = leads_on (resting raw) met leads (fits raw own walk) in
+      let found : after_look met true ≡ resting (past raw index) = rests_behind raw index in
       let to_fits : CursorFits (resting (past raw index)) = subst CursorFits found (after_look-fits met true on.fits refl) in
       let all = bounded (resting (past raw index)) to_fits in
       let few = walk.yielded in
-      let up = on.no_lower in
+      let at : cursor_id (resting (past raw index)) ≡ next_id (past raw index) = resting-id (past raw index) in
       record {
-        walk = record { fits = to_fits; size = walk.size; own_ahead = own_ahead; yielded = omega arith };
+        walk = record {
+          in_table = omega arith;
+          within = omega arith;
+          complete = λ last. absurd (omega arith);
+          size = walk.size;
+          own_ahead = own_ahead;
+          yielded = omega arith;
+        };
         gives = record {
           met = met;
           leads = leads;
@@ -144,11 +158,14 @@ module _ {V : Type 0} where
       → Ends from (option_map owed own) (resting raw) (option_map owed own)
   ends from raw own walk end leads =
       let none : option_map owed own ≡ None = ap (option_map owed) (no_own raw own end walk.own_ahead) in
+      let low = walk.in_table in
+      let first : resting raw ≡ loading raw = resting-first raw (walk.complete (omega arith)) in
       record {
         leads = leads;
         complete =
             (let past_last = le-ltb raw.bucket 63 end in
-            ap (λ (low : Bool). cond low false true) past_last);
+            subst (λ (c : Cursor). IsTrue (is_complete c)) (sym first)
+            (ap (λ (low : Bool). cond low false true) past_last));
         none_owed = none;
         none_left = none;
       }
@@ -157,7 +174,11 @@ module _ {V : Type 0} where
 
   -- a walk gave no more values than there are ids
   pub few : (raw : RawIter) (own : Option (Own V)) → IsSharedWalk raw own → raw.yielded < 2 ^ 63
-  few raw own walk = let all = bounded (resting raw) walk.fits in let low = walk.yielded in omega arith
+  few raw own walk =
+      let all = bounded (resting raw) (fits raw own walk) in
+      let at = resting-id raw in
+      let low = walk.yielded in
+      omega arith
 
   -- a call gave a value of the sharing of this name
   pub record Gave (name : Option ℕ) (raw : RawIter) (own : Option (Own V)) (x : Item V) (to : RawIter) (left : Option (Own V)) : Type 0 where
@@ -175,6 +196,7 @@ module _ {V : Type 0} where
       let power : 2 ^ own.thread.bucket ≡ 2 ^ raw.bucket = ap (λ k. 2 ^ k) same in
       let id : own.witness.id ≡ id_at own.thread.bucket own.thread.index = told.id in
       let of : x.0.id ≡ own.witness.id = ap (λ (w : Witness V). w.id) witness in
+      let there_id = resting-id (past raw own.thread.index) in
       let at : cursor_id (resting (past raw own.thread.index)) ≡ suc x.0.id = omega arith in
       record {
         sharing = ap (λ (w : Witness V). w.sharing) witness ∙ told.sharing;

@@ -8,7 +8,7 @@ use Rattle.thread_local_shared_buckets.specs.declared.row.Row.{Row}
 use Rattle.thread_local_shared_buckets.specs.declared.seen.Seen.{Seen}
 use Rattle.thread_local_shared_buckets.specs.declared.steps.Own.{Own}
 use Rattle.thread_local_shared_buckets.specs.declared.steps.Walk.{Walk}
-use Rattle.thread_local_ids.specs.TokenLists.{AllOf}
+use Rattle.thread_local_ids.specs.TokenLists.{AllOf, NoneIn}
 use Rattle.thread_local_ids.specs.Views.{TokenView}
 use Rattle.thread_local_shared_buckets.specs.Positions.{Item, resting, lies_in, is_at, OwnIsTold, IsSharedWalk}
 use Rattle.thread_local_shared_buckets.specs.Positions.{Skips, IsBehind}
@@ -111,6 +111,21 @@ module _ {V : Type 0} where
       (i : ℕ) → i < 2 ^ w.raw.bucket → id ≡ id_at w.raw.bucket i → w.raw.index ≤ i → i < w.chunks * 64
       → ((w.chunks - 1) * 64 ≤ i) × (is_set w.rest (i - (w.chunks - 1) * 64) ≡ true)
 
+  -- the word has each announced bucket, and that of the own value
+  pub record HasAll (own : Option (Own V)) (announced word : ℕ) : Type 0 where
+    pub first : is_set word 0 ≡ true
+    pub none_past : is_set word 63 ≡ false
+    pub has_announced : (bucket : ℕ) → bucket < 63 → is_set word bucket ≡ false → is_set announced bucket ≡ false
+    pub has_own : (bucket : ℕ) → bucket < 63 → is_set word bucket ≡ false → lies_in own bucket ≡ false
+
+  -- The buckets that are left to walk, a bit each: all lie behind the walk's bucket. One behind it that isn't
+  -- left has neither the slot of one of these tokens nor the own value.
+  pub record AreLeft (sharing : Option ℕ) (told : List (TokenView V)) (own : Option (Own V)) (from left : ℕ) : Type 0 where
+    pub behind : (bucket : ℕ) → bucket < 64 → is_set left bucket ≡ true → from < bucket
+    pub none_past : is_set left 63 ≡ false
+    pub none_told : (bucket : ℕ) → from < bucket → bucket < 63 → is_set left bucket ≡ false → NoneIn sharing bucket told
+    pub none_owed : (bucket : ℕ) → from < bucket → bucket < 63 → is_set left bucket ≡ false → lies_in own bucket ≡ false
+
   -- a walk between two calls
   pub record IsWalk (w : Walk V) : Type 0 where
     pub walk : IsSharedWalk w.raw w.own
@@ -120,6 +135,7 @@ module _ {V : Type 0} where
     pub at_hand : (bit : ℕ) → bit < 64 → is_set w.rest bit ≡ true → IsAtHand w bit
     pub kept : IfSome w.own (OwnIsAtHand w)
     pub marked : AllOf w.buckets.now.sharing (λ p. IsMarked w p.id) w.told
+    pub left : AreLeft w.buckets.now.sharing w.told w.own w.raw.bucket w.left
 
   -- 3. What single steps of a call do.
 

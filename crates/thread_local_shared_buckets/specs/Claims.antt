@@ -18,26 +18,29 @@ use Rattle.thread_local_judged.specs.Judged.{Judged}
 use Rattle.thread_local_bucket_pointers.specs.Slots.{flag_word_at, value_offset}
 use Rattle.thread_local_base.specs.Fact.{fact}
 use Rattle.thread_local_ids.specs.Told.{tells}
+use Rattle.thread_local_shared_buckets.specs.Announcing.{Announcing}
 use Rattle.thread_local_shared_buckets.specs.Shared.{name_at, BucketView, Turn, StandingBlock, holds, first, len, kept, loaded}
 
 -- a claim without the value that its slot holds: its id, the index of its slot, the address of its
--- bucket's pointer, where it points itself, the sharing if that has a name, and whether the bucket is
--- reserved
+-- bucket's pointer, where it points itself, the sharing if that has a name, what the table's word of
+-- announced buckets is, and whether the bucket is reserved
 pub record ClaimFields : Type 0 where
   pub id : ℕ
   pub index : ℕ
   pub bucket : Ptr
   pub at : Ptr
   pub sharing : Option ℕ
+  pub word : Announcing
   pub reserved : Bool
 
-abbrev pub claim_fields : ℕ → ℕ → Ptr → Ptr → Option ℕ → Bool → ClaimFields
-claim_fields id index bucket at sharing reserved = record {
+abbrev pub claim_fields : ℕ → ℕ → Ptr → Ptr → Option ℕ → Announcing → Bool → ClaimFields
+claim_fields id index bucket at sharing word reserved = record {
   id = id;
   index = index;
   bucket = bucket;
   at = at;
   sharing = sharing;
+  word = word;
   reserved = reserved;
 }
 
@@ -92,7 +95,7 @@ module _ (R : RattleType) where
   abbrev pub IsOf : ℕ → ClaimFields → BucketView → Type 0
   IsOf table c d =
       InBlock c.bucket × Judged R × (d.table ≡ table) × (c.id ≡ c.index + first R d)
-      × (c.index < len R d) × (d.reserved ≡ c.reserved) × (d.sharing ≡ c.sharing)
+      × (c.index < len R d) × (d.reserved ≡ c.reserved) × (d.sharing ≡ c.sharing) × (d.word ≡ c.word)
 
   module _ (β : Lft) (table : ℕ) (c : ClaimFields) (l : Learnt R.Denot) where
     -- a claim under one sharing of its bucket

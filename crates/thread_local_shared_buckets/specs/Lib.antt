@@ -11,4 +11,5 @@ pub mod AtHand
 pub mod Claims
 pub mod Known
 pub mod Views
+pub mod Announcing
 pub mod Shared

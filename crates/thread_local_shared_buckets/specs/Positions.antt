@@ -1,50 +1,46 @@
 -- Where a walk is, by what its code keeps, as the model's cursor.
-use Rattle.std.specs.Prelude.{◌≡◌, ℕ, suc, ◌+◌, ◌^◌, ◌≤◌, ◌<◌, ◌==◌, ◌⊎◌, Bool, true, false, Option, Some, None, IfSome, option_map}
-use Rattle.std.specs.Prelude.{if◌then◌else◌}
+use Rattle.std.specs.Prelude.{◌≡◌, ℕ, suc, ◌+◌, ◌^◌, ◌≤◌, ◌<◌, ◌==◌, ◌⊎◌, Bool, false, Option, Some, None, IfSome}
+use Rattle.std.specs.Prelude.{option_map, if◌then◌else◌}
 use Rattle.thread_local_base.specs.Place.{id_at}
-use Rattle.thread_local_base.specs.Cursor.{Cursor, cursor_id, CursorFits}
+use Rattle.thread_local_base.specs.Cursor.{Cursor, cursor_id, at_place}
 use denote.Ref.{Bor}
 use Rattle.thread_local_ids.specs.declared.witness.Witness.{Witness}
 use Rattle.thread_local_bucket_pointers.specs.declared.cursor.RawIter.{RawIter}
-use Rattle.thread_local_bucket_pointers.specs.Cursor.{next_bucket}
 use Rattle.thread_local_shared_buckets.specs.declared.steps.Own.{Own}
-use Rattle.thread_local_shared_buckets.specs.Steps.{Leads}
 use Rattle.thread_local_shared_buckets.specs.Walks.{Owed, Yields, Ends}
 
--- the cursor of a walk between two calls
+-- the cursor at the walk's place, before a load of the bucket's pointer
+abbrev pub loading : RawIter → Cursor
+loading raw = record { bucket = raw.bucket; index = raw.index; looks = false }
+
+-- the cursor of a walk between two calls: at a bucket's first slot it loads the pointer next, and behind
+-- a slot whose value it gave it looks on
 abbrev pub resting : RawIter → Cursor
-resting raw = record { bucket = raw.bucket; index = raw.index; looks = false }
+resting raw = if raw.index == 0 then loading raw else at_place (loading raw)
+
+-- the first id that the walk hasn't passed
+abbrev pub next_id : RawIter → ℕ
+next_id raw = id_at raw.bucket raw.index
 
 -- the walk past a slot of its bucket, whose value it gave
 abbrev pub past : RawIter → ℕ → RawIter
 past raw index = record { yielded = raw.yielded + 1; bucket = raw.bucket; bucket_size = raw.bucket_size; index = index + 1 }
 
--- the walk has passed buckets alone, and gave nothing
-pub record MovesOn (from to : RawIter) : Type 0 where
-  pub leads : Leads (resting from) (resting to)
-  pub size : to.bucket_size ≡ 2 ^ to.bucket
-  pub yielded : to.yielded ≡ from.yielded
-  pub further : from.bucket ≤ to.bucket
-  pub index : to.index ≤ from.index
-
 -- the walk goes from one place to another, and an id doesn't lie between
 abbrev pub Skips : RawIter → RawIter → ℕ → Type 0
-Skips from to id = (id < cursor_id (resting from)) ⊎ (cursor_id (resting to) ≤ id)
+Skips from to id = (id < next_id from) ⊎ (next_id to ≤ id)
 
 -- the walk goes past one slot, and passes an id only if it is that slot's
 abbrev pub Stops : RawIter → RawIter → ℕ → Type 0
-Stops from to id = cursor_id (resting from) ≤ id → id < cursor_id (resting to) → cursor_id (resting to) ≡ suc id
+Stops from to id = next_id from ≤ id → id < next_id to → next_id to ≡ suc id
 
 -- an id that lies in the walk's bucket lies behind the walk
 abbrev pub IsBehind : RawIter → ℕ → Type 0
 IsBehind raw id = (i : ℕ) → i < 2 ^ raw.bucket → id ≡ id_at raw.bucket i → i < raw.index
 
--- the walk has passed at least the bucket that it was in, and no other if an own value is still owed
-pub record MovesBehind (from : RawIter) (owed : Bool) (to : RawIter) : Type 0 where
-  pub moves : MovesOn from to
-  pub further : from.bucket < to.bucket
-  pub one : owed ≡ true → to ≡ next_bucket from
-  pub first : to.index ≡ 0
+-- the walk at the first slot of this bucket, which has so many slots
+abbrev pub at_bucket : RawIter → ℕ → ℕ → RawIter
+at_bucket raw bucket size = record { yielded = raw.yielded; bucket = bucket; bucket_size = size; index = 0 }
 
 -- what a walk gives: a value, and a witness that its slot was published with it
 abbrev pub Item : Type 0 → Type 0
@@ -92,10 +88,12 @@ module _ {V : Type 0} where
   -- the walk is in a bucket or past the last, it hasn't passed the own value, and it gave no more
   -- values than it passed ids
   pub record IsSharedWalk (raw : RawIter) (own : Option (Own V)) : Type 0 where
-    pub fits : CursorFits (resting raw)
+    pub in_table : raw.bucket ≤ 63
+    pub within : raw.index ≤ 2 ^ raw.bucket
+    pub complete : raw.bucket ≡ 63 → raw.index ≡ 0
     pub size : raw.bucket_size ≡ 2 ^ raw.bucket
     pub own_ahead : IfSome own (IsAhead raw)
-    pub yielded : raw.yielded ≤ cursor_id (resting raw)
+    pub yielded : raw.yielded ≤ next_id raw
 
   -- a call that yields a value, from where the walk is to where it is then, with the own value that
   -- is still to come

@@ -17,8 +17,8 @@
 --                         value that is published
 --     telling             what is told of the slot's id under the sharing's name, if it has one: it
 --                         stays with the slot, whoever claims it
---     grown               what a block that stands shows of the ids that were held at once, where
---                         its bucket was made for an id
+--     grown               what a block that stands shows: of the ids that were held at once, where
+--                         its bucket was made for an id, and that its bucket is announced
 --
 -- Where a `&` to a value names no thread, a published value is shared for good. Where it may name
 -- one, the claim of the slot has the borrow of the value.
@@ -91,31 +91,35 @@ use Rattle.thread_local_base.specs.Bits.{is_set_in}
 use Rattle.thread_local_bucket_pointers.specs.Slots.{heap_token, chunks, each, AreWords, block_ty, Fits, value_offset, flags_at}
 use Rattle.thread_local_bucket_pointers.specs.Slots.{content_at, back, empty_slots}
 use Rattle.thread_local_base.specs.Fact.{fact}
+use Rattle.thread_local_shared_buckets.specs.Announcing.{Announcing, announcing_coded, announced}
 use Rattle.thread_local_ids.specs.Told.{untold_in, tells, told_or_untold, all_told_or_untold}
 
 -- 1. What is known of a bucket, of a sharing and of a block.
 
 -- what a contract sees of a shared bucket: its table, the sharing if that has a name, its number,
--- whether it is reserved, and whether each bucket of its table that isn't reserved was made for an
--- id
+-- whether it is reserved, whether each bucket of its table that isn't reserved was made for an id, and
+-- what the table's word of announced buckets is
 pub record BucketView : Type 0 where
   pub table : ℕ
   pub sharing : Option ℕ
   pub bucket : ℕ
   pub reserved : Bool
   pub grown_by_ids : Bool
+  pub word : Announcing
 
 -- an injective code of such views, for ghost state
 abbrev pub bucket_view_coded : Coded BucketView
 bucket_view_coded =
-    coded_via (coded× coded_ℕ (coded× (coded_option coded_ℕ) (coded× coded_ℕ (coded× coded_bool coded_bool))))
-    (λ (d : BucketView). (d.table, (d.sharing, (d.bucket, (d.reserved, d.grown_by_ids)))))
+    coded_via
+    (coded× coded_ℕ (coded× (coded_option coded_ℕ) (coded× coded_ℕ (coded× coded_bool (coded× coded_bool announcing_coded)))))
+    (λ (d : BucketView). (d.table, (d.sharing, (d.bucket, (d.reserved, (d.grown_by_ids, d.word))))))
     (λ x y e i. record {
       table = (e i).0;
       sharing = (e i).1.0;
       bucket = (e i).1.1.0;
       reserved = (e i).1.1.1.0;
-      grown_by_ids = (e i).1.1.1.1;
+      grown_by_ids = (e i).1.1.1.1.0;
+      word = (e i).1.1.1.1.1;
     })
 
 -- how many ids were held at once for sure once a bucket stands, by whether its table grew by ids
@@ -130,9 +134,9 @@ ids_shown true false bucket = 2 ^ bucket
 abbrev pub shown_by : BucketView → ℕ
 shown_by d = ids_shown d.grown_by_ids d.reserved d.bucket
 
--- a standing bucket shows how many ids were held at once
+-- what a standing bucket shows: how many ids were held at once, and that it is announced
 abbrev pub grown : BucketView → Fml
-grown d = reached_owns d.table (shown_by d)
+grown d = fsep (reached_owns d.table (shown_by d)) (announced d.word d.bucket)
 
 -- the life and the names that one bucket has in one sharing; `which` is the name that says which block
 -- stands

@@ -4,11 +4,12 @@ ghost use Rattle.std.specs.Prelude.{◌≡◌, ◌≢◌, ◌/◌, ◌^◌, ◌<
 ghost use Rattle.thread_local_base.specs.Learnt.{Unknown, Missing, Vacant, Holding, Finds, learnt_by_install, learnt_by_publish};
 ghost use Rattle.thread_local_base.specs.Place.{IsPlaceOf};
 ghost use Rattle.thread_local_bucket_pointers.specs.Slots.{empty_slots, flag_word_at};
+ghost use Rattle.thread_local_shared_buckets.specs.Announcing.{BeginsWithFirst};
 ghost use Rattle.thread_local_shared_buckets.specs.Known.{HasLooked, value_held, with_bucket};
 
-use crate::SharedBucket;
 use crate::claimed::{ClaimedSlot, HOLDING, MISSING};
 use crate::replaced::replace_with;
+use crate::{Announcements, SharedBucket};
 use std::alloc::{AllocError, Global};
 use std::marker::Model;
 use thread_local_base::{Thread, bucket_size};
@@ -26,11 +27,14 @@ use thread_local_ids::{HeldId, Reached, Right, Token};
 pub struct Claim<'a, T> {
     slot: ClaimedSlot<'a, T>,
     held: HeldId,
+    /// The word in which the claim announces its bucket before it installs one.
+    announcements: &'a Announcements,
 }
 
 impl<'a, T> Model for Claim<'a, T> {
     ghost use Rattle.std.specs.Prelude.{◌≡◌};
     ghost use Rattle.thread_local_base.specs.Place.{index_of};
+    ghost use Rattle.thread_local_shared_buckets.specs.Announcing.{BeginsWithFirst};
     ghost use Rattle.thread_local_shared_buckets.specs.Known.{HasLooked};
     ghost use Rattle.thread_local_shared_buckets.specs.Views.{ClaimView, claim_view_coded};
 
@@ -51,7 +55,9 @@ impl<'a, T> Model for Claim<'a, T> {
         (c.slot.id ≡ c.held.id)
         × (c.slot.index ≡ index_of c.held.id)
         × HasLooked c.slot.learnt
-        × (c.held.mark.table ≡ c.slot.table) };
+        × (c.held.mark.table ≡ c.slot.table)
+        × (c.slot.word ≡ c.announcements.now)
+        × BeginsWithFirst c.announcements.now };
 }
 
 impl<'a, T> Claim<'a, T> {
@@ -61,10 +67,12 @@ impl<'a, T> Claim<'a, T> {
     #[tactic(auto, using(crate::proofs::IdLaws::id_of_place))]
     pub fn look(
         bucket: &'a SharedBucket<T>,
+        announcements: &'a Announcements,
         thread: Thread,
         held: HeldId,
         right: Right,
     ) -> Claim<'a, T>
+        requires word { (bucket.now.word ≡ announcements.now) × BeginsWithFirst announcements.now }
         requires table { (right.table ≡ bucket.now.table) × (held.mark.table ≡ bucket.now.table) }
         requires id { right.id ≡ held.id }
         requires place { IsPlaceOf thread.bucket thread.index held.id }
@@ -81,6 +89,7 @@ impl<'a, T> Claim<'a, T> {
         Claim {
             slot: slot.find(thread.index, flag_word_of::<T>(thread)),
             held,
+            announcements,
         }
     }
 
@@ -103,9 +112,9 @@ impl<'a, T> Claim<'a, T> {
         })
     }
 
-    /// Installs a block for the claim's bucket, which was missing, by one compare and exchange.
-    /// Where another block was installed first, that one stays, and this one is freed. Either way
-    /// the slot is vacant from then on. All ids up to this one were held at once.
+    /// Announces the claim's bucket, which was missing, and installs a block for it by one compare and
+    /// exchange. Where another block was installed first, that one stays, and this one is freed.
+    /// Either way the slot is vacant from then on. All ids up to this one were held at once.
     pub fn install(
         &mut self,
         thread: Thread,
@@ -125,10 +134,15 @@ impl<'a, T> Claim<'a, T> {
         ensures learnt { learnt_by_install self.old.learnt ≡ Some self.new.learnt }
         ensures reserved { self.new.reserved ≡ self.old.reserved }
     {
-        let given = (thread.index, block, reached);
-        let back = replace_with(&mut self.slot, given, |slot, (index, block, reached)| {
-            slot.exchange(index, block, reached)
-        });
+        let announced = self.announcements.announce(thread.bucket);
+        let given = (thread.index, block, reached, announced);
+        let back = replace_with(
+            &mut self.slot,
+            given,
+            |slot, (index, block, reached, announced)| {
+                slot.exchange(index, block, reached, announced)
+            },
+        );
         if let Some(block) = back {
             block.release(alloc, bucket_size(thread.bucket));
         }
@@ -278,7 +292,11 @@ impl<'a, T> Claim<'a, T> {
         ensures table { (result.1.table ≡ self.entry.table) × (result.0.mark.table ≡ self.entry.table) }
         ensures id { (result.0.id ≡ self.entry.id) × (result.1.id ≡ self.entry.id) }
     {
-        let Self { slot, held } = self;
+        let Self {
+            slot,
+            held,
+            announcements: _,
+        } = self;
         (held, slot.give_up())
     }
 

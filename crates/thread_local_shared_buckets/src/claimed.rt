@@ -6,6 +6,7 @@ ghost use Rattle.std.specs.Coded.{coded_option, coded_ℕ};
 ghost use denote.RawPtr.{Ptr, coded_ptr};
 ghost use Rattle.thread_local_base.specs.Learnt.{Learnt, learnt_coded, Unknown, Missing, Vacant, Holding, Finds};
 ghost use Rattle.thread_local_base.specs.Place.{id_at};
+ghost use Rattle.thread_local_shared_buckets.specs.Announcing.{Announcing, announcing_coded};
 ghost use Rattle.thread_local_shared_buckets.specs.Known.{HasLooked, MayLook, state_of, value_held};
 ghost use Rattle.thread_local_shared_buckets.specs.Claims.{flag_word_of, claim_fields, claim_owns, claim_shares};
 
@@ -47,6 +48,8 @@ pub(crate) struct ClaimedSlot<'a, T> {
     pub ghost table: { ℕ },
     /// The sharing, if it has a name.
     pub ghost sharing: { Option ℕ } by { coded_option coded_ℕ },
+    /// The table's word of announced buckets.
+    pub ghost word: { Announcing } by { announcing_coded },
     pub ghost id: { ℕ },
     pub ghost index: { ℕ },
     /// Whether the bucket is reserved.
@@ -56,11 +59,11 @@ pub(crate) struct ClaimedSlot<'a, T> {
 
 impl<'a, T> Model for ClaimedSlot<'a, T> {
     ghost also_owns = { λ c.
-        claim_owns T.row 'a c.table (claim_fields c.id c.index c.bucket c.at c.sharing c.reserved)
+        claim_owns T.row 'a c.table (claim_fields c.id c.index c.bucket c.at c.sharing c.word c.reserved)
         c.learnt c.state };
 
     ghost also_shares = { λ c _ κ.
-        claim_shares T.row 'a (claim_fields c.id c.index c.bucket c.at c.sharing c.reserved)
+        claim_shares T.row 'a (claim_fields c.id c.index c.bucket c.at c.sharing c.word c.reserved)
         c.learnt c.state κ };
 }
 
@@ -76,6 +79,7 @@ impl<'a, T> ClaimedSlot<'a, T> {
         requires within { index < 2 ^ bucket.now.bucket }
         ensures same_slot { (result.table ≡ right.table)
             × (result.sharing ≡ bucket.now.sharing)
+            × (result.word ≡ bucket.now.word)
             × (result.id ≡ right.id)
             × (result.index ≡ index) }
         ensures unknown { result.learnt ≡ Unknown }
@@ -99,6 +103,7 @@ impl<'a, T> ClaimedSlot<'a, T> {
         requires flag_word { flag_word ≡ flag_word_of T.row self.id }
         ensures same_slot { (result.table ≡ self.entry.table)
             × (result.sharing ≡ self.entry.sharing)
+            × (result.word ≡ self.entry.word)
             × (result.id ≡ self.entry.id)
             × (result.index ≡ self.entry.index) }
         ensures looked { HasLooked result.learnt }
@@ -143,6 +148,7 @@ impl<'a, T> ClaimedSlot<'a, T> {
         requires flag_word { flag_word ≡ flag_word_of T.row self.id }
         ensures same_slot { (result.table ≡ self.entry.table)
             × (result.sharing ≡ self.entry.sharing)
+            × (result.word ≡ self.entry.word)
             × (result.id ≡ self.entry.id)
             × (result.index ≡ self.entry.index) }
         ensures value { result.learnt ≡ Holding value }

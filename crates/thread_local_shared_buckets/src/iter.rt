@@ -8,16 +8,17 @@ ghost use Rattle.thread_local_shared_buckets.specs.Walks.{WalkView, fresh, fresh
 
 use crate::shared::Shared;
 use crate::shown::Shown;
-use crate::steps::{Own, Walk};
+use crate::steps::{Own, Walk, with_own_bucket};
 use std::fmt;
 use std::iter::FusedIterator;
 use std::marker::Model;
 use thread_local_base::Thread;
-use thread_local_bucket_pointers::{RawIter, write_struct};
+use thread_local_bucket_pointers::{RawIter, without_first, write_struct};
 use thread_local_ids::{Token, Told, Witness};
 
 /// The values of shared buckets, by ascending id, each lent as `&`, while other threads may publish
-/// more. A value that is published behind the walk isn't given, and one ahead of it may be.
+/// more. A value that is published behind the walk isn't given, and one ahead of it may be. The walk
+/// goes over the buckets that were announced when it was made.
 ///
 /// No call waits or takes memory. A contract sees the sharing, the model's cursor, the walker's own
 /// value as long as it is still to be given, and the tokens whose values the walk gives for sure.
@@ -52,7 +53,7 @@ impl<'a, T> Model for Iter<'a, T> {
 }
 
 impl<'a, T> Iter<'a, T> {
-    /// A walk at the first slot.
+    /// A walk at the first slot, over the buckets that are announced now.
     fn begun(
         buckets: &'a Shared<T>,
         own: Option<Own<'a, T>>,
@@ -67,12 +68,15 @@ impl<'a, T> Iter<'a, T> {
             (is_some shown.entry)
             told }
     {
+        // The walk begins in the first bucket, and has those behind it left.
+        let left = without_first(with_own_bucket(buckets.announced(told.list()), &own));
         Iter {
             walk: Walk {
                 buckets,
                 raw: RawIter::new(),
                 own,
                 told,
+                left,
                 row: None,
                 seen: None,
                 chunks: 0,
@@ -164,8 +168,8 @@ impl<'a, T: Sync> Iterator for Iter<'a, T> {
 
     /// The next value that a look finds. One load of a word of flags is a look at up to 64 slots at
     /// one instant. The call gives the next value that such a look has found, and looks on where
-    /// all are given. A walk loads each word of flags at most once, and each pointer at most twice:
-    /// once by itself, and that of a bucket behind the first seven once among eight.
+    /// all are given. A walk loads the word of announced buckets once, when it is made, and then
+    /// each bucket's pointer and each word of flags at most once.
     fn next(&mut self) -> Option<&'a T> {
         match self.step() {
             Some((_, value)) => Some(value),

@@ -4,6 +4,7 @@
 //! them saw. `Iter`, `Entries` and `Tokens` are the walks.
 #![tactic(auto)]
 
+pub mod announcements;
 pub mod claim;
 mod claimed;
 pub mod complete;
@@ -19,6 +20,7 @@ pub mod shown;
 mod steps;
 pub mod tokens;
 
+pub use announcements::Announcements;
 pub use claim::Claim;
 pub use entries::Entries;
 pub use iter::Iter;

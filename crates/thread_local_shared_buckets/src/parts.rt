@@ -1,9 +1,10 @@
-//! What shared buckets consist of: 63 pointers, the heap, and the number of reserved slots, in the
-//! layout of an owner's buckets.
+//! What shared buckets consist of: 63 pointers, the heap, the word of announced buckets, and the number
+//! of reserved slots, in the layout of an owner's buckets.
 ghost use Rattle.thread_local_base.specs.Owned.{AreOfFirstBuckets};
 ghost use Rattle.thread_local_shared_buckets.specs.TableView.{TableView, table_view_coded, table_view_of, AreBuckets};
+ghost use Rattle.thread_local_shared_buckets.specs.Announcing.{BeginsWithFirst};
 
-use crate::SharedBucket;
+use crate::{Announcements, SharedBucket};
 use std::alloc::Global;
 use std::marker::Model;
 use thread_local_base::BUCKETS;
@@ -13,11 +14,12 @@ pub(crate) struct SharedArray<T> {
     pub(crate) pointers: [SharedBucket<T>; BUCKETS],
 }
 
-/// The pointers of a table's buckets, and the heap that their blocks come from, in the layout of an
-/// owner's pointers.
+/// The pointers of a table's buckets, the heap that their blocks come from, and the word of announced
+/// buckets, in the layout of an owner's pointers.
 pub(crate) struct SharedPointers<T> {
     pub(crate) pointers: SharedArray<T>,
     alloc: Global,
+    pub(crate) announced: Announcements,
 }
 
 /// The pointers of a table's buckets, and how many of the first slots are reserved, in the layout
@@ -34,7 +36,10 @@ impl<T> Model for SharedParts<T> {
 
     ghost view = { λ s. table_view_of s.pointers.pointers.pointers s.reserved };
 
-    ghost invariant = { λ s. AreBuckets s.pointers.pointers.pointers s.reserved × AreOfFirstBuckets s.reserved };
+    ghost invariant = { λ s.
+        AreBuckets s.pointers.pointers.pointers s.pointers.announced s.reserved
+        × BeginsWithFirst s.pointers.announced
+        × AreOfFirstBuckets s.reserved };
 }
 
 /// Accepts what threads may send and share.

@@ -1,6 +1,7 @@
 //! A table's buckets while threads share them through a `&`. By value or through a `&mut` they are
 //! an owner's `Buckets` again.
 ghost use Rattle.std.specs.Prelude.{◌≡◌, ◌≢◌, ◌+◌, ◌-◌, ◌*◌, ◌^◌, ◌<◌, ◌≤◌, ℕ, max, true, false, Option, IsSome};
+ghost use Rattle.thread_local_base.specs.Bits.{is_set};
 ghost use Rattle.thread_local_base.specs.Learnt.{Unknown, Missing, Finds};
 ghost use Rattle.thread_local_base.specs.Owned.{IsOwned, AreOfFirstBuckets};
 ghost use Rattle.thread_local_base.specs.Place.{bucket_of, id_at};
@@ -8,9 +9,10 @@ ghost use Rattle.thread_local_judged.specs.Judged.{Judged};
 ghost use Rattle.thread_local_ids.specs.TokenLists.{NoneIn};
 ghost use Rattle.thread_local_shared_buckets.specs.Known.{HasLooked};
 ghost use Rattle.thread_local_shared_buckets.specs.Grown.{only_reserved};
-ghost use Rattle.thread_local_shared_buckets.specs.TableView.{TableView, table_view_coded, bucket_view};
+ghost use Rattle.thread_local_shared_buckets.specs.TableView.{TableView, table_view_coded, IsBucketOf};
 ghost use Rattle.thread_local_shared_buckets.specs.Parts.{parts_own, parts_share};
 
+use crate::announcements::load_announced;
 use crate::parts::SharedParts;
 use crate::{Claim, SharedBucket};
 use std::marker::{Move, Owns, PhantomData};
@@ -142,47 +144,23 @@ impl<T> Shared<T> {
     /// The bucket of this number.
     pub fn bucket(&self, bucket: usize) -> &SharedBucket<T>
         requires { bucket < 63 }
-        ensures { result.now ≡ bucket_view self.now bucket }
+        ensures { IsBucketOf self.now bucket result.now }
     {
         &self.parts().pointers.pointers.pointers[bucket]
     }
 
-    /// Whether one of the eight buckets from `first` on stands. Each of their pointers is loaded
-    /// once, so a bucket that is installed meanwhile may be missed.
-    #[inline]
-    fn any_stands(&self, first: usize, told: &TokenList<T>) -> bool
-        requires { first + 8 ≤ 63 }
-        ensures told { result ≡ false
-            → (bucket : ℕ)
-            → first ≤ bucket
-            → bucket < first + 8
-            → NoneIn self.now.sharing bucket told.now.tokens }
-    {
-        let mut any = false;
-        for at in 0..8 {
-            any |= self.bucket(first + at).load(told).is_some();
-        }
-        any
-    }
-
-    /// Passes missing buckets from `first` on, eight at a time, and answers the first one that it
-    /// hasn't passed.
-    // Out of line, it takes no register from the loop that gives values.
-    #[inline(never)]
-    pub(crate) fn behind_missing(&self, first: usize, told: &TokenList<T>) -> usize
-        requires in_table { first ≤ 63 }
-        ensures ahead { first ≤ result }
-        ensures in_table { result ≤ 63 }
+    /// The announced buckets, a bit each: one atomic load. Each bucket with the slot of a token that the
+    /// list has is among them.
+    pub(crate) fn announced(&self, told: &TokenList<T>) -> u64
+        ensures first { is_set result 0 ≡ true }
+        ensures none_past { is_set result 63 ≡ false }
         ensures told { (bucket : ℕ)
-            → first ≤ bucket
-            → bucket < result
+            → bucket < 63
+            → is_set result bucket ≡ false
             → NoneIn self.now.sharing bucket told.now.tokens }
     {
-        let mut at = first;
-        while at <= BUCKETS - 8 && !self.any_stands(at, told) {
-            at += 8;
-        }
-        at
+        let pointers = &self.parts().pointers;
+        load_announced(&pointers.announced, &pointers.pointers.pointers, told)
     }
 
     /// Claims the slot of a held id, for as long as the buckets are borrowed: one atomic load of
@@ -199,7 +177,9 @@ impl<T> Shared<T> {
         ensures reserved { id_at (bucket_of held.id) 0 < self.now.reserved → result.learnt ≢ Missing }
     {
         let thread = Thread::new(held.id);
-        Claim::look(self.bucket(thread.bucket), thread, held, right)
+        let pointers = &self.parts().pointers;
+        let bucket = &pointers.pointers.pointers[thread.bucket];
+        Claim::look(bucket, &pointers.announced, thread, held, right)
     }
 
     /// Shows that the type of the values is judged, as it was when the buckets were shared. At run

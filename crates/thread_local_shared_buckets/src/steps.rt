@@ -2,12 +2,13 @@
 //! loads the next words of flags first, until one has a flag that is set.
 ghost use Rattle.std.specs.Prelude.{◌≡◌, ◌≢◌, ◌+◌, ◌-◌, ◌*◌, ◌/◌, ◌%◌, ◌^◌, ◌<◌, ◌≤◌, ℕ, true, false, None, IfSome, MatchOption, option_map};
 ghost use Rattle.thread_local_judged.specs.Judged.{Shareable};
-ghost use Rattle.thread_local_base.specs.Bits.{IsWordBut};
-ghost use Rattle.thread_local_ids.specs.TokenLists.{AllOf, NoneIn};
+ghost use Rattle.thread_local_base.specs.Bits.{is_set, IsWordBut};
+ghost use Rattle.thread_local_ids.specs.TokenLists.{AllOf};
 ghost use Rattle.thread_local_shared_buckets.specs.Walks.{Meets};
-ghost use Rattle.thread_local_shared_buckets.specs.Positions.{lies_in, is_at, own_index, IsToldAt, MovesBehind};
+ghost use Rattle.thread_local_shared_buckets.specs.Positions.{lies_in, is_at, own_index, IsToldAt};
 ghost use Rattle.thread_local_shared_buckets.specs.Positions.{YieldsFrom, EndsFrom, resting, Stops, IsBehind};
-ghost use Rattle.thread_local_shared_buckets.specs.AtHand.{LiesOutside, IsSetIn, IsGivenBy, HasLookedOn, IsWalk, LooksIn, GoesOn, Reaches, FindsTokens};
+ghost use Rattle.thread_local_shared_buckets.specs.AtHand.{LiesOutside, IsSetIn, IsGivenBy, HasLookedOn, FindsTokens};
+ghost use Rattle.thread_local_shared_buckets.specs.AtHand.{HasAll, IsWalk, LooksIn, GoesOn, Reaches};
 
 use crate::shared::Shared;
 use crate::{Row, Seen};
@@ -135,24 +136,34 @@ fn look_on<'a, T>(
     }
 }
 
-/// Moves on behind the bucket that a walk is in. Where no own value is still to be given, it passes
-/// missing buckets, too, eight at a time: first the eight behind the first seven buckets, then the
-/// next eight. So a pointer is loaded at most once among eight, and at most once by itself.
+/// The announced buckets, with that of the own value.
 #[inline]
-fn move_on<T>(buckets: &Shared<T>, raw: &mut RawIter, owed: bool, told: &TokenList<T>)
-    requires size { raw.old.bucket_size ≡ 2 ^ raw.old.bucket }
-    requires in_table { raw.old.bucket < 63 }
-    ensures moves { MovesBehind raw.old owed raw.new }
-    ensures told { (bucket : ℕ)
-        → raw.old.bucket < bucket
-        → bucket < raw.new.bucket
-        → NoneIn buckets.now.sharing bucket told.now.tokens }
+pub(crate) fn with_own_bucket<T>(announced: u64, own: &Option<Own<'_, T>>) -> u64
+    requires first { is_set announced 0 ≡ true }
+    requires none_past { is_set announced 63 ≡ false }
+    ensures { HasAll own.now announced result }
 {
-    raw.next_bucket();
-    if !owed && raw.bucket % 8 == 7 {
-        raw.bucket = buckets.behind_missing(raw.bucket, told);
-        raw.bucket_size = bucket_size(raw.bucket);
+    match own {
+        Some(own) => announced | 1 << own.thread.bucket,
+        None => announced,
     }
+}
+
+/// Takes the first bucket out of those that are left, or answers the number behind the last bucket.
+#[inline]
+fn take_first(left: &mut u64) -> usize
+    requires none_past { is_set left.old 63 ≡ false }
+    ensures in_table { result ≤ 63 }
+    ensures first { (bucket : ℕ) → bucket < result → is_set left.old bucket ≡ false }
+    ensures some { result < 63 → is_set left.old result ≡ true }
+    ensures rest { IsWordBut left.new left.old result false }
+{
+    if *left == 0 {
+        return BUCKETS;
+    }
+    let bucket = left.trailing_zeros() as usize;
+    *left = without_first(*left);
+    bucket
 }
 
 /// Where a walk is, and what it has at hand there.
@@ -165,6 +176,8 @@ pub(crate) struct Walk<'a, T> {
     pub(crate) own: Option<Own<'a, T>>,
     /// The tokens whose values it gives for sure.
     pub(crate) told: Told<T>,
+    /// The buckets behind the one that it is in that it has still to walk, a bit each.
+    pub(crate) left: u64,
     /// The row of the bucket that it is in, once it has loaded the bucket's pointer and it wasn't
     /// null.
     pub(crate) row: Option<Row<'a, T>>,
@@ -228,7 +241,7 @@ impl<'a, T> Walk<'a, T> {
         self.rest = rest;
     }
 
-    /// Moves on behind the bucket that the walk is in, and behind missing ones.
+    /// Moves on to the next bucket that is left, or past the last where none is.
     #[inline]
     fn go_on(&mut self)
         requires walk { IsWalk self.old }
@@ -241,8 +254,10 @@ impl<'a, T> Walk<'a, T> {
             self.old.told }
         ensures { GoesOn self.old self.new }
     {
-        let owed = self.own.is_some();
-        move_on(self.buckets, &mut self.raw, owed, self.told.list());
+        let bucket = take_first(&mut self.left);
+        self.raw.bucket = bucket;
+        self.raw.bucket_size = bucket_size(bucket);
+        self.raw.index = 0;
         self.row = None;
         self.chunks = 0;
     }
@@ -255,14 +270,19 @@ impl<'a, T> Walk<'a, T> {
         requires passed { self.old.rest ≡ 0 }
         ensures { Reaches self.old result self.new }
     {
-        while self.raw.bucket < BUCKETS {
-            self.look_in();
-            if self.rest != 0 {
-                return true;
-            }
-            self.go_on();
+        if self.raw.bucket == BUCKETS {
+            return false;
         }
-        false
+        self.look_in();
+        // A bucket that it comes to has no row at hand yet, so here the compiler drops that test.
+        while self.rest == 0 {
+            self.go_on();
+            if self.raw.bucket == BUCKETS {
+                return false;
+            }
+            self.look_in();
+        }
+        true
     }
 
     /// What the walk gives next.

@@ -4,32 +4,11 @@ ghost use Rattle.thread_local_base.specs.Place.{id_at};
 ghost use Rattle.thread_local_base.specs.Buckets.{row, stands, IsTable};
 ghost use Rattle.thread_local_base.specs.Rows.{with_row, empty_row};
 ghost use Rattle.thread_local_base.specs.Owner.{cleared_row};
-ghost use Rattle.thread_local_bucket_pointers.specs.Clearing.{AreCleared, AnyStands};
+ghost use Rattle.thread_local_bucket_pointers.specs.Clearing.{AreCleared};
 
 use super::BucketPointers;
-use crate::FlagSource;
+use crate::take_last;
 use thread_local_base::bucket_size;
-
-impl<T> BucketPointers<T> {
-    /// Whether any of eight buckets stands, from this one on. Eight pointers are tested at once.
-    #[inline]
-    pub(super) fn any_stands(&mut self, first: usize) -> bool
-        requires { first + 8 ≤ 63 }
-        ensures none { result ≡ false
-            → (bucket : ℕ)
-            → first ≤ bucket
-            → bucket < first + 8
-            → row self.old bucket ≡ [] }
-        ensures some { result ≡ true → AnyStands self.old first (first + 8) }
-        ensures same { self.new ≡ self.old }
-    {
-        let mut any = false;
-        for at in 0..8 {
-            any |= self.stands(first + at);
-        }
-        any
-    }
-}
 
 impl<T: Drop> BucketPointers<T> {
     /// Drops the values of a bucket, and frees it unless it has one of the first `reserved` slots.
@@ -68,34 +47,18 @@ impl<T: Drop> BucketPointers<T> {
         }
     }
 
-    /// `clear_between` of eight buckets, from this one on.
-    #[inline(never)]
-    fn clear_eight(&mut self, first: usize, reserved: usize)
-        requires inside { first + 8 ≤ 63 }
-        requires standing { (bucket : ℕ)
-            → first ≤ bucket
-            → bucket < first + 8
-            → id_at bucket 0 < reserved
-            → IsTrue (stands self.old bucket) }
-        ensures { AreCleared self.old self.new reserved first (first + 8) }
-    {
-        self.clear_between(first, first + 8, reserved);
-    }
-
     /// Drops every value. A bucket that has one of the first `reserved` slots stays, and every
-    /// other is freed. Behind the first seven buckets, eight of which none stands are skipped at once.
+    /// other is freed. Behind the first seven buckets only announced ones are looked at.
     #[inline(never)]
     pub fn clear(&mut self, reserved: usize)
         requires standing { (bucket : ℕ) → bucket < 63 → id_at bucket 0 < reserved → IsTrue (stands self.old bucket) }
         ensures rows { (bucket : ℕ) → bucket < 63 → row self.new bucket ≡ cleared_row reserved bucket }
         ensures table { IsTable self.new }
     {
-        let _ = &self.pointers;
-        for done in 0..7 {
-            let first = 55 - done * 8;
-            if self.any_stands(first) {
-                self.clear_eight(first, reserved);
-            }
+        let mut left = self.further();
+        'buckets: while left != 0 {
+            let bucket = take_last(&mut left);
+            self.clear_bucket(bucket, reserved);
         }
         self.clear_between(0, 7, reserved);
     }

@@ -6,7 +6,7 @@ ghost use Rattle.thread_local_base.specs.Walk.{walk};
 ghost use Rattle.thread_local_base.specs.Counting.{count_below};
 
 use super::BucketPointers;
-use crate::FlagSource;
+use crate::{FlagSource, take_first};
 use thread_local_base::bucket_size;
 
 impl<T> BucketPointers<T> {
@@ -72,28 +72,6 @@ impl<T> BucketPointers<T> {
         count + self.count_in_chunks(bucket, groups * 8, chunks)
     }
 
-    /// How many values the buckets `first..end` have.
-    #[inline(never)]
-    fn count_between(&mut self, first: usize, end: usize) -> usize
-        requires order { first < end }
-        requires inside { end ≤ 63 }
-        ensures same { self.new ≡ self.old }
-        ensures counted { count_below (values self.old) (id_at first 0) + result
-            ≡ count_below (values self.old) (id_at end 0) }
-    {
-        let mut count = 0;
-        // The size is doubled, not shifted anew: the loop over a bucket's chunks then ends at a
-        // plain number.
-        let mut size = bucket_size(first);
-        for bucket in first..end {
-            if self.stands(bucket) {
-                count += self.count_in_bucket(bucket, size);
-            }
-            size *= 2;
-        }
-        count
-    }
-
     /// How many values the first seven buckets have. The flags of each are one word.
     #[inline]
     fn count_in_first(&mut self) -> usize
@@ -110,7 +88,7 @@ impl<T> BucketPointers<T> {
     }
 
     /// How many values there are. It reads the flags of all slots of the buckets that stand. Behind
-    /// the first seven buckets, eight of which none stands are skipped at once.
+    /// the first seven buckets only announced ones are looked at.
     #[inline(never)]
     pub fn count_values(&mut self) -> usize
         ensures same { self.new ≡ self.old }
@@ -118,10 +96,11 @@ impl<T> BucketPointers<T> {
         ensures fits { result < 2 ^ 63 }
     {
         let mut count = self.count_in_first();
-        for group in 0..7 {
-            let first = group * 8 + 7;
-            if self.any_stands(first) {
-                count += self.count_between(first, first + 8);
+        let mut left = self.further();
+        'buckets: while left != 0 {
+            let bucket = take_first(&mut left);
+            if self.stands(bucket) {
+                count += self.count_in_bucket(bucket, bucket_size(bucket));
             }
         }
         count

@@ -25,6 +25,7 @@ impl<T> BucketPointers<T> {
         }
         let alloc = self.alloc;
         let block = Block::new(&alloc, bucket_size(bucket))?;
+        self.announced.bits |= 1 << bucket;
         self.pointers.pointer_mut(bucket).lay(block);
         Ok(())
     }

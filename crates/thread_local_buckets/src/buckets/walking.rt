@@ -18,7 +18,8 @@ impl<T> Buckets<T> {
         ensures rest { result.rest ≡ 0 }
         ensures ends { values_left result ≡ 0 → emptied self.old.contents ≡ self.old.contents }
     {
-        OwnerCursor::new(self.pointers.count_values())
+        let announced = self.pointers.announced();
+        OwnerCursor::new(self.pointers.count_values(), announced)
     }
 
     /// Moves out the next value of a walk, of which there must be one, and returns it with its id.

@@ -6,6 +6,7 @@ ghost use Rattle.thread_local_base.specs.Place.{bucket_of};
 
 use super::{ClaimedSlot, VACANT};
 use crate::SharedBucket;
+use crate::announcements::Announced;
 use std::alloc::Global;
 use std::marker::{Brand, PhantomData};
 use std::ptr::null_mut;
@@ -16,20 +17,23 @@ use thread_local_ids::Reached;
 
 impl<'a, T> ClaimedSlot<'a, T> {
     /// One compare and exchange: where the bucket's pointer is null, it points to the block from
-    /// then on, and else the block comes back. Either way the slot is vacant from then on. All ids
-    /// up to this one were held at once, so as many as the bucket has slots.
+    /// then on, and else the block comes back. Either way the slot is vacant from then on. The bucket
+    /// is announced. All ids up to this one were held at once, so as many as the bucket has slots.
     pub(crate) fn exchange(
         self,
         index: usize,
         block: Block<T, Global>,
         reached: Reached,
+        announced: Announced,
     ) -> (ClaimedSlot<'a, T>, Option<Block<T, Global>>)
         requires missing { self.learnt ≡ Missing }
         requires index { index ≡ self.index }
         requires made { (block.slots ≡ empty_slots (2 ^ bucket_of self.id)) × (block.left ≡ 0) }
         requires reached { (reached.table ≡ self.table) × (self.id < reached.ids) }
+        requires announced { (announced.by ≡ self.word) × (announced.bucket ≡ bucket_of self.id) }
         ensures same_slot { (result.0.table ≡ self.entry.table)
             × (result.0.sharing ≡ self.entry.sharing)
+            × (result.0.word ≡ self.entry.word)
             × (result.0.id ≡ self.entry.id)
             × (result.0.index ≡ self.entry.index) }
         ensures vacant { (result.0.learnt ≡ Vacant) × (result.0.reserved ≡ self.entry.reserved) }

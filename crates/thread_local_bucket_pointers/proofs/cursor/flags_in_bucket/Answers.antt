@@ -90,8 +90,8 @@ returns-then-flags-ne0-clause-same g c = c.flags-flags.ensures.same ∙ c.loop-c
 pub returns-then-flags-ne0-clause-yielded : goal.returns-then-flags-ne0-clause-yielded
 returns-then-flags-ne0-clause-yielded g c = ap (λ (r : RawIter). r.yielded) c.loop-chunk.invariant.raw
 
-pub returns-then-flags-ne0-clause-stays : goal.returns-then-flags-ne0-clause-stays
-returns-then-flags-ne0-clause-stays g c = λ none. absurd (let test = c.if-flags-ne0.true in omega (arith, test, none))
+pub returns-then-flags-ne0-clause-bucket : goal.returns-then-flags-ne0-clause-bucket
+returns-then-flags-ne0-clause-bucket g c = ap (λ (r : RawIter). r.bucket) c.loop-chunk.invariant.raw
 
 pub returns-then-flags-ne0-clause-behind : goal.returns-then-flags-ne0-clause-behind
 returns-then-flags-ne0-clause-behind g c = λ none. absurd (let test = c.if-flags-ne0.true in omega (arith, test, none))
@@ -110,5 +110,5 @@ returns-clause-ahead g c =
 pub returns-clause-yielded : goal.returns-clause-yielded
 returns-clause-yielded g c = ap (λ (r : RawIter). r.yielded) c.loop-chunk.invariant.raw
 
-pub returns-clause-stays : goal.returns-clause-stays
-returns-clause-stays g c = λ none. c.loop-chunk.invariant.raw
+pub returns-clause-bucket : goal.returns-clause-bucket
+returns-clause-bucket g c = ap (λ (r : RawIter). r.bucket) c.loop-chunk.invariant.raw

@@ -1,160 +1,115 @@
--- The walk goes from bucket to bucket until it finds flags that aren't 0.
-use Rattle.std.proofs.Common.{◌≡◌, ◌+◌, ◌-◌, ◌*◌, ◌^◌, ◌<◌, ◌≤◌, ℕ, sym, ◌∙◌, ap, subst, arith, [], refl, length}
+-- The walk goes from one announced bucket to the next until it finds flags that aren't 0.
+use Rattle.std.proofs.Common.{◌≡◌, ◌+◌, ◌^◌, ◌<◌, ◌≤◌, ℕ, false, length, refl, sym, ◌∙◌, subst, arith, pow_mono, ⊎_elim}
+use Rattle.std.proofs.lemmas.Bool.{cases_lt}
+use Rattle.thread_local_base.specs.Bits.{IsLowestSet, IsWordBut}
 use Rattle.thread_local_base.specs.Place.{id_at}
-use Rattle.thread_local_base.specs.Buckets.{Contents, values, row}
+use Rattle.thread_local_base.specs.Buckets.{Contents, values}
 use Rattle.thread_local_base.specs.Owner.{NoneBelow}
-use Rattle.thread_local_bucket_pointers.specs.Cursor.{next_bucket, read_to, IsAt}
+use Rattle.thread_local_base.specs.Walk.{walk}
+use Rattle.thread_local_base.proofs.TakingLaws.{walk-met}
+use Rattle.thread_local_bucket_pointers.specs.Announced.{AreAhead}
+use Rattle.thread_local_bucket_pointers.specs.Cursor.{at_bucket, read_to, IsAt}
 use Rattle.thread_local_bucket_pointers.specs.declared.cursor.RawIter.{RawIter}
-use Rattle.thread_local_bucket_pointers.proofs.FlagLaws.{at_next_bucket}
-use Rattle.thread_local_base.proofs.TakingLaws.{id_at-next, NoneBelow-end, NoneBelow-absent, walk-met}
+use Rattle.thread_local_bucket_pointers.proofs.FlagLaws.{at_start}
+use Rattle.thread_local_bucket_pointers.proofs.Passing.{takes, none_ahead, NoneBelow-passed}
 use Rattle.thread_local_bucket_pointers.proofs.cursor.next_flags.Goals as goal
-use Rattle.thread_local_bucket_pointers.proofs.cursor.next_flags.Goals.{then-stands+else-flags-ne0, else-stands}
 
--- the walk is at the first slot of the next bucket, and no value stands before it
-record IsOn {V : Type 0} (contents : Contents V) (b given : ℕ) (raw new : RawIter) : Type 0 where
-  here : new.bucket ≡ b + 1
-  at : b + 1 < 63 → IsAt contents new 0
-  behind : NoneBelow (values contents) (id_at (b + 1) (new.index - 64))
+-- where a value is left, a bucket is
+some_left : {V : Type 0} (c : Contents V) (left from : ℕ) → AreAhead c left from → from ≤ 63
+    → NoneBelow (values c) (id_at from 0) → 0 < length (walk (values c))
+    → 0 < left
+some_left c left from ahead low none some =
+    ⊎_elim
+    (λ (nothing : left < 1).
+    let end = NoneBelow-passed c from 63 low none (λ k after near. none_ahead c left from ahead (omega arith) k after near) in
+    absurd (omega (arith, some, walk-met c 63 0 (omega arith) end)))
+    (λ (more : 1 ≤ left). more)
+    (cases_lt left 1)
+
+-- the walk is at the first slot of the bucket that it took out of the word, and no value stands before
+-- it
+record IsOn {V : Type 0} (contents : Contents V) (rest b given : ℕ) (raw new : RawIter) : Type 0 where
+  here : new.bucket ≡ b
+  after : raw.bucket + 1 ≤ b
+  in_table : b < 63
+  announced : AreAhead contents rest (b + 1)
+  at : IsAt contents new 0
   ahead : given ≤ read_to new
   yielded : new.yielded ≡ raw.yielded
 
-is_on : {V : Type 0} (contents : Contents V) (b given : ℕ) (raw new : RawIter) → raw.bucket ≡ b
-    → raw.bucket_size ≡ 2 ^ b → new ≡ next_bucket raw
-    → NoneBelow (values contents) (id_at (b + 1) 0)
-    → given ≤ id_at (b + 1) 0 → IsOn contents b given raw new
-is_on {V} contents b given raw new here size is none ahead =
-    let next : RawIter = record { yielded = raw.yielded; bucket = b + 1; bucket_size = raw.bucket_size * 2; index = 0 } in
-    let same : new ≡ next = is ∙ (λ j. record next { bucket = here j + 1 }) in
-    let P : RawIter → Type 0 = λ r. IsOn contents b given raw r in
-    subst P (sym same) record {
+is_on : {V : Type 0} (contents : Contents V) (left rest b given : ℕ) (raw new : RawIter) → AreAhead contents left (raw.bucket + 1)
+    → IsLowestSet left b → IsWordBut rest left b false → new ≡ at_bucket raw b
+    → NoneBelow (values contents) (id_at (raw.bucket + 1) 0) → given ≤ id_at (raw.bucket + 1) 0
+    → IsOn contents rest b given raw new
+is_on contents left rest b given raw new ahead low but is none before =
+    let taken = takes contents left rest (raw.bucket + 1) b ahead low but in
+    let up : 2 ^ (raw.bucket + 1) ≤ 2 ^ b = pow_mono taken.after in
+    let P : RawIter → Type 0 = λ r. IsOn contents rest b given raw r in
+    subst P (sym is) record {
       here = refl;
-      at = λ low. at_next_bucket contents raw b raw.bucket_size size low none;
-      behind = λ id below. none id (omega arith);
-      ahead = omega arith;
+      after = taken.after;
+      in_table = taken.in_table;
+      announced = taken.ahead;
+      at = at_start contents raw b taken.in_table (NoneBelow-passed contents (raw.bucket + 1) b taken.after none taken.absent);
+      ahead = omega (arith, up, before);
       yielded = refl;
     }
 
--- a bucket without flags didn't move the walk
-stays : (g : _) (c : goal.After-next_bucket-arg-1 g) → c.if-stands.raw ≡ c.loop-bucket.raw
-stays g c = elim c.if-stands.branch [
-  | then-stands+else-flags-ne0 w ↦ w.raw-is ∙ w.flags_in_bucket-flags.ensures.stays w.if-flags-ne0.false
-  | else-stands w ↦ w.raw-is
-]
+-- what is known behind a bucket without a further flag
+record IsPassed {V : Type 0} (contents : Contents V) (left given : ℕ) (raw : RawIter) : Type 0 where
+  announced : AreAhead contents left (raw.bucket + 1)
+  none : NoneBelow (values contents) (id_at (raw.bucket + 1) 0)
+  before : given ≤ id_at (raw.bucket + 1) 0
 
-pub next_bucket-requires : goal.next_bucket-requires
-next_bucket-requires g c = let at = c.loop-bucket.invariant.at c.loop-bucket-test.true in let same = sym (stays g c) in
-    record {
-      in_table = subst (λ (r : RawIter). r.bucket < 63) same at.in_table;
-      size = subst (λ (r : RawIter). r.bucket_size ≡ 2 ^ r.bucket) same at.size;
-    }
-
-pub loop-bucket-preserved : goal.loop-bucket-preserved
-loop-bucket-preserved g c =
-    let kept = c.loop-bucket.invariant in
-    let b = c.loop-bucket.bucket in
-    let raw = c.loop-bucket.raw in
-    let first = g.P.FlagSource.contents c.args.source.now in
-    let given = g.P.FlagSource.given c.args.source.now in
-    let at = kept.at c.loop-bucket-test.true in
-    let size : raw.bucket_size ≡ 2 ^ b = at.size ∙ ap (λ b. 2 ^ b) kept.here in
-    let ahead : given ≤ id_at (b + 1) 0 = (let low = kept.ahead c.loop-bucket-test.true in
-    let here = kept.here in
-    omega (arith, low, here, size, id_at-next b)) in
-    let on : c.if-stands.raw ≡ raw → NoneBelow (values first) (id_at (b + 1) 0)
-    → IsOn first b given raw c.next_bucket.new.self = λ same none.
-    is_on first b given raw c.next_bucket.new.self kept.here size (c.next_bucket.ensures ∙ ap next_bucket same) none ahead in
-    elim c.if-stands.branch [
-      | then-stands+else-flags-ne0 w ↦
-          let found = w.flags_in_bucket-flags.ensures in
-          let P : g.row.P.Denot → Type 0 = λ l. NoneBelow (values (g.P.FlagSource.contents l)) (id_at raw.bucket raw.bucket_size) in
-          let passed = subst P (c.stands.ensures.same ∙ kept.same) (found.behind w.if-flags-ne0.false) in
-          let next =
-          on (w.raw-is ∙ found.stays w.if-flags-ne0.false)
-          (NoneBelow-end first b raw.bucket_size size (rw kept.here at passed)) in
-          record {
-            here = next.here;
-            at = next.at;
-            behind = next.behind;
-            same = w.source-is ∙ found.same ∙ c.stands.ensures.same ∙ kept.same;
-            ahead = λ _. next.ahead;
-            yielded = next.yielded ∙ kept.yielded;
-          }
-      | else-stands w ↦
-          let absent : row first b ≡ [] =
-          sym (ap (λ l. row (g.P.FlagSource.contents l) b) kept.same)
-          ∙ c.stands.ensures.absent w.if-stands.false in
-          let next = on w.raw-is (NoneBelow-absent first b (raw.index - 64) kept.behind absent) in
-          record {
-            here = next.here;
-            at = next.at;
-            behind = next.behind;
-            same = w.source-is ∙ c.stands.ensures.same ∙ kept.same;
-            ahead = λ _. next.ahead;
-            yielded = next.yielded ∙ kept.yielded;
-          }
-    ]
-
-pub unreachable-requires : goal.unreachable-requires
-unreachable-requires g c =
-    let none =
-    walk-met (g.P.FlagSource.contents c.args.source.now) c.loop-bucket.bucket
-    (c.loop-bucket.raw.index - 64) c.loop-bucket-test.false c.loop-bucket.invariant.behind in
-    omega (arith, none, c.requires.some)
-
--- The search for all of these takes two seconds.
-pub loop-bucket-init : goal.loop-bucket-init
-loop-bucket-init g c = let at = c.requires.at in record {
-  here = refl;
-  at = λ _. at;
-  behind = at.behind;
-  same = refl;
-  ahead = λ _. c.requires.ahead;
-  yielded = refl;
+is_passed : {V : Type 0} (contents : Contents V) (left given : ℕ) (raw new : RawIter) → new.bucket ≡ raw.bucket
+    → AreAhead contents left (raw.bucket + 1) → NoneBelow (values contents) (id_at (raw.bucket + 1) 0)
+    → given ≤ id_at (raw.bucket + 1) 0
+    → IsPassed contents left given new
+is_passed contents left given raw new same announced none before = record {
+  announced = subst (λ (b : ℕ). AreAhead contents left (b + 1)) (sym same) announced;
+  none = subst (λ (b : ℕ). NoneBelow (values contents) (id_at (b + 1) 0)) (sym same) none;
+  before = subst (λ (b : ℕ). given ≤ id_at (b + 1) 0) (sym same) before;
 }
 
-pub stands-requires : goal.stands-requires
-stands-requires g c = c.loop-bucket-test.true
+pub flags_here-flags-requires-clause-at : goal.flags_here-flags-requires-clause-at
+flags_here-flags-requires-clause-at g c =
+    subst (λ (l : g.row.P.Denot). IsAt (g.P.FlagSource.contents l) c.buckets.raw 0) (sym c.buckets.invariant.same) c.buckets.invariant.at
 
-pub flags_in_bucket-flags-requires-clause-at : goal.flags_in_bucket-flags-requires-clause-at
-flags_in_bucket-flags-requires-clause-at g c = let kept = c.loop-bucket.invariant in
-    subst (λ l. IsAt (g.P.FlagSource.contents l) c.loop-bucket.raw 0)
-    (sym (c.stands.ensures.same ∙ kept.same))
-    (kept.at c.loop-bucket-test.true)
+pub flags_here-flags-requires-clause-ahead : goal.flags_here-flags-requires-clause-ahead
+flags_here-flags-requires-clause-ahead g c =
+    subst (λ (l : g.row.P.Denot). g.P.FlagSource.given l ≤ read_to c.buckets.raw) (sym c.buckets.invariant.same) c.buckets.invariant.ahead
 
-pub flags_in_bucket-flags-requires-clause-whole : goal.flags_in_bucket-flags-requires-clause-whole
-flags_in_bucket-flags-requires-clause-whole g c =
-    let kept = c.loop-bucket.invariant in
-    let whole : length (row (g.P.FlagSource.contents c.loop-bucket.source) c.loop-bucket.bucket) ≡ 2 ^ c.loop-bucket.bucket =
-    c.stands.ensures.whole c.if-stands.true in
-    ap (λ l. length (row (g.P.FlagSource.contents l) c.loop-bucket.raw.bucket)) c.stands.ensures.same
-    ∙ ap (λ (b : ℕ). length (row (g.P.FlagSource.contents c.loop-bucket.source) b)) kept.here
-    ∙ whole
-    ∙ ap (λ (b : ℕ). 2 ^ b) (sym kept.here)
-    ∙ sym (kept.at c.loop-bucket-test.true).size
+pub take_first-requires : goal.take_first-requires
+take_first-requires g c =
+    let kept = c.buckets.invariant in
+    let first = c.args.source.now in
+    let low = kept.at.in_table in
+    let none =
+    subst (λ (l : g.row.P.Denot). NoneBelow (values (g.P.FlagSource.contents l)) (id_at (c.buckets.raw.bucket + 1) 0))
+    kept.same (c.flags_here-flags.ensures.behind c.if-flags-ne0.false) in
+    some_left (g.P.FlagSource.contents first) c.buckets.left (c.buckets.raw.bucket + 1) kept.announced (omega arith) none
+    c.requires.some
 
-pub flags_in_bucket-flags-requires-clause-ahead : goal.flags_in_bucket-flags-requires-clause-ahead
-flags_in_bucket-flags-requires-clause-ahead g c = let kept = c.loop-bucket.invariant in
-    subst (λ l. g.P.FlagSource.given l ≤ read_to c.loop-bucket.raw)
-    (sym (c.stands.ensures.same ∙ kept.same))
-    (kept.ahead c.loop-bucket-test.true)
-
-pub returns-then-flags-ne0-clause-same : goal.returns-then-flags-ne0-clause-same
-returns-then-flags-ne0-clause-same g c =
-    c.flags_in_bucket-flags.ensures.same ∙ c.stands.ensures.same ∙ c.loop-bucket.invariant.same
-
-pub returns-then-flags-ne0-clause-at : goal.returns-then-flags-ne0-clause-at
-returns-then-flags-ne0-clause-at g c =
-    let found = c.flags_in_bucket-flags in
-    let some : 0 < found.result = (let test = c.if-flags-ne0.true in omega (arith, test)) in
-    subst (λ l. IsAt (g.P.FlagSource.contents l) found.new.raw found.result)
-    (c.stands.ensures.same ∙ c.loop-bucket.invariant.same)
-    (found.ensures.found some)
-
-pub returns-then-flags-ne0-clause-ahead : goal.returns-then-flags-ne0-clause-ahead
-returns-then-flags-ne0-clause-ahead g c = let found = c.flags_in_bucket-flags in
-    subst (λ l. g.P.FlagSource.given l ≤ read_to found.new.raw)
-    (c.stands.ensures.same ∙ c.loop-bucket.invariant.same)
-    found.ensures.ahead
-
-pub returns-then-flags-ne0-clause-yielded : goal.returns-then-flags-ne0-clause-yielded
-returns-then-flags-ne0-clause-yielded g c = c.flags_in_bucket-flags.ensures.yielded ∙ c.loop-bucket.invariant.yielded
+pub buckets-preserved : goal.buckets-preserved
+buckets-preserved g c =
+    let kept = c.buckets.invariant in
+    let first = c.args.source.now in
+    let read = c.flags_here-flags in
+    let contents = g.P.FlagSource.contents first in
+    let given = g.P.FlagSource.given first in
+    let next : ℕ = id_at (c.buckets.raw.bucket + 1) 0 in
+    let none =
+    subst (λ (l : g.row.P.Denot). NoneBelow (values (g.P.FlagSource.contents l)) next) kept.same
+    (read.ensures.behind c.if-flags-ne0.false) in
+    let before = subst (λ (l : g.row.P.Denot). g.P.FlagSource.given l ≤ next) kept.same read.ensures.before in
+    let passed = is_passed contents c.buckets.left given c.buckets.raw read.new.raw read.ensures.bucket kept.announced none before in
+    let on =
+    is_on contents c.buckets.left c.take_first.new.buckets c.take_first.result given read.new.raw c.enter.new.self
+    passed.announced c.take_first.ensures.first c.take_first.ensures.rest c.enter.ensures passed.none passed.before in
+    record {
+      at = on.at;
+      announced = subst (λ (b : ℕ). AreAhead contents c.take_first.new.buckets (b + 1)) (sym on.here) on.announced;
+      same = read.ensures.same ∙ kept.same;
+      ahead = on.ahead;
+      yielded = on.yielded ∙ read.ensures.yielded ∙ kept.yielded;
+    }

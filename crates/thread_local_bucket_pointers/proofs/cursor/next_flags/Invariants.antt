@@ -1,17 +1,17 @@
-use Rattle.std.proofs.Common.{◌≡◌, ◌-◌, ◌<◌, ◌≤◌}
-use Rattle.thread_local_base.specs.Place.{id_at}
-use Rattle.thread_local_base.specs.Buckets.{values}
-use Rattle.thread_local_base.specs.Owner.{NoneBelow}
+use Rattle.std.proofs.Common.{◌≡◌, ◌+◌, ◌-◌, ◌≤◌}
+use Rattle.thread_local_bucket_pointers.specs.Announced.{AreAhead}
 use Rattle.thread_local_bucket_pointers.specs.Cursor.{read_to, IsAt}
 use Rattle.thread_local_bucket_pointers.proofs.cursor.next_flags.Given as goal
 
--- the walk is in this bucket, or past the last, and no value stands before its place
-abbrev pub invariant-loop-bucket : goal.invariant-loop-bucket
-invariant-loop-bucket g l = record {
-  here : l.raw.bucket ≡ l.bucket;
-  at : l.bucket < 63 → IsAt (g.P.FlagSource.contents l.initial.source) l.raw 0;
-  behind : NoneBelow (values (g.P.FlagSource.contents l.initial.source)) (id_at l.bucket (l.raw.index - 64));
+-- no value stands before the walk's place, and the word has the announced buckets behind
+abbrev pub invariant-buckets : goal.invariant-buckets
+invariant-buckets g l = record {
+  at : IsAt (g.P.FlagSource.contents l.initial.source) l.raw 0;
+  announced : AreAhead (g.P.FlagSource.contents l.initial.source) l.left (l.raw.bucket + 1);
   same : l.source ≡ l.initial.source;
-  ahead : l.bucket < 63 → g.P.FlagSource.given l.initial.source ≤ read_to l.raw;
+  ahead : g.P.FlagSource.given l.initial.source ≤ read_to l.raw;
   yielded : l.raw.yielded ≡ l.initial.raw.yielded;
 }
+
+abbrev pub decreases-buckets : goal.decreases-buckets
+decreases-buckets g l = 63 - l.raw.bucket

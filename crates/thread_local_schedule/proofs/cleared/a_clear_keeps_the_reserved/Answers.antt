@@ -12,3 +12,6 @@ returns-clause-same g c = laws.number_at-cleared
 
 pub returns-clause-made : goal.returns-clause-made
 returns-clause-made g c = laws.made-cleared
+
+pub returns-clause-announced : goal.returns-clause-announced
+returns-clause-announced g c = laws.announced-cleared

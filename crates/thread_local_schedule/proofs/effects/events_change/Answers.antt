@@ -33,6 +33,15 @@ returns-clause-writes g c = λ core n local v r. laws.writes_value core n local 
 pub returns-clause-sets_flag : goal.returns-clause-sets_flag
 returns-clause-sets_flag g c = λ core n local r. laws.sets_flag core n local (clause.fits core r)
 
+pub returns-clause-makes : goal.returns-clause-makes
+returns-clause-makes g c = laws.makes
+
+pub returns-clause-announces : goal.returns-clause-announces
+returns-clause-announces g c = laws.announces
+
+pub returns-clause-announced : goal.returns-clause-announced
+returns-clause-announced g c = laws.announced
+
 pub returns-clause-installs : goal.returns-clause-installs
 returns-clause-installs g c = laws.installs
 

@@ -6,6 +6,7 @@ use Rattle.thread_local_schedule.proofs.Clauses as clause
 use Rattle.thread_local_schedule.proofs.Enabled as may
 use Rattle.thread_local_schedule.proofs.EventRules as rule
 use Rattle.thread_local_schedule.proofs.Installs.{event_installs}
+use Rattle.thread_local_schedule.proofs.Announcing as announcing
 use Rattle.thread_local_schedule.proofs.event.events_say.Goals as goal
 
 pub returns-clause-made_open : goal.returns-clause-made_open
@@ -58,6 +59,15 @@ returns-clause-asks g c = rule.asks
 
 pub returns-clause-installs : goal.returns-clause-installs
 returns-clause-installs g c = event_installs
+
+pub returns-clause-announces : goal.returns-clause-announces
+returns-clause-announces g c = announcing.announced_by
+
+pub returns-clause-stays_announced : goal.returns-clause-stays_announced
+returns-clause-stays_announced g c = announcing.stays_announced
+
+pub returns-clause-announced_before : goal.returns-clause-announced_before
+returns-clause-announced_before g c = λ core event bucket r. announcing.announced_before core event bucket (clause.fits core r)
 
 pub returns-clause-fails : goal.returns-clause-fails
 returns-clause-fails g c = λ core n local e r. rule.fails core n local e (clause.fits core r)

@@ -137,6 +137,12 @@ returns-clause-stands_nowhere g c = λ core n local number bucket r. (clause.fit
 pub returns-clause-one_call : goal.returns-clause-one_call
 returns-clause-one_call g c = λ core m n a b number r. (clause.fits core r).numbers.own_apart m n a b number
 
+pub returns-clause-announced : goal.returns-clause-announced
+returns-clause-announced g c = λ core bucket r. (clause.fits core r).table.announced bucket
+
+pub returns-clause-first_announced : goal.returns-clause-first_announced
+returns-clause-first_announced g c = λ core bucket r. (clause.fits core r).table.first_announced bucket
+
 pub returns-clause-peak : goal.returns-clause-peak
 returns-clause-peak g c = λ capacity extra events l.
     bound.peak_run (made_core capacity extra) events 0 (made_core-fits capacity extra l) refl

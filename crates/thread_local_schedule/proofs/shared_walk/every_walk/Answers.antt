@@ -21,11 +21,17 @@ returns-clause-ends g c = event.ends
 pub returns-clause-may_end : goal.returns-clause-may_end
 returns-clause-may_end g c = event.may_end
 
+pub returns-clause-pass_adds : goal.returns-clause-pass_adds
+returns-clause-pass_adds g c = λ core n before r. event.pass_adds core n before (clause.fits core r)
+
 pub returns-clause-load_adds : goal.returns-clause-load_adds
 returns-clause-load_adds g c = λ core n before r. event.load_adds core n before (clause.fits core r)
 
 pub returns-clause-look_adds : goal.returns-clause-look_adds
 returns-clause-look_adds g c = λ core n before r. event.look_adds core n before (clause.fits core r)
+
+pub returns-clause-pass_moves : goal.returns-clause-pass_moves
+returns-clause-pass_moves g c = λ core n before r. event.pass_moves core n before (clause.fits core r)
 
 pub returns-clause-load_moves : goal.returns-clause-load_moves
 returns-clause-load_moves g c = λ core n before r. event.load_moves core n before (clause.fits core r)
@@ -47,3 +53,6 @@ returns-clause-reads_once g c = λ core n walk r at. ((clause.fits core r).walks
 
 pub returns-clause-loads : goal.returns-clause-loads
 returns-clause-loads g c = λ core n walk r at. known.loads core n walk (clause.fits core r) at
+
+pub returns-clause-loads_announced : goal.returns-clause-loads_announced
+returns-clause-loads_announced g c = λ core n walk r at. known.all_loaded core n walk (clause.fits core r) at

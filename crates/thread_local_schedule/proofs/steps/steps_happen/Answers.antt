@@ -17,6 +17,9 @@ returns-clause-looks g c = needs.looks
 pub returns-clause-asks : goal.returns-clause-asks
 returns-clause-asks g c = needs.asks
 
+pub returns-clause-announces : goal.returns-clause-announces
+returns-clause-announces g c = needs.announces
+
 pub returns-clause-installs : goal.returns-clause-installs
 returns-clause-installs g c = λ core n local r. needs.installs core n local (clause.fits core r)
 
@@ -31,6 +34,9 @@ returns-clause-replies g c = needs.replies
 
 pub returns-clause-walk_loads : goal.returns-clause-walk_loads
 returns-clause-walk_loads g c = needs.walk_loads
+
+pub returns-clause-walk_passes : goal.returns-clause-walk_passes
+returns-clause-walk_passes g c = needs.walk_passes
 
 pub returns-clause-walk_looks : goal.returns-clause-walk_looks
 returns-clause-walk_looks g c = needs.walk_looks

@@ -2,7 +2,7 @@ use Rattle.thread_local_schedule.proofs.WalkStepLaws as laws
 use Rattle.thread_local_schedule.proofs.walks.every_walk_step.Goals as goal
 
 pub returns-clause-begins : goal.returns-clause-begins
-returns-clause-begins g c = laws.fresh_walk-fits
+returns-clause-begins g c = laws.begun_walk-fits
 
 pub returns-clause-fits : goal.returns-clause-fits
 returns-clause-fits g c = laws.walk_step-fits

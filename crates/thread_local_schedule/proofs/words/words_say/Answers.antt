@@ -146,8 +146,14 @@ returns-clause-answers_none g c = λ view. refl
 pub returns-clause-answers_more : goal.returns-clause-answers_more
 returns-clause-answers_more g c = λ view call calls. refl
 
-pub returns-clause-fresh : goal.returns-clause-fresh
-returns-clause-fresh g c = (refl, refl, refl, refl, λ id. refl)
+pub returns-clause-begun : goal.returns-clause-begun
+returns-clause-begun g c = λ table. (refl, refl, refl, refl, refl, refl)
+
+pub returns-clause-none_among : goal.returns-clause-none_among
+returns-clause-none_among g c = says.none_among
+
+pub returns-clause-one_among : goal.returns-clause-one_among
+returns-clause-one_among g c = says.one_among
 
 pub returns-clause-alone : goal.returns-clause-alone
 returns-clause-alone g c = λ core n x. (x.locals n, x.walks n)

@@ -1,7 +1,9 @@
-use Rattle.std.proofs.Common.{◌-◌, ◌*◌}
-use Rattle.thread_local_bucket_pointers.specs.Clearing.{AreCleared}
+use Rattle.thread_local_bucket_pointers.proofs.Clearing.{AreClearedBut}
 use Rattle.thread_local_bucket_pointers.proofs.bucket_pointers.BucketPointers.clear.Given as goal
 
--- the last groups of buckets are cleared, and the others are unchanged
-abbrev pub invariant-loop-done : goal.invariant-loop-done
-invariant-loop-done g l = AreCleared l.fn.self l.self l.fn.reserved (63 - l.done * 8) 63
+-- the buckets behind the first seven are cleared, but those that the word still has
+abbrev pub invariant-buckets : goal.invariant-buckets
+invariant-buckets g l = AreClearedBut l.fn.self l.self l.fn.reserved l.left
+
+abbrev pub decreases-buckets : goal.decreases-buckets
+decreases-buckets g l = l.left

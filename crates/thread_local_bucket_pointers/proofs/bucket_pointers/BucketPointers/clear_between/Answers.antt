@@ -11,4 +11,4 @@ buckets-init g c =
     let P : ℕ → Type 0 = λ k. AreCleared c.args.self.now c.args.self.now c.args.reserved k end in
     subst P here
     (AreCleared-none c.args.self.now c.args.reserved end
-    (subst (λ (z : Contents g.row.T.Denot). IsTable z) c.self.view_is c.self.invariant))
+    (subst (λ (z : Contents g.row.T.Denot). IsTable z) c.self.view_is c.self.invariant.0))

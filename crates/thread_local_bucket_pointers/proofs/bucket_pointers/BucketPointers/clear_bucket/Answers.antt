@@ -5,10 +5,11 @@ use Rattle.std.proofs.lemmas.List.{nil_from_length}
 use Rattle.thread_local_base.specs.Place.{id_at}
 use Rattle.thread_local_base.specs.Buckets.{Contents, row, stands, IsTable}
 use Rattle.thread_local_base.specs.Rows.{empty_row, with_row}
-use Rattle.thread_local_base.proofs.RowLaws.{row_whole, IsTable-with_row, length-empty_row}
+use Rattle.thread_local_base.proofs.RowLaws.{row_whole, length-empty_row}
 use Rattle.thread_local_bucket_pointers.specs.Clearing.{AreCleared}
 use Rattle.thread_local_bucket_pointers.specs.Pointers.{contents_of}
 use Rattle.thread_local_bucket_pointers.specs.Slots.{empty_slots}
+use Rattle.thread_local_bucket_pointers.proofs.Announcing.{IsAnnounced, IsAnnounced-with_row}
 use Rattle.thread_local_bucket_pointers.proofs.Clearing.{AreCleared-none, AreCleared-more}
 use Rattle.thread_local_bucket_pointers.proofs.ContentsOf.{row_of_pointer, row_changes, row_seen}
 use Rattle.thread_local_bucket_pointers.proofs.bucket_pointers.BucketPointers.clear_bucket.Goals as goal
@@ -54,7 +55,7 @@ empty-requires g c =
     ap (λ (z : Contents g.row.T.Denot). stands z b) c.self.view_is ∙ c.requires.standing (omega arith) in
     ap (λ w. length w.slots) c.pointer_mut.ensures.value
     ∙ sym (ap length (row_of_pointer s b))
-    ∙ row_whole (contents_of s) b 0 c.self.invariant (ltb-true 0 (length (row (contents_of s) b)) standing)
+    ∙ row_whole (contents_of s) b 0 c.self.invariant.0 (ltb-true 0 (length (row (contents_of s) b)) standing)
     ∙ sym size
 
 pub release-requires : goal.release-requires
@@ -64,30 +65,38 @@ release-requires g c =
     let pointer = c.pointer_mut-else-size-reserved.result.now in
     none_or_all (row s b) pointer.slots (2 ^ b) c.bucket_size-size.result
     (row_seen c.self.inside.pointers s b pointer refl c.pointer_mut-else-size-reserved.ensures.value)
-    c.bucket_size-size.ensures (c.self.invariant.whole b)
+    c.bucket_size-size.ensures (c.self.invariant.0.whole b)
 
 pub invariant_of-self : goal.invariant_of-self
 invariant_of-self g c =
     let s = c.self.inside.pointers in
     let b : ℕ = c.args.bucket in
     let made = row_emptied c.empty.new.self.slots c.bucket_size-size.result b c.empty.ensures c.bucket_size-size.ensures in
-    subst (λ (z : Contents g.row.T.Denot). IsTable z)
+    let some = pow_pos b in
+    let size = c.bucket_size-size.ensures in
+    let fits = c.if-size-reserved.true in
+    let standing : stands (contents_of s) b ≡ true =
+    ap (λ (z : Contents g.row.T.Denot). stands z b) c.self.view_is ∙ c.requires.standing (omega arith) in
+    subst (λ (z : Contents g.row.T.Denot). IsAnnounced c.self.inside.announced.bits z)
     (sym (row_changes s b c.empty.new.self (empty_row b) made))
-    (IsTable-with_row (contents_of s) b (empty_row b) c.self.invariant (inr (length-empty_row _ b)))
+    (IsAnnounced-with_row c.self.inside.announced.bits (contents_of s) b (empty_row b) c.requires.in_table
+    (inr (length-empty_row _ b)) (λ _. c.self.invariant.1.standing b c.requires.in_table standing)
+    c.self.invariant)
 
 pub invariant_of-self-else-size-reserved : goal.invariant_of-self-else-size-reserved
 invariant_of-self-else-size-reserved g c =
     let s = c.self.inside.pointers in
-    subst (λ (z : Contents g.row.T.Denot). IsTable z)
+    subst (λ (z : Contents g.row.T.Denot). IsAnnounced c.self.inside.announced.bits z)
     (sym (row_changes s c.args.bucket c.release.new.self [] c.release.ensures))
-    (IsTable-with_row (contents_of s) c.args.bucket [] c.self.invariant (inl refl))
+    (IsAnnounced-with_row c.self.inside.announced.bits (contents_of s) c.args.bucket [] c.requires.in_table
+    (inl refl) (λ some. absurd (omega (arith, some))) c.self.invariant)
 
 pub returns-then-size-reserved : goal.returns-then-size-reserved
 returns-then-size-reserved g c =
     let b : ℕ = c.args.bucket in
     let made = row_emptied c.empty.new.self.slots c.bucket_size-size.result b c.empty.ensures c.bucket_size-size.ensures in
     reserved_cleared c.args.self.now _ c.args.reserved b
-    (subst (λ (z : Contents g.row.T.Denot). IsTable z) c.self.view_is c.self.invariant) c.requires.in_table
+    (subst (λ (z : Contents g.row.T.Denot). IsTable z) c.self.view_is c.self.invariant.0) c.requires.in_table
     (omega (arith, c.if-size-reserved.true, c.bucket_size-size.ensures))
     (row_changes c.self.inside.pointers b c.empty.new.self (empty_row b) made
     ∙ ap (λ (z : Contents g.row.T.Denot). with_row z b (empty_row b)) c.self.view_is)
@@ -96,7 +105,7 @@ pub returns-else-size-reserved : goal.returns-else-size-reserved
 returns-else-size-reserved g c =
     let b : ℕ = c.args.bucket in
     other_cleared c.args.self.now _ c.args.reserved b
-    (subst (λ (z : Contents g.row.T.Denot). IsTable z) c.self.view_is c.self.invariant) c.requires.in_table
+    (subst (λ (z : Contents g.row.T.Denot). IsTable z) c.self.view_is c.self.invariant.0) c.requires.in_table
     (omega (arith, c.if-size-reserved.false, c.bucket_size-size.ensures))
     (row_changes c.self.inside.pointers b c.release.new.self [] c.release.ensures
     ∙ ap (λ (z : Contents g.row.T.Denot). with_row z b []) c.self.view_is)

@@ -1,12 +1,13 @@
 use Rattle.std.specs.Prelude.{OnErr}
-use Rattle.std.proofs.Common.{◌≡◌, ◌∙◌, ◌^◌, ℕ, List, Option, Result, Ok, Err, length, inr, lit<, sym, ap, subst, arith, pow_pos}
+use Rattle.std.proofs.Common.{◌≡◌, ◌∙◌, ◌*◌, ◌^◌, ◌%◌, ℕ, bit_or, List, Option, Result, Ok, Err, length, inr, lit<, sym, ap, subst, arith, pow_pos}
 use Rattle.std.proofs.lemmas.Bool.{cond-true, cond-false}
-use Rattle.thread_local_base.specs.Buckets.{Contents, row, stands, IsTable}
+use Rattle.thread_local_base.specs.Buckets.{Contents, row, stands}
 use Rattle.thread_local_base.specs.Rows.{with_row, empty_row}
-use Rattle.thread_local_base.proofs.RowLaws.{IsTable-with_row, length-empty_row}
+use Rattle.thread_local_base.proofs.RowLaws.{length-empty_row}
 use Rattle.thread_local_base.proofs.StandingLaws.{row-absent}
 use Rattle.thread_local_bucket_pointers.specs.Slots.{empty_slots}
 use Rattle.thread_local_bucket_pointers.specs.Pointers.{contents_of}
+use Rattle.thread_local_bucket_pointers.proofs.Announcing.{IsAnnounced, IsAnnounced-laid}
 use Rattle.thread_local_bucket_pointers.proofs.ContentsOf.{row_changes, row_seen}
 use Rattle.thread_local_bucket_pointers.proofs.bucket_pointers.BucketPointers.ensure_bucket.Goals as goal
 
@@ -63,10 +64,10 @@ invariant_of-self g c =
     let b : ℕ = c.args.bucket in
     let made = new_row c.in_ok-block.block.slots c.bucket_size.result b c.in_ok-block.ensures.1 c.bucket_size.ensures in
     let s = c.self.inside.pointers in
-    subst (λ (z : Contents g.row.T.Denot). IsTable z)
+    let word : ℕ = c.self.inside.announced.bits in
+    subst (λ (z : Contents g.row.T.Denot). IsAnnounced (bit_or word (1 * 2 ^ b % 2 ^ 64)) z)
     (sym (row_changes s b c.lay.new.self (empty_row b) (c.lay.ensures ∙ made)))
-    (IsTable-with_row (contents_of s) b (empty_row b) c.self.invariant
-    (inr (length-empty_row _ b)))
+    (IsAnnounced-laid word (contents_of s) b (empty_row b) c.requires (inr (length-empty_row _ b)) c.self.invariant)
 
 pub returns-clause-ok : goal.returns-clause-ok
 returns-clause-ok g c =

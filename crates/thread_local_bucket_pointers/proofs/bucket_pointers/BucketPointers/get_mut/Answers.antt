@@ -1,16 +1,16 @@
 use Rattle.std.proofs.Common.{◌≡◌, refl, sym, ap, ◌∙◌, subst, Some}
-use Rattle.thread_local_base.specs.Buckets.{Contents, IsTable}
+use Rattle.thread_local_base.specs.Buckets.{Contents}
 use Rattle.thread_local_base.specs.Rows.{value_in, with_slot}
-use Rattle.thread_local_base.proofs.RowLaws.{IsTable-with_slot}
 use Rattle.thread_local_bucket_pointers.specs.Pointers.{contents_of}
+use Rattle.thread_local_bucket_pointers.proofs.Announcing.{IsAnnounced, IsAnnounced-with_slot}
 use Rattle.thread_local_bucket_pointers.proofs.ContentsOf.{value_changes}
 use Rattle.thread_local_bucket_pointers.proofs.bucket_pointers.BucketPointers.get_mut.Goals as goal
 
 pub invariant_of-self-lent : goal.invariant_of-self-lent
 invariant_of-self-lent g c = λ w. let s = c.self.inside.pointers in
-    subst (λ (z : Contents g.row.T.Denot). IsTable z)
+    subst (λ (z : Contents g.row.T.Denot). IsAnnounced c.self.inside.announced.bits z)
     (sym (value_changes s c.args.thread.bucket c.args.thread.index w))
-    (IsTable-with_slot (contents_of s) c.args.thread.bucket c.args.thread.index (Some w)
+    (IsAnnounced-with_slot c.self.inside.announced.bits (contents_of s) c.args.thread.bucket c.args.thread.index (Some w)
     c.self.invariant)
 
 pub returns : goal.returns

@@ -1,11 +1,11 @@
 use Rattle.std.specs.Prelude.{◌/◌, ◌<◌, ℕ, slice_index_or}
 use Rattle.std.proofs.Common.{sym, ap, ◌∙◌, subst, List, Option, Some, None, length}
-use Rattle.thread_local_base.specs.Buckets.{Contents, IsTable}
+use Rattle.thread_local_base.specs.Buckets.{Contents}
 use Rattle.thread_local_base.specs.Rows.{with_slot}
-use Rattle.thread_local_base.proofs.RowLaws.{IsTable-with_slot}
 use Rattle.thread_local_bucket_pointers.specs.Pointers.{contents_of}
 use Rattle.thread_local_bucket_pointers.specs.Slots.{flag_word_at}
 use Rattle.thread_local_bucket_pointers.specs.contracts.bucket_pointers.BucketPointers.publish.{T-row}
+use Rattle.thread_local_bucket_pointers.proofs.Announcing.{IsAnnounced, IsAnnounced-with_slot}
 use Rattle.thread_local_bucket_pointers.proofs.ContentsOf.{size_of_pointer, slot_changes, row_seen}
 use Rattle.thread_local_bucket_pointers.proofs.bucket_pointers.BucketPointers.publish.Goals as goal
 
@@ -15,8 +15,8 @@ invariant_of-self g c =
     let changed =
     slot_changes s c.args.thread.bucket c.pointer_mut.result.now c.publish.new.self
     c.args.thread.index (Some c.args.value) c.pointer_mut.ensures.value c.publish.ensures in
-    subst (λ (z : Contents g.row.T.Denot). IsTable z) (sym changed)
-    (IsTable-with_slot (contents_of s) c.args.thread.bucket c.args.thread.index
+    subst (λ (z : Contents g.row.T.Denot). IsAnnounced c.self.inside.announced.bits z) (sym changed)
+    (IsAnnounced-with_slot c.self.inside.announced.bits (contents_of s) c.args.thread.bucket c.args.thread.index
     (Some c.args.value) c.self.invariant)
 
 pub returns : goal.returns
@@ -33,7 +33,7 @@ publish-requires-clause-flag_word g c = c.flag_word_at-flag_word.ensures
     ∙ ap (λ (n : ℕ). flag_word_at (T-row g.row.T) n (c.args.thread.index / 64))
     (size_of_pointer c.self.inside.pointers c.args.self.now c.args.thread.bucket
     c.args.thread.index c.bucket_size.result c.pointer_mut.result.now c.self.view_is
-    c.self.invariant c.pointer_mut.ensures.value c.requires.in_bucket c.bucket_size.ensures)
+    c.self.invariant.0 c.pointer_mut.ensures.value c.requires.in_bucket c.bucket_size.ensures)
 
 pub publish-requires-clause-in_block : goal.publish-requires-clause-in_block
 publish-requires-clause-in_block g c =

@@ -2,10 +2,11 @@ use Rattle.std.specs.Prelude.{◌/◌, ◌*◌, ◌+◌, ◌<◌, ℕ, slice_ind
 use Rattle.std.proofs.Common.{◌≡◌, sym, ap, ◌∙◌, subst, List, Option, None, is_some, length, set, arith}
 use Rattle.thread_local_base.specs.Buckets.{Contents, IsTable, row}
 use Rattle.thread_local_base.specs.Rows.{with_slot}
-use Rattle.thread_local_base.proofs.RowLaws.{IsTable-with_slot, row-with_row-same}
+use Rattle.thread_local_base.proofs.RowLaws.{row-with_row-same}
 use Rattle.thread_local_bucket_pointers.specs.Pointers.{contents_of}
 use Rattle.thread_local_bucket_pointers.specs.Slots.{flag_word_at}
 use Rattle.thread_local_bucket_pointers.specs.contracts.bucket_pointers.BucketPointers.take_and_store.{T-row}
+use Rattle.thread_local_bucket_pointers.proofs.Announcing.{IsAnnounced, IsAnnounced-with_slot}
 use Rattle.thread_local_bucket_pointers.proofs.ContentsOf.{size_of_pointer, slot_changes, row_seen}
 use Rattle.thread_local_bucket_pointers.proofs.bucket_pointers.BucketPointers.take_and_store.Goals as goal
 
@@ -15,8 +16,8 @@ invariant_of-self g c =
     let changed =
     slot_changes s c.args.bucket c.pointer_mut.result.now c.take_and_store.new.self c.args.index
     None c.pointer_mut.ensures.value c.take_and_store.ensures.after in
-    subst (λ (z : Contents g.row.T.Denot). IsTable z) (sym changed)
-    (IsTable-with_slot (contents_of s) c.args.bucket c.args.index None c.self.invariant)
+    subst (λ (z : Contents g.row.T.Denot). IsAnnounced c.self.inside.announced.bits z) (sym changed)
+    (IsAnnounced-with_slot c.self.inside.announced.bits (contents_of s) c.args.bucket c.args.index None c.self.invariant)
 
 pub returns-clause-after : goal.returns-clause-after
 returns-clause-after g c =
@@ -29,7 +30,7 @@ pub take_and_store-requires-clause-flag_word : goal.take_and_store-requires-clau
 take_and_store-requires-clause-flag_word g c = c.flag_word_at-flag_word.ensures
     ∙ ap (λ (n : ℕ). flag_word_at (T-row g.row.T) n (c.args.index / 64))
     (size_of_pointer c.self.inside.pointers c.args.self.now c.args.bucket c.args.index
-    c.args.size c.pointer_mut.result.now c.self.view_is c.self.invariant
+    c.args.size c.pointer_mut.result.now c.self.view_is c.self.invariant.0
     c.pointer_mut.ensures.value c.requires.in_bucket c.requires.size)
 
 -- The search for these takes seconds.
@@ -52,7 +53,7 @@ take_and_store-requires-clause-flags g c =
     let v = c.args.self.now in
     let b = c.args.bucket in
     let i = c.args.index in
-    let table = subst (λ (z : Contents g.row.T.Denot). IsTable z) c.self.view_is c.self.invariant in
+    let table = subst (λ (z : Contents g.row.T.Denot). IsTable z) c.self.view_is c.self.invariant.0 in
     let low : b < length v.rows = let here = c.requires.in_table in omega (arith, table.buckets) in
     let taken : row (with_slot v b i None) b ≡ set c.pointer_mut.result.now.slots i None =
     row-with_row-same v b (set (row v b) i None) low

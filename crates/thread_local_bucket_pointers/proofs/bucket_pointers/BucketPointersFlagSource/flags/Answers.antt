@@ -3,6 +3,7 @@ use Rattle.std.specs.Prelude.{◌*◌, ◌+◌, ◌<◌, ℕ, slice_index_or}
 use Rattle.thread_local_base.specs.Buckets.{Contents, IsTable}
 use Rattle.thread_local_bucket_pointers.specs.Slots.{flag_word_at}
 use Rattle.thread_local_bucket_pointers.specs.contracts.bucket_pointers.BucketPointersFlagSource.flags.{T-row}
+use Rattle.thread_local_bucket_pointers.proofs.Announcing.{IsAnnounced}
 use Rattle.thread_local_bucket_pointers.proofs.ContentsOf.{size_of_pointer, row_seen, contents_stay}
 use Rattle.thread_local_bucket_pointers.proofs.bucket_pointers.BucketPointersFlagSource.flags.Goals as goal
 
@@ -10,7 +11,7 @@ pub flags-requires-clause-flag_word : goal.flags-requires-clause-flag_word
 flags-requires-clause-flag_word g c = c.flag_word_at-flag_word.ensures
     ∙ ap (λ (n : ℕ). flag_word_at (T-row g.row.T) n (c.args.chunk))
     (size_of_pointer c.self.inside.pointers c.args.self.now c.args.bucket (c.args.chunk * 64)
-    c.bucket_size.result c.pointer_mut.result.now c.self.view_is c.self.invariant
+    c.bucket_size.result c.pointer_mut.result.now c.self.view_is c.self.invariant.0
     c.pointer_mut.ensures.value c.requires.in_bucket c.bucket_size.ensures)
 
 -- The search for these takes seconds.
@@ -23,7 +24,7 @@ flags-requires-clause-in_block g c =
 
 pub invariant_of-self : goal.invariant_of-self
 invariant_of-self g c =
-    subst (λ (z : Contents g.row.T.Denot). IsTable z)
+    subst (λ (z : Contents g.row.T.Denot). IsAnnounced c.self.inside.announced.bits z)
     (sym (contents_stay c.self.inside.pointers c.args.bucket c.flags.new.self
     (c.flags.ensures.same ∙ c.pointer_mut.ensures.value)))
     c.self.invariant
@@ -36,7 +37,7 @@ returns-clause-value g c = λ bit low.
     c.pointer_mut.ensures.value))
 
 pub returns-clause-table : goal.returns-clause-table
-returns-clause-table g c = subst (λ (z : Contents g.row.T.Denot). IsTable z) c.self.view_is c.self.invariant
+returns-clause-table g c = subst (λ (z : Contents g.row.T.Denot). IsTable z) c.self.view_is c.self.invariant.0
 
 pub returns-clause-same : goal.returns-clause-same
 returns-clause-same g c =

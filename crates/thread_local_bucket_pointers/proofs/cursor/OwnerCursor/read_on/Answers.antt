@@ -11,7 +11,7 @@ pub returns-clause-read : goal.returns-clause-read
 returns-clause-read g c =
     let read = c.next_flags-flags in
     let on =
-    reads_on (g.P.FlagSource.contents c.args.source.now) c.args.self.now read.new.raw read.result
+    reads_on (g.P.FlagSource.contents c.args.source.now) c.args.self.now read.new.raw read.result read.new.left
     c.requires.may_read.walk c.requires.passed read.type_inv read.ensures.at
-    read.ensures.yielded in
+    read.ensures.announced read.ensures.yielded in
     record { walk = on.0; ahead = read.ensures.ahead; some = read.ensures.some; left = on.1 }

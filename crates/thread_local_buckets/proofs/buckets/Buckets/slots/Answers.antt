@@ -1,50 +1,85 @@
-use Rattle.std.proofs.Common.{◌≡◌, ◌^◌, ◌≤◌, ℕ, Bool, true, false, sym, ◌∙◌, ap, refl, arith, pow_mono}
+use Rattle.std.proofs.Common.{◌+◌, refl, sym, ◌∙◌, ap, subst, arith}
 use Rattle.thread_local_base.specs.Buckets.{Contents, stands, slots}
 use Rattle.thread_local_base.specs.Owned.{Owned}
-use Rattle.thread_local_base.proofs.SlotsLaws.{slots_below-lt}
-use Rattle.thread_local_base.proofs.StandingLaws.{slots_below-zero, slots_below-standing, slots_below-absent, slots-all}
+use Rattle.thread_local_bucket_pointers.specs.Announced.{Announces}
+use Rattle.thread_local_bucket_pointers.proofs.Passing.{takes}
+use Rattle.thread_local_buckets.proofs.AddingSlots.{added_none, added_more, added_absent, added_fits, added_all}
 use Rattle.thread_local_buckets.proofs.Reserving.{few_reserved}
 use Rattle.thread_local_buckets.proofs.buckets.Buckets.slots.Goals as goal
-use Rattle.thread_local_buckets.proofs.buckets.Buckets.slots.Goals.{then-stands, else-stands}
 
-pub loop-bucket-init : goal.loop-bucket-init
-loop-bucket-init g c = record { counted = sym (slots_below-zero (stands c.self.inside.pointers)); same = refl; reserved = refl }
+pub buckets-init : goal.buckets-init
+buckets-init g c = let word = c.announced-left in record {
+  added =
+      added_none word.new.self word.result
+      (subst (λ (w : Contents g.row.T.Denot). Announces word.result w) (sym word.ensures.same) word.ensures.announced);
+  same = refl;
+  reserved = refl;
+}
+
+pub buckets-preserved-then-stands : goal.buckets-preserved-then-stands
+buckets-preserved-then-stands g c =
+    let kept = c.buckets.invariant in
+    let first = c.announced-left.new.self in
+    let bucket = c.take_first-bucket in
+    let taken =
+    takes first c.buckets.left bucket.new.buckets kept.added.from bucket.result kept.added.ahead bucket.ensures.first
+    bucket.ensures.rest in
+    let stood = ap (λ (w : Contents g.row.T.Denot). stands w bucket.result) (sym kept.same)
+    ∙ sym c.stands.ensures.value
+    ∙ c.if-stands.true in
+    record {
+      added =
+          added_more first c.buckets.slots c.bucket_size-slots.result c.buckets.left bucket.new.buckets bucket.result
+          kept.added taken stood c.bucket_size-slots.ensures;
+      same = c.stands.ensures.same ∙ kept.same;
+      reserved = kept.reserved;
+    }
 
 pub overflow_add-slots : goal.overflow_add-slots
 overflow_add-slots g c =
-    let few = slots_below-lt (stands c.self.inside.pointers) c.loop-bucket.bucket in
-    let up : 2 ^ c.loop-bucket.bucket ≤ 2 ^ 62 = (let low : c.loop-bucket.bucket ≤ 62 = omega arith in pow_mono low) in
-    omega (arith, c.loop-bucket.invariant.counted, c.bucket_size-slots.ensures)
+    let kept = c.buckets.invariant in
+    let first = c.announced-left.new.self in
+    let bucket = c.take_first-bucket in
+    let taken =
+    takes first c.buckets.left bucket.new.buckets kept.added.from bucket.result kept.added.ahead bucket.ensures.first
+    bucket.ensures.rest in
+    let stood = ap (λ (w : Contents g.row.T.Denot). stands w bucket.result) (sym kept.same)
+    ∙ sym c.stands.ensures.value
+    ∙ c.if-stands.true in
+    let next =
+    added_more first c.buckets.slots c.bucket_size-slots.result c.buckets.left bucket.new.buckets bucket.result
+    kept.added taken stood c.bucket_size-slots.ensures in
+    let fits = added_fits first bucket.new.buckets (c.buckets.slots + c.bucket_size-slots.result) next in
+    omega (arith, fits)
 
-pub loop-bucket-preserved : goal.loop-bucket-preserved
-loop-bucket-preserved g c =
-    let kept = c.loop-bucket.invariant in
-    let f : ℕ → Bool = stands c.self.inside.pointers in
-    let at_first : stands c.loop-bucket.self-inside.pointers c.loop-bucket.bucket
-    ≡ f c.loop-bucket.bucket =
-    ap (λ (w : Contents _). stands w c.loop-bucket.bucket) kept.same in
+pub buckets-preserved : goal.buckets-preserved
+buckets-preserved g c =
+    let kept = c.buckets.invariant in
+    let first = c.announced-left.new.self in
+    let bucket = c.take_first-bucket in
+    let taken =
+    takes first c.buckets.left bucket.new.buckets kept.added.from bucket.result kept.added.ahead bucket.ensures.first
+    bucket.ensures.rest in
+    let none = ap (λ (w : Contents g.row.T.Denot). stands w bucket.result) (sym kept.same)
+    ∙ sym c.stands.ensures.value
+    ∙ c.if-stands.false in
     record {
-      counted = elim c.if-stands.branch [
-        | then-stands w ↦
-            let here : f c.loop-bucket.bucket ≡ true = sym at_first ∙ sym c.stands.ensures.value ∙ w.if-stands.true in
-            omega (arith, slots_below-standing f c.loop-bucket.bucket here, w.slots-is, w.bucket_size-slots.ensures, kept.counted)
-        | else-stands w ↦
-            let none : f c.loop-bucket.bucket ≡ false = sym at_first ∙ sym c.stands.ensures.value ∙ w.if-stands.false in
-            w.slots-is ∙ kept.counted ∙ sym (slots_below-absent f c.loop-bucket.bucket none)
-      ];
+      added = added_absent first c.buckets.slots c.buckets.left bucket.new.buckets bucket.result kept.added taken none;
       same = c.stands.ensures.same ∙ kept.same;
       reserved = kept.reserved;
     }
 
 pub returns-clause-value : goal.returns-clause-value
 returns-clause-value g c =
-    c.loop-bucket.invariant.counted
-    ∙ slots-all (stands c.self.inside.pointers) c.loop-bucket.bucket (omega arith)
+    added_all c.announced-left.new.self c.buckets.left c.buckets.slots c.buckets.invariant.added c.buckets-test.false
+    ∙ ap (λ (w : Contents g.row.T.Denot). slots (stands w)) c.announced-left.ensures.same
     ∙ ap (λ (o : Owned _). slots (stands o.contents)) c.self.view_is
 
 pub returns-clause-reserved : goal.returns-clause-reserved
 returns-clause-reserved g c =
-    let value = c.loop-bucket.invariant.counted ∙ slots-all (stands c.self.inside.pointers) c.loop-bucket.bucket (omega arith) in
+    let value =
+    added_all c.announced-left.new.self c.buckets.left c.buckets.slots c.buckets.invariant.added c.buckets-test.false
+    ∙ ap (λ (w : Contents g.row.T.Denot). slots (stands w)) c.announced-left.ensures.same in
     let few = few_reserved (record { contents = c.self.inside.pointers; reserved = c.self.inside.reserved }) c.self.invariant in
     let same = ap (λ (o : Owned _). o.reserved) c.self.view_is in
     omega arith

@@ -40,21 +40,23 @@ pub find-requires-clause-missing : goal.find-requires-clause-missing
 find-requires-clause-missing g c = subst (λ (l : Learnt _). MayLook l) (sym c.hold-slot.ensures.unknown) tt
 
 pub find-requires-clause-index : goal.find-requires-clause-index
-find-requires-clause-index g c = sym c.hold-slot.ensures.same_slot.3
+find-requires-clause-index g c = sym c.hold-slot.ensures.same_slot.4
 
 pub find-requires-clause-flag_word : goal.find-requires-clause-flag_word
 find-requires-clause-flag_word g c =
     word_there (param 0 g.row.T) c.flag_word_of.result c.hold-slot.result.id c.args.held.id c.args.thread.bucket c.args.thread.index
-    c.flag_word_of.ensures (c.hold-slot.ensures.same_slot.2 ∙ c.requires.id) c.requires.place.0 c.requires.place.1
+    c.flag_word_of.ensures (c.hold-slot.ensures.same_slot.3 ∙ c.requires.id) c.requires.place.0 c.requires.place.1
 
 pub invariant_of-result : goal.invariant_of-result
 invariant_of-result g c =
     let slot = c.hold-slot.ensures.same_slot in
     let found = c.find.ensures.same_slot in (
-      found.2 ∙ slot.2 ∙ c.requires.id,
-      found.3 ∙ slot.3 ∙ c.requires.place.1,
+      found.3 ∙ slot.3 ∙ c.requires.id,
+      found.4 ∙ slot.4 ∙ c.requires.place.1,
       c.find.ensures.looked,
       c.requires.table.1 ∙ sym c.requires.table.0 ∙ sym slot.0 ∙ sym found.0,
+      found.2 ∙ slot.2 ∙ c.requires.word.0,
+      c.requires.word.1,
     )
 
 pub returns-clause-found : goal.returns-clause-found

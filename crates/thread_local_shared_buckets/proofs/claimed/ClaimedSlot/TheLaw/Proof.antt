@@ -24,7 +24,7 @@ shares a T L =
     (one_bucket.the_row T).coded)
     (C.the_heap a.lft T) (C.the_lent a.lft T)
     (λ d p.
-    claim_laws a.lft T L.shr_laws (claim_fields d.id d.index d.bucket d.at d.sharing d.reserved)
+    claim_laws a.lft T L.shr_laws (claim_fields d.id d.index d.bucket d.at d.sharing d.word d.reserved)
     d.learnt d.state) (
       copy_shared RawPtr-field RawPtr-copy,
       (
@@ -44,4 +44,4 @@ shares a T L =
     (Incl-trans (meet_⊑_left s []) (meet_⊑_left a.lft (one_bucket.the_row T).lives)))))
     (Shares-less 𝓛 T T.lives l (Incl-trans (meet_⊑_left (T.lives ++ []) _) (meet_⊑_left T.lives []))
     (L.shares 𝓛))
-    d.table (claim_fields d.id d.index d.bucket d.at d.sharing d.reserved) d.state d.learnt)
+    d.table (claim_fields d.id d.index d.bucket d.at d.sharing d.word d.reserved) d.state d.learnt)

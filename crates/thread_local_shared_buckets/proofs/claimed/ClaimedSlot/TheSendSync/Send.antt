@@ -10,7 +10,7 @@ pub send : (a : NamedLft) (T : RattleType) → IsSend T → IsSend (the_row a T)
 send a T s = record {
   owned = λ d vs. (
     (λ vss. (tt, (tt, ((tt, tt), ((λ uss. (tt, tt)), tt))))),
-    claim_keyless T s a.lft d.table (claim_fields d.id d.index d.bucket d.at d.sharing d.reserved)
+    claim_keyless T s a.lft d.table (claim_fields d.id d.index d.bucket d.at d.sharing d.word d.reserved)
         d.learnt d.state,
   );
   leaving = λ k f vs. tt;

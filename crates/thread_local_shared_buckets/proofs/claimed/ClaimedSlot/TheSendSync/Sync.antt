@@ -18,7 +18,7 @@ sync a T y =
     record {
       shared = λ d b o κ. (
         fields.shared (d.at, (d.state, (tt, tt))) b o κ,
-        ((λ _. tt), seen (claim_fields d.id d.index d.bucket d.at d.sharing d.reserved) (value_held d.learnt) κ),
+        ((λ _. tt), seen (claim_fields d.id d.index d.bucket d.at d.sharing d.word d.reserved) (value_held d.learnt) κ),
       );
     }
   where

@@ -37,7 +37,7 @@ agrees_spec 𝓤 𝓛 𝓜 𝓡 wired X L =
     let ℓ = named_lft 4 1 tt κs in let G : RattleType = claim.the_row ℓ R in let b : ℕ = a.0.ref_ptr.0 in
     let o : ℕ = a.0.ref_ptr.1 in let κ : Lft = κs.0 in let β : Lft = κs.1.0 in let q : Share = qs.1.0 in let h = a.0.now in
     let w = a.1.0.now in let x : X.Denot = w.value in let l₀ : Learnt X.Denot = h.learnt in
-    let f : ClaimFields = claim_fields h.id h.index h.bucket h.at h.sharing h.reserved in
+    let f : ClaimFields = claim_fields h.id h.index h.bucket h.at h.sharing h.word h.reserved in
     let rest : Fml = fsep (flft κs.1.1.0 qs.1.1.0) (fsep (flft κs.1.1.1.0 qs.1.1.1.0) ftrue) in
     let p' : Val = vptr a.1.0.ref_ptr.0 a.1.0.ref_ptr.1 in
     let y : (walk_of 𝓛 En hs c).Ghost = ((κs, qs, bounds, a, (mut_vals a.0, (p' ∷ [], tt))), gh) in

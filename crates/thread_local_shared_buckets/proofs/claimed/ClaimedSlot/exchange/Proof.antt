@@ -57,8 +57,10 @@ use Rattle.thread_local_ids.specs.contracts.reached.Reached as Reached
 use Rattle.thread_local_ids.proofs.ReachedElements.{reached_less}
 use Rattle.thread_local_ids.proofs.Markers.{token}
 use Rattle.thread_local_ids.proofs.Markers.{told as token_told}
+use Rattle.thread_local_shared_buckets.specs.Announcing.{Announcing, announced}
+use Rattle.thread_local_shared_buckets.specs.contracts.announcements.Announced as Announced
 use Rattle.thread_local_shared_buckets.proofs.GrownLaws.{shown_reached}
-use Rattle.thread_local_shared_buckets.specs.Shared.{BucketView, Turn, StandingBlock, len, bucket_invariant, shown_by, grown}
+use Rattle.thread_local_shared_buckets.specs.Shared.{BucketView, Turn, StandingBlock, len, bucket_invariant, shown_by}
 use Rattle.thread_local_shared_buckets.proofs.Loads.{glimpse}
 use Rattle.thread_local_shared_buckets.proofs.Offers as offers
 use Rattle.thread_local_shared_buckets.proofs.RowFields.{word_laws}
@@ -98,19 +100,23 @@ exchange_spec 𝓤 𝓛 𝓜 𝓡 wired X L =
     let Z : RattleType = heap.the_row in let Bl : RattleType = block.the_row R Z ghosts in let Back : RattleType = Opt.the_row Bl in
     let self = plain (λ κs. claim.the_row (named_lft 2 0 tt κs) R) in let number = plain (λ _. usize) in let lot = plain (λ _. Bl) in
     let shown = plain (λ _. Reached.the_row) in
+    let known = plain (λ _. Announced.the_row) in
     let hs : Stays En.signature.params En.kept =
-    (stay_dropped self no, (stay_dropped number yes, (stay_dropped lot no, (stay_dropped shown yes, tt)))) in
+    (stay_dropped self no, (stay_dropped number yes, (stay_dropped lot no, (stay_dropped shown yes, (stay_dropped known yes, tt))))) in
     proved 𝓛 En hs c 𝓜 𝓡 (
       Goes-dropped 𝓛 2 self no (λ κs x f. refl),
       (
         Goes-dropped 𝓛 2 number yes (λ κs x f. refl),
-        (Goes-dropped 𝓛 2 lot no (λ κs x f. refl), (Goes-dropped 𝓛 2 shown yes (λ κs x f. refl), tt)),
+        (
+          Goes-dropped 𝓛 2 lot no (λ κs x f. refl),
+          (Goes-dropped 𝓛 2 shown yes (λ κs x f. refl), (Goes-dropped 𝓛 2 known yes (λ κs x f. refl), tt)),
+        ),
       ),
     )
     (#self inst) fn closed
     (λ κs. (
       (λ x. value_of (kept_of x) ∷ []),
-      (uint_vals w64, ((λ x. fields.block_val x.at ∷ []), ((λ x. token ∷ []), tt))),
+      (uint_vals w64, ((λ x. fields.block_val x.at ∷ []), ((λ x. token ∷ []), ((λ x. token ∷ []), tt)))),
     ))
     (λ κs. (
       (λ x vs so. told (named_lft 2 0 tt κs) R (kept_of x) vs so.0),
@@ -118,7 +124,7 @@ exchange_spec 𝓤 𝓛 𝓜 𝓡 wired X L =
         uint_Tells w64,
         (
           (λ x vs so. fields.told R Z ghosts x.at vs so.0),
-          ((λ x vs so. token_told (Reached.the_type).name vs so.0), tt),
+          ((λ x vs so. token_told (Reached.the_type).name vs so.0), ((λ x vs so. token_told (Announced.the_type).name vs so.0), tt)),
         ),
       ),
     ))
@@ -141,36 +147,40 @@ exchange_spec 𝓤 𝓛 𝓜 𝓡 wired X L =
     let Out : RattleType = Tuple (G ∷ Back ∷ []) in
     let Pair : RattleType = Tuple (RawPtr ∷ Back ∷ []) in
     let F₁ : Res → Type 0 = λ r.
-    (r.0.table ≡ h.table) × (◌≡◌ {A = Option ℕ} r.0.sharing h.sharing) × (r.0.id ≡ h.id)
+    (r.0.table ≡ h.table) × (◌≡◌ {A = Option ℕ} r.0.sharing h.sharing) × (r.0.word ≡ h.word) × (r.0.id ≡ h.id)
     × (r.0.index ≡ h.index) in
     let F₂ : Res → Type 0 = λ r. (r.0.learnt ≡ Vacant) × (r.0.reserved ≡ h.reserved) in
     let F₃ : Res → Type 0 =
     λ r. IfSome r.1 (λ back. (back.heap ≡ x.heap) × (back.slots ≡ x.slots) × (back.left ≡ 0)) in
     let had = a.1.1.1.0 in
     let Had : Type 0 = (had.table ≡ h.table) × (h.id < had.ids) in
+    let says = a.1.1.1.1.0 in
+    let Says : Type 0 = (says.by ≡ h.word) × (says.bucket ≡ bucket_of h.id) in
     let Made : Type 0 = (x.slots ≡ empty_slots (2 ^ bucket_of h.id)) × (x.left ≡ 0) in let none : Option X.Denot = None in
     let w : Ptr = h.bucket in
     let wb : ℕ = block_of w in
     let wo : ℕ = count_of w in
     let i : ℕ = h.index in
-    let pl : ClaimFields = claim_fields h.id i w h.at h.sharing h.reserved in
+    let pl : ClaimFields = claim_fields h.id i w h.at h.sharing h.word h.reserved in
     let y : (walk_of 𝓛 En hs c).Ghost =
-    ((κs, qs, bounds, a, (u₀ ∷ [], (vint w64 ix ∷ [], (bv ∷ [], (token ∷ [], tt))))), gh) in
+    ((κs, qs, bounds, a, (u₀ ∷ [], (vint w64 ix ∷ [], (bv ∷ [], (token ∷ [], (token ∷ [], tt)))))), gh) in
     let Post : Val → SProp 𝓤 = (walk_of 𝓛 En hs c).post y in
     qed 𝓛 (((‵ (flft β q) ⊛ ‵ others) ⊛ ‵ (owns (types_at En.signature.params κs) a y.0.4))
     ∷ raw (fact 𝓤 _) ∷ raw (fact 𝓤 (h.learnt ≡ Missing)) ∷ raw (fact 𝓤 (ix ≡ i))
-    ∷ raw (fact 𝓤 Made) ∷ raw (fact 𝓤 Had) ∷ []) ∵
-    keep ! (2 ∷ 3 ∷ 4 ∷ 5 ∷ 0 ∷ []) $ heard ! (h.learnt ≡ Missing) (λ gone.
-    heard ! (ix ≡ i) (λ is_index. heard ! Made (λ blank. heard ! Had (λ evident. split ! $ split ! $ move ! (2 ∷ []) $
+    ∷ raw (fact 𝓤 Made) ∷ raw (fact 𝓤 Had) ∷ raw (fact 𝓤 Says) ∷ []) ∵
+    keep ! (2 ∷ 3 ∷ 4 ∷ 5 ∷ 6 ∷ 0 ∷ []) $ heard ! (h.learnt ≡ Missing) (λ gone.
+    heard ! (ix ≡ i) (λ is_index. heard ! Made (λ blank. heard ! Had (λ evident. heard ! Says (λ told_so. split ! $ split ! $ move ! (2 ∷ []) $
     fsplit3 ! $ fsplit ! $ move ! (3 ∷ []) $ fsplit ! $ fsplit ! $ move ! (2 ∷ []) $ fsplit ! $ fsplit ! $
-    keep ! (6 ∷ 8 ∷ 9 ∷ 4 ∷ 1 ∷ []) $
-    enter ! 𝓣.C 𝓣.Λ fn (u₀ ∷ vint w64 ix ∷ bv ∷ token ∷ []) Post $ alloc_all ! (λ l.
+    move ! (2 ∷ []) $ fsplit ! $ fsplit ! $
+    keep ! (8 ∷ 10 ∷ 11 ∷ 6 ∷ 4 ∷ 1 ∷ []) $
+    enter ! 𝓣.C 𝓣.Λ fn (u₀ ∷ vint w64 ix ∷ bv ∷ token ∷ token ∷ []) Post $ alloc_all ! (λ l.
     pass_all ! refl (
       typed (kept_of h) (in_word ℓ R (kept_of h) (u₀ ∷ []) are.0.0),
-      ((tt, record { fits = are.1.0.1 }), (fields.block_good p, ((tt, (tt, tt)), tt))),
+      ((tt, record { fits = are.1.0.1 }), (fields.block_good p, ((tt, (tt, tt)), ((tt, (tt, tt)), tt)))),
     ) $
     let Ev = env fn.locals l in
-    -- [what the claim owns; the token; the other tokens; the block; how many ids were held]
+    -- [what the claim owns; the token; the other tokens; the block; how many ids were held; the bucket is
+    -- announced]
     fsplit ! $ drop ! $ fpick ! (λ z. fsplit ! $ fpick ! (λ of. drop ! $ fsplit ! $
     move ! (1 ∷ []) $
     let d : BucketView = z.0 in
@@ -182,11 +192,11 @@ exchange_spec 𝓤 𝓛 𝓜 𝓡 wired X L =
     λ u. block_owns R (ghosts.dealloc_token x.heap) u (empty_slots (len R d)) 0 in
     let Owned : ℕ → ℕ → Fml = λ pb o.
     claim_owns R β h.table
-    (claim_fields h.id i (block_ptr wb wo) (value_at R (block_ptr pb o) i) h.sharing h.reserved)
+    (claim_fields h.id i (block_ptr wb wo) (value_at R (block_ptr pb o) i) h.sharing h.word h.reserved)
     Vacant 1 in
     let is_of : (u : Ptr)
-    → IsOf R h.table (claim_fields h.id i (block_ptr wb wo) u h.sharing h.reserved) d =
-    λ u. (tt, of.1, of.2, of.3, of.4, of.5, of.6) in
+    → IsOf R h.table (claim_fields h.id i (block_ptr wb wo) u h.sharing h.word h.reserved) d =
+    λ u. (tt, of.1, of.2, of.3, of.4, of.5, of.6, of.7) in
     let same : bucket_of h.id ≡ d.bucket = ap bucket_of (lies_at R d h.id i of.3) ∙ (place-id_at d.bucket i of.4).0 in
     move ! (1 ∷ []) $ fsplit ! $ use1 𝓛 (‵ (before β t.life) ⊛ ‵ (before β t.life)) (before_dup 𝓛 β t.life) $ split ! $
     -- [before, twice; the invariant; the pass; the token; the other tokens; the block]
@@ -226,7 +236,11 @@ exchange_spec 𝓤 𝓛 𝓜 𝓡 wired X L =
     let enough : shown_by d ≤ had.ids = shown_reached d h.id i had.ids of.3 evident.1 in
     move ! (7 ∷ []) $
     rewrite ! 0 (λ (n : ℕ). ‵ (reached_owns n had.ids)) (evident.0 ∙ sym of.2) refl $
-    use1 𝓛 (‵ (grown d)) (reached_less 𝓛 d.table had.ids (shown_by d) enough) $
+    use1 𝓛 (‵ (reached_owns d.table (shown_by d))) (reached_less 𝓛 d.table had.ids (shown_by d) enough) $
+    move ! (0 ∷ 8 ∷ []) $
+    rewrite ! 1 (λ (m : Announcing). ‵ (announced m says.bucket)) (told_so.0 ∙ sym of.7) refl $
+    rewrite ! 1 (λ (k : ℕ). ‵ (announced d.word k)) (told_so.1 ∙ same) refl $
+    fjoin ! $
     move ! (1 ∷ 0 ∷ []) $ join ! $
     sets ! (is ! (of_opd ! (get_in ! (fld ! refl (stop !)) (sub ! 0 refl (whole !))))
     (ap ptr_val (leads ∙ at)))
@@ -258,7 +272,7 @@ exchange_spec 𝓤 𝓛 𝓜 𝓡 wired X L =
     -- [the life's token; the part; the sharing lasts; the way back; the pass; the other tokens]
     let pb : ℕ = nb in let o : ℕ = no' in move ! (1 ∷ 2 ∷ 0 ∷ 4 ∷ []) $ group ! 4 $
     use1 𝓛 (later (‵ (flft t.life s) ⊛ ‵ (Owned pb o)))
-    (installs 𝓛 R d t β wb wo pb o h.id i h.sharing h.reserved h.table s (zn, _)
+    (installs 𝓛 R d t β wb wo pb o h.id i h.sharing h.word h.reserved h.table s (zn, _)
     (is_of (value_at R new i))) $
     await ! tt $ split ! $
     -- [the life's token; the claim; the way back; the other tokens]
@@ -300,6 +314,7 @@ exchange_spec 𝓤 𝓛 𝓜 𝓡 wired X L =
       bucket = block_ptr wb wo;
       table = h.table;
       sharing = h.sharing;
+      word = h.word;
       id = h.id;
       index = i;
       reserved = h.reserved;
@@ -311,11 +326,11 @@ exchange_spec 𝓤 𝓛 𝓜 𝓡 wired X L =
     use0 𝓛 (raw (fact 𝓤 (F₃ (r, None)))) (fact_i 𝓤 (F₃ (r, None)) (emp 𝓤) tt) $
     use0 𝓛 (raw (fact 𝓤 (F₂ (r, None)))) (fact_i 𝓤 (F₂ (r, None)) (emp 𝓤) (refl, refl)) $ join ! $
     use0 𝓛 (raw (fact 𝓤 (F₁ (r, None))))
-    (fact_i 𝓤 (F₁ (r, None)) (emp 𝓤) (refl, refl, refl, refl)) $
+    (fact_i 𝓤 (F₁ (r, None)) (emp 𝓤) (refl, refl, refl, refl, refl)) $
     join ! $
-    nothing ! $ nothing ! $ fjoin ! $ nothing ! $ fjoin ! $ nothing ! $ fjoin ! $ nothing ! $ fjoin ! $
+    nothing ! $ nothing ! $ fjoin ! $ nothing ! $ fjoin ! $ nothing ! $ fjoin ! $ nothing ! $ fjoin ! $ nothing ! $ fjoin ! $
     returns ! (look_at ! 0 refl) $ free_all ! refl $ keep ! (3 ∷ 0 ∷ 2 ∷ 1 ∷ []) $
-    by ! (leaves 𝓛 En hs c y v (r, None) (tt, (tt, (tt, (tt, tt)))) (tt, (tt, (tt, (tt, tt))))))
+    by ! (leaves 𝓛 En hs c y v (r, None) (tt, (tt, (tt, (tt, (tt, tt))))) (tt, (tt, (tt, (tt, (tt, tt)))))))
     (λ u₁. lands_last ! refl (calls.answer_good (Err u₁)) $
     exec ! 𝓣.C 𝓣.Λ Ev (after 4 fn.body) (at_ret Ev Post) $
     sets ! (of_opd ! (get ! refl)) refl (calls.answer_good (Err u₁)) $ fsplit ! $
@@ -332,7 +347,7 @@ exchange_spec 𝓤 𝓛 𝓜 𝓡 wired X L =
     -- the other tokens]
     move ! (0 ∷ 4 ∷ 3 ∷ 6 ∷ []) $ group ! 4 $
     use1 𝓛 (later (‵ (flft t.life s) ⊛ ‵ (Owned pb o)))
-    (installs 𝓛 R d t β wb wo pb o h.id i h.sharing h.reserved h.table s zz
+    (installs 𝓛 R d t β wb wo pb o h.id i h.sharing h.word h.reserved h.table s zz
     (is_of (value_at R first_at i))) $
     await ! tt $ split ! $
     -- [the life's token; the claim; nothing; the block; the way back; the other tokens]
@@ -383,6 +398,7 @@ exchange_spec 𝓤 𝓛 𝓜 𝓡 wired X L =
       bucket = block_ptr wb wo;
       table = h.table;
       sharing = h.sharing;
+      word = h.word;
       id = h.id;
       index = i;
       reserved = h.reserved;
@@ -404,9 +420,9 @@ exchange_spec 𝓤 𝓛 𝓜 𝓡 wired X L =
     use0 𝓛 (raw (fact 𝓤 (F₂ (r, Some x)))) (fact_i 𝓤 (F₂ (r, Some x)) (emp 𝓤) (refl, refl)) $
     join ! $
     use0 𝓛 (raw (fact 𝓤 (F₁ (r, Some x))))
-    (fact_i 𝓤 (F₁ (r, Some x)) (emp 𝓤) (refl, refl, refl, refl)) $
+    (fact_i 𝓤 (F₁ (r, Some x)) (emp 𝓤) (refl, refl, refl, refl, refl)) $
     join ! $
-    nothing ! $ nothing ! $ fjoin ! $ nothing ! $ fjoin ! $ nothing ! $ fjoin ! $ nothing ! $ fjoin ! $
+    nothing ! $ nothing ! $ fjoin ! $ nothing ! $ fjoin ! $ nothing ! $ fjoin ! $ nothing ! $ fjoin ! $ nothing ! $ fjoin ! $
     returns ! (look_at ! 0 refl) $ free_all ! refl $ keep ! (3 ∷ 0 ∷ 2 ∷ 1 ∷ []) $
     by !
-    (leaves 𝓛 En hs c y v (r, Some x) (tt, (tt, (tt, (tt, tt)))) (tt, (tt, (tt, (tt, tt)))))))))))))))))))))))
+    (leaves 𝓛 En hs c y v (r, Some x) (tt, (tt, (tt, (tt, (tt, tt))))) (tt, (tt, (tt, (tt, (tt, tt)))))))))))))))))))))))))

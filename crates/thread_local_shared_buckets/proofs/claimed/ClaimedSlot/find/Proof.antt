@@ -77,7 +77,7 @@ find_spec 𝓤 𝓛 𝓜 𝓡 wired X L =
     let ℓ = named_lft 2 0 tt κs in let G : RattleType = claim.the_row ℓ R in
     let u₀ : Val = value_of (kept_of h) in
     let F₁ : G.Denot → Type 0 = λ r.
-    (r.table ≡ h.table) × (◌≡◌ {A = Option ℕ} r.sharing h.sharing) × (r.id ≡ h.id)
+    (r.table ≡ h.table) × (◌≡◌ {A = Option ℕ} r.sharing h.sharing) × (r.word ≡ h.word) × (r.id ≡ h.id)
     × (r.index ≡ h.index) in
     let F₂ : G.Denot → Type 0 = λ r. HasLooked r.learnt in
     let F₃ : G.Denot → Type 0 = λ r. h.learnt ≡ Missing → (r.learnt ≡ Missing) ⊎ (r.learnt ≡ Vacant) in
@@ -86,7 +86,7 @@ find_spec 𝓤 𝓛 𝓜 𝓡 wired X L =
     let F₅ : G.Denot → Type 0 = λ r. Finds l₀ r.learnt in
     let gone : Learnt X.Denot = Missing in
     let w : Ptr = h.bucket in let wb : ℕ = block_of w in let wo : ℕ = count_of w in let i : ℕ = h.index in
-    let pl : ClaimFields = claim_fields h.id i w h.at h.sharing h.reserved in
+    let pl : ClaimFields = claim_fields h.id i w h.at h.sharing h.word h.reserved in
     let y : (walk_of 𝓛 En hs c).Ghost = ((κs, qs, bounds, a, (u₀ ∷ [], (vint w64 x ∷ [], (vint w64 num ∷ [], tt)))), gh) in
     let Post : Val → SProp 𝓤 = (walk_of 𝓛 En hs c).post y in
     qed 𝓛 (((‵ (flft β q) ⊛ ‵ others) ⊛ ‵ (owns (types_at En.signature.params κs) a y.0.4))
@@ -144,7 +144,7 @@ find_spec 𝓤 𝓛 𝓜 𝓡 wired X L =
     sets ! (bin ! (get ! refl) (lit ! tt) tt) refl (tt, tt) $ first ! $ branches ! (get ! refl)
     (λ _.
     let m : Kept = record { at = block_ptr wb wo; state = 0 } in
-    let pl' : ClaimFields = claim_fields h.id i (block_ptr wb wo) (block_ptr wb wo) h.sharing h.reserved in
+    let pl' : ClaimFields = claim_fields h.id i (block_ptr wb wo) (block_ptr wb wo) h.sharing h.word h.reserved in
     let r : G.Denot = record {
       at = block_ptr wb wo;
       state = 0;
@@ -152,6 +152,7 @@ find_spec 𝓤 𝓛 𝓜 𝓡 wired X L =
       bucket = block_ptr wb wo;
       table = h.table;
       sharing = h.sharing;
+      word = h.word;
       id = h.id;
       index = i;
       reserved = h.reserved;
@@ -161,7 +162,7 @@ find_spec 𝓤 𝓛 𝓜 𝓡 wired X L =
     sets ! (agg ! (and_then ! (get ! refl) (and_then ! (lit ! tt) (and_then ! (get ! refl) (no_more !))))) refl (typed m (lit< tt)) $
     nothing ! $ fpack ! (block_ptr wb wo ≡ block_ptr wb wo) (λ _. ftrue) refl $ fjoin ! $
     move ! (4 ∷ 2 ∷ []) $ fjoin ! $ fjoin ! $ nothing ! $
-    fpack ! (IsOf R h.table pl' d) (λ _. ftrue) (tt, of.1, of.2, of.3, of.4, of.5, of.6) $ fjoin ! $
+    fpack ! (IsOf R h.table pl' d) (λ _. ftrue) (tt, of.1, of.2, of.3, of.4, of.5, of.6, of.7) $ fjoin ! $
     fpack ! (BucketView × Turn) (has_at R β h.table pl' gone) z $ nothing ! $ fpack ! (IsStateOf R 0 gone) (λ _. ftrue) refl $ fjoin ! $
     use0 𝓛 (‵ ((FieldsType ℓ R).own_val (fields_of ℓ R m) (value_of m ∷ [])))
     (made ℓ R 𝓛 m (lit< tt)) $
@@ -170,7 +171,7 @@ find_spec 𝓤 𝓛 𝓜 𝓡 wired X L =
     knows ! (F₄ r) (refl, (λ is. let never : true ≡ false = sym is ∙ sym of.5 ∙ free in cc)) $
     join ! $ knows ! (F₃ r) (λ _. inl refl) $ join ! $
     knows ! (F₂ r) tt $ join ! $
-    knows ! (F₁ r) (refl, refl, refl, refl) $ join ! $
+    knows ! (F₁ r) (refl, refl, refl, refl, refl) $ join ! $
     nothing ! $ nothing ! $ fjoin ! $ nothing ! $ fjoin ! $ nothing ! $ fjoin ! $
     returns_within ! Post refl (look_at ! 0 refl) $ free_all ! refl $ keep ! (3 ∷ 0 ∷ 2 ∷ 1 ∷ []) $
     by ! (leaves 𝓛 En hs c y (value_of m) r (tt, (tt, (tt, tt))) (tt, (tt, (tt, tt)))))
@@ -236,7 +237,7 @@ find_spec 𝓤 𝓛 𝓜 𝓡 wired X L =
     let seen : ℕ = state_by set in
     let seen_fits : seen < 2 ^ 64 = state_by-fits set in
     let m : Kept = record { at = slot_at; state = seen } in
-    let pl' : ClaimFields = claim_fields h.id i (block_ptr wb wo) slot_at h.sharing h.reserved in
+    let pl' : ClaimFields = claim_fields h.id i (block_ptr wb wo) slot_at h.sharing h.word h.reserved in
     sets ! (of_opd ! (get ! refl)) refl (tt, record { fits = nf }) $
     sets ! (of_opd ! (get ! refl)) refl (tt, tt) $
     sets ! (is ! (bin ! (get ! refl) (lit ! tt) (lit< tt))
@@ -258,7 +259,7 @@ find_spec 𝓤 𝓛 𝓜 𝓡 wired X L =
     fpack ! StandingBlock (has_slot R d t β pl' v') s' $
     use1 𝓛 (‵ (has R d t β pl' (found_as v'))) (found_in 𝓛 R d t β pl' v') $
     move ! (3 ∷ 2 ∷ []) $ fjoin ! $ fjoin ! $ nothing ! $
-    fpack ! (IsOf R h.table pl' d) (λ _. ftrue) (tt, of.1, of.2, of.3, of.4, of.5, of.6) $ fjoin ! $
+    fpack ! (IsOf R h.table pl' d) (λ _. ftrue) (tt, of.1, of.2, of.3, of.4, of.5, of.6, of.7) $ fjoin ! $
     fpack ! (BucketView × Turn) (has_at R β h.table pl' (found_as v')) z $ nothing ! $
     fpack ! (IsStateOf R seen (found_as v')) (λ _. ftrue) (kept_as R v' set known.0) $ fjoin ! $
     use0 𝓛 (‵ ((FieldsType ℓ R).own_val (fields_of ℓ R m) (value_of m ∷ [])))
@@ -271,6 +272,7 @@ find_spec 𝓤 𝓛 𝓜 𝓡 wired X L =
       bucket = block_ptr wb wo;
       table = h.table;
       sharing = h.sharing;
+      word = h.word;
       id = h.id;
       index = i;
       reserved = h.reserved;
@@ -280,7 +282,7 @@ find_spec 𝓤 𝓛 𝓜 𝓡 wired X L =
     knows ! (F₄ r) (refl, (λ _. not_missing v')) $ join ! $
     knows ! (F₃ r) (λ was. inr (ap found_as (known.1 (ap looked_in_vain was)))) $
     join ! $ knows ! (F₂ r) (known_as v') $ join ! $
-    knows ! (F₁ r) (refl, refl, refl, refl) $ join ! $
+    knows ! (F₁ r) (refl, refl, refl, refl, refl) $ join ! $
     nothing ! $ nothing ! $ fjoin ! $ nothing ! $ fjoin ! $ nothing ! $ fjoin ! $
     returns ! (look_at ! 0 refl) $ free_all ! refl $ keep ! (3 ∷ 0 ∷ 2 ∷ 1 ∷ []) $
     by ! (leaves 𝓛 En hs c y (value_of m) r (tt, (tt, (tt, tt)))

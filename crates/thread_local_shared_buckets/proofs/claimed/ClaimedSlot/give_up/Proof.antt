@@ -48,7 +48,7 @@ give_up_spec 𝓤 𝓛 𝓜 𝓡 wired X L =
     -- [what the claim owns; the tokens]
     move ! (0 ∷ 1 ∷ []) $
     use2 𝓛 (later (‵ (right_owns h.table h.id) ⊛ ‵ (flft β q)))
-    (surrenders 𝓛 R β h.table (claim_fields h.id h.index h.bucket h.at h.sharing h.reserved) 𝓡
+    (surrenders 𝓛 R β h.table (claim_fields h.id h.index h.bucket h.at h.sharing h.word h.reserved) 𝓡
     h.learnt h.state q) $
     await ! tt $ split ! $
     move ! (1 ∷ 2 ∷ []) $ join ! $ move ! (1 ∷ []) $

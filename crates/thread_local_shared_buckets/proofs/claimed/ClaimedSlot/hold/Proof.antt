@@ -80,7 +80,7 @@ hold_spec 𝓤 𝓛 𝓜 𝓡 wired X L =
     sets ! (addr ! (through ! refl (stop !))) refl (tt, tt) $
     sets ! (of_opd ! (get ! refl)) refl (tt, tt) $ sets ! (agg ! (no_more !)) refl (tt, tt) $
     let m : Kept = record { at = p; state = 0 } in
-    let pl : ClaimFields = claim_fields r.id i p p d.sharing d.reserved in
+    let pl : ClaimFields = claim_fields r.id i p p d.sharing d.word d.reserved in
     let no : Learnt X.Denot = Unknown in
     sets ! (agg ! (and_then ! (get ! refl) (and_then ! (lit ! tt) (and_then ! (get ! refl) (no_more !)))))
     refl (typed m (lit< tt)) $
@@ -88,7 +88,7 @@ hold_spec 𝓤 𝓛 𝓜 𝓡 wired X L =
     move ! (1 ∷ []) $ unhide ! $ fsplit ! $ fpick ! (λ j. drop ! $ fpick ! (λ t. fjoin ! $
     nothing ! $
     fpack ! (IsOf R r.table pl d) (λ _. ftrue)
-    (tt, j, sym same, is_id ∙ omega arith, near, refl, refl) $
+    (tt, j, sym same, is_id ∙ omega arith, near, refl, refl, refl) $
     fjoin ! $ fpack ! (BucketView × Turn) (has_at R κ r.table pl no) (d, t) $
     nothing ! $ fpack ! (IsStateOf R 0 no) (λ _. ftrue) refl $ fjoin ! $
     use0 𝓛 (‵ ((FieldsType ℓ R).own_val (fields_of ℓ R m) (value_of m ∷ [])))
@@ -102,6 +102,7 @@ hold_spec 𝓤 𝓛 𝓜 𝓡 wired X L =
       bucket = p;
       table = r.table;
       sharing = d.sharing;
+      word = d.word;
       id = r.id;
       index = i;
       reserved = d.reserved;
@@ -111,11 +112,11 @@ hold_spec 𝓤 𝓛 𝓜 𝓡 wired X L =
     knows ! (h.learnt ≡ Unknown) refl $
     join ! $
     use0 𝓛
-    (raw (fact 𝓤 ((h.table ≡ r.table) × (◌≡◌ {A = Option ℕ} h.sharing d.sharing) × (h.id ≡ r.id)
+    (raw (fact 𝓤 ((h.table ≡ r.table) × (◌≡◌ {A = Option ℕ} h.sharing d.sharing) × (h.word ≡ d.word) × (h.id ≡ r.id)
     × (h.index ≡ i))))
-    (fact_i 𝓤 ((h.table ≡ r.table) × (◌≡◌ {A = Option ℕ} h.sharing d.sharing) × (h.id ≡ r.id)
+    (fact_i 𝓤 ((h.table ≡ r.table) × (◌≡◌ {A = Option ℕ} h.sharing d.sharing) × (h.word ≡ d.word) × (h.id ≡ r.id)
     × (h.index ≡ i))
-    (emp 𝓤) (refl, refl, refl, refl)) $
+    (emp 𝓤) (refl, refl, refl, refl, refl)) $
     join ! $ nothing ! $ nothing ! $ fjoin ! $ nothing ! $ fjoin ! $ nothing ! $ fjoin ! $
     returns ! (look_at ! 0 refl) $ free_all ! refl $ keep ! (3 ∷ 0 ∷ 2 ∷ 1 ∷ []) $
     by ! (leaves 𝓛 En hs c y (value_of m) h (tt, (tt, (tt, tt))) (tt, (tt, (tt, tt)))))))))))))))

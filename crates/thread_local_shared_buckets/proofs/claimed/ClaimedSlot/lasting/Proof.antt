@@ -57,7 +57,7 @@ lasting_spec 𝓤 𝓛 𝓜 𝓡 wired X L =
     enter ! _ _ _ _ _ $ alloc_all ! (λ l. pass_all ! refl ((tt, tt), tt) $ let Ev = env fn.locals l in
     splits_ref ! ℓ R κ h b o $ drop ! $
     rewrite ! 0 (λ (u : Learnt X.Denot).
-    ‵ (shows_value R β (claim_fields h.id h.index h.bucket p h.sharing h.reserved)
+    ‵ (shows_value R β (claim_fields h.id h.index h.bucket p h.sharing h.word h.reserved)
     (value_held u) κ))
     held.1 refl $
     fsplit ! $ fpick ! (λ inb. drop ! $ fsplit ! $ drop ! $ fsplit ! $ move ! (1 ∷ []) $ drop ! $

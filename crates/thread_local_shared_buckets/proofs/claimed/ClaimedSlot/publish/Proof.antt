@@ -87,7 +87,7 @@ publish_spec 𝓤 𝓛 𝓜 𝓡 wired X L =
     let G : RattleType = claim.the_row ℓ R in
     let u₀ : Val = value_of (kept_of h) in
     let w : Ptr = h.bucket in let wb : ℕ = block_of w in let wo : ℕ = count_of w in let i : ℕ = h.index in
-    let pl : ClaimFields = claim_fields h.id i w h.at h.sharing h.reserved in
+    let pl : ClaimFields = claim_fields h.id i w h.at h.sharing h.word h.reserved in
     let seen = told ℓ R (kept_of h) vss.0 are.0.0 in
     let see_index = uint_Tells w64 ix vss.1.0 are.1.0 in
     let see_number = uint_Tells w64 num vss.1.1.0 are.1.1.0 in
@@ -95,7 +95,7 @@ publish_spec 𝓤 𝓛 𝓜 𝓡 wired X L =
     let got = one (layout X) vss.1.1.1.0 ((LR.lawful 𝓛).typed x vss.1.1.1.0 are.1.1.1.0) in
     let vx : Val = got.0 in
     let F₁ : G.Denot → Type 0 = λ g.
-    (g.table ≡ h.table) × (◌≡◌ {A = Option ℕ} g.sharing h.sharing) × (g.id ≡ h.id)
+    (g.table ≡ h.table) × (◌≡◌ {A = Option ℕ} g.sharing h.sharing) × (g.word ≡ h.word) × (g.id ≡ h.id)
     × (g.index ≡ i) in
     let F₂ : G.Denot → Type 0 = λ g. g.learnt ≡ Holding x in
     let F₃ : G.Denot → Type 0 = λ g. g.reserved ≡ h.reserved in
@@ -252,7 +252,7 @@ publish_spec 𝓤 𝓛 𝓜 𝓡 wired X L =
     -- is known; the row]
     move ! (0 ∷ 2 ∷ []) $
     returns_token ! β t.life q g' $ await ! tt $
-    let k : Kept = record { at = slot_at; state = 2 } in let pl' : ClaimFields = claim_fields h.id i w slot_at h.sharing h.reserved in
+    let k : Kept = record { at = slot_at; state = 2 } in let pl' : ClaimFields = claim_fields h.id i w slot_at h.sharing h.word h.reserved in
     sets ! (of_opd ! (get ! refl)) refl (tt, tt) $
     sets ! (agg ! (no_more !)) refl (tt, tt) $
     sets ! (agg ! (and_then ! (get ! refl) (and_then ! (lit ! tt) (and_then ! (get ! refl) (no_more !))))) refl (typed k (lit< tt)) $
@@ -261,7 +261,7 @@ publish_spec 𝓤 𝓛 𝓜 𝓡 wired X L =
     fpack ! (slot_at ≡ value_at R s.at i) (λ _. ftrue) refl $ fjoin ! $
     fpack ! StandingBlock (has_slot R d t β pl' new) s $ move ! (2 ∷ 0 ∷ []) $ fjoin ! $
     nothing ! $
-    fpack ! (IsOf R h.table pl' d) (λ _. ftrue) (of.0, of.1, of.2, of.3, of.4, of.5, of.6) $
+    fpack ! (IsOf R h.table pl' d) (λ _. ftrue) (of.0, of.1, of.2, of.3, of.4, of.5, of.6, of.7) $
     fjoin ! $ fpack ! (BucketView × Turn) (has_at R β h.table pl' (Holding x)) z $ nothing ! $
     fpack ! (IsStateOf R 2 (Holding x)) (λ _. ftrue) refl $ fjoin ! $
     use0 𝓛 (‵ ((FieldsType ℓ R).own_val (fields_of ℓ R k) (value_of k ∷ [])))
@@ -274,6 +274,7 @@ publish_spec 𝓤 𝓛 𝓜 𝓡 wired X L =
       bucket = w;
       table = h.table;
       sharing = h.sharing;
+      word = h.word;
       id = h.id;
       index = i;
       reserved = h.reserved;
@@ -281,7 +282,7 @@ publish_spec 𝓤 𝓛 𝓜 𝓡 wired X L =
     } in
     knows ! (F₃ made_claim) refl $
     knows ! (F₂ made_claim) refl $ join ! $
-    knows ! (F₁ made_claim) (refl, refl, refl, refl) $
+    knows ! (F₁ made_claim) (refl, refl, refl, refl, refl) $
     join ! $
     nothing ! $ nothing ! $ fjoin ! $ nothing ! $ fjoin ! $ nothing ! $ fjoin ! $ nothing ! $
     fjoin ! $ returns ! (look_at ! 0 refl) $ free_all ! refl $ keep ! (3 ∷ 0 ∷ 2 ∷ 1 ∷ []) $

@@ -28,7 +28,7 @@ witness_spec 𝓤 𝓛 𝓜 𝓡 wired X L =
     (λ κs. (shr_vals, tt)) (λ κs. (shr_Tells (named 0) κs.0 ((claim_at R).row κs), tt)) (λ κs qs bounds a gh are.
     let ℓ = named_lft 3 1 tt κs in let b : ℕ = a.0.ref_ptr.0 in let o : ℕ = a.0.ref_ptr.1 in let κ : Lft = κs.0 in
     let β : Lft = κs.1.0 in let h = a.0.now in let l₀ : Learnt X.Denot = h.learnt in
-    let f : ClaimFields = claim_fields h.id h.index h.bucket h.at h.sharing h.reserved in
+    let f : ClaimFields = claim_fields h.id h.index h.bucket h.at h.sharing h.word h.reserved in
     let others : Fml = fsep (flft β qs.1.0) (fsep (flft κs.1.1.0 qs.1.1.0) ftrue) in
     let y : (walk_of 𝓛 En hs c).Ghost = ((κs, qs, bounds, a, (vptr b o ∷ [], tt)), gh) in
     let Asked : Type 0 = is_some (value_held l₀) ≡ true in

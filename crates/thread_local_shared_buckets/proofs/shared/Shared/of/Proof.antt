@@ -8,8 +8,8 @@ use base.Logic.{SProp, ent, id⊢, via}
 use base.Fml.{GName}
 use types.Owned.{basic}
 use prog.Wp.{WpFn}
-use types.Kit.{some, given, later, await, pick, learn, use2, ‵, raw, ◌⊛◌, ◌$◌, ◌∵◌, !, qed, by, move, keep, use0, use1}
-use types.Kit.{split, join, fsplit, fjoin, rewrite, suffices}
+use types.Kit.{some, given, later, await, pick, learn, ‵, raw, ◌⊛◌, ◌$◌, ◌∵◌, !, qed, by, move, keep, use0, use1}
+use types.Kit.{use3, split, join, fsplit, fjoin, rewrite, suffices}
 use types.Run.{of_opd, no_more, and_then, returns, enter}
 use types.ByLocal.{alloc_all, pass_all, free_all, look_at, get, sets}
 use types.Part.{agg}
@@ -38,6 +38,7 @@ use Rattle.thread_local_ids.specs.contracts.right.Right as right
 use Rattle.thread_local_bucket_pointers.specs.contracts.bucket_pointers.BucketPointers as all_pointers
 use Rattle.thread_local_bucket_pointers.proofs.bucket_pointers.BucketPointers.TheLaws as pointers'
 use Rattle.thread_local_shared_buckets.specs.TableView.{TableView}
+use Rattle.thread_local_shared_buckets.proofs.AnnouncingLaws.{new_rights, rights_new}
 use Rattle.thread_local_shared_buckets.specs.Grown.{only_reserved}
 use Rattle.thread_local_shared_buckets.specs.contracts.shared.Shared as shared
 use Rattle.thread_local_shared_buckets.specs.contracts.shared.Shared.of.{ended, clauses, Key.name as #self}
@@ -91,8 +92,8 @@ of_spec 𝓤 𝓛 𝓜 𝓡 wired T L =
     let s : TableView = record { table = table; sharing = Some γ; reserved = n; grown_by_ids = only } in
     use1 𝓛 (later (‵ (rows_telling R (Some γ) 0 w.rows)))
     (via 𝓤 _ (rows_drawn 𝓛 R γ 0 w.rows (table_whole w owned.table)) (basic 𝓛 _)) $
-    await ! tt $ move ! (1 ∷ 0 ∷ []) $
-    use2 𝓛 (‵ (Sh.own_val s (pair_val v n ∷ []))) (makes_shared 𝓛 R LR j s w v fits owned typed (λ e. e)) $
+    await ! tt $ use0 𝓛 (later (‵ new_rights)) (via 𝓤 _ (rights_new 𝓛) (basic 𝓛 _)) $ await ! tt $ move ! (2 ∷ 1 ∷ 0 ∷ []) $
+    use3 𝓛 (‵ (Sh.own_val s (pair_val v n ∷ []))) (makes_shared 𝓛 R LR j s w v fits owned typed (λ e. e)) $
     sets ! (of_opd ! (get ! refl)) refl fine $ sets ! (agg ! (and_then ! (get ! refl) (and_then ! (get ! refl) (no_more !)))) refl typed.0 $
     let Named : Type 0 = IsSome (Some γ) in
     knows ! (only ≡ only) refl $

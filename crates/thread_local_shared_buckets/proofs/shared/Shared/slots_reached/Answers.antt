@@ -9,7 +9,7 @@ use Rattle.std.proofs.lemmas.Bool.{cases_lt, ltb-true, lt-ltb}
 use Rattle.thread_local_base.specs.Place.{id_at}
 use Rattle.thread_local_base.specs.Owned.{AreOfFirstBuckets}
 use Rattle.thread_local_ids.specs.declared.reached.Reached.{Reached}
-use Rattle.thread_local_shared_buckets.specs.Shared.{BucketView, ids_shown, shown_by}
+use Rattle.thread_local_shared_buckets.specs.Shared.{ids_shown}
 use Rattle.thread_local_shared_buckets.proofs.shared.Shared.slots_reached.Goals as goal
 use Rattle.thread_local_shared_buckets.proofs.shared.Shared.slots_reached.Goals.{in-Some, in_default}
 
@@ -77,6 +77,7 @@ loop-bucket-preserved g c =
     let kept = c.loop-bucket.invariant in
     let table = c.args.self.now in
     let bucket : ℕ = c.loop-bucket.bucket in
+    let at = c.bucket-in-loop-bucket.ensures in
     let first : AreOfFirstBuckets table.reserved = subst AreOfFirstBuckets c.reserved.ensures.reserved c.reserved.ensures.first in
     let before : Counted table.reserved bucket c.loop-bucket.slots = record { most = kept.most; least = kept.least; all = kept.all } in
     elim c.match-reached.branch [
@@ -90,11 +91,11 @@ loop-bucket-preserved g c =
             all = after.all;
             table =
                 ap (λ (r : Reached). r.table) w.reached-is ∙ w.in-Some.ensures.shown.0
-                ∙ ap (λ (d : BucketView). d.table) c.bucket-in-loop-bucket.ensures;
+                ∙ c.bucket-in-loop-bucket.ensures.table;
             grown = λ grown.
                 allowed (nat_lt (id_at bucket 0) table.reserved) table.reserved bucket c.loop-bucket.slots c.match-reached.slots
                 w.bucket_size-slots.result c.match-reached.reached.ids refl first kept.most w.bucket_size-slots.ensures w.slots-is
-                (ap (λ (r : Reached). r.ids) w.reached-is ∙ w.in-Some.ensures.shown.1 ∙ ap shown_by c.bucket-in-loop-bucket.ensures
+                (ap (λ (r : Reached). r.ids) w.reached-is ∙ w.in-Some.ensures.shown.1 ∙ (λ j. ids_shown (at.grown j) (at.reserved j) (at.number j))
                 ∙ ap (λ (t : Bool). ids_shown t (nat_lt (id_at bucket 0) table.reserved) bucket) grown);
           })
       | in_default w ↦
@@ -102,7 +103,7 @@ loop-bucket-preserved g c =
           missing table.reserved bucket c.loop-bucket.slots c.match-reached.slots before w.slots-is
           (λ low.
           let is : c.bucket-in-loop-bucket.result.now.reserved ≡ true =
-          ap (λ (d : BucketView). d.reserved) c.bucket-in-loop-bucket.ensures ∙ lt-ltb (id_at bucket 0) table.reserved low in
+          c.bucket-in-loop-bucket.ensures.reserved ∙ lt-ltb (id_at bucket 0) table.reserved low in
           let never : false ≡ true = w.in_default.ensures.reserved is in cc) in
           record {
             most = after.most;

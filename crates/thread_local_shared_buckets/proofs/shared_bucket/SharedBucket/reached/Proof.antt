@@ -101,7 +101,7 @@ reached_spec 𝓤 𝓛 𝓜 𝓡 wired T L =
     move ! (1 ∷ []) $ fsplit ! $ fpick ! (λ z. fsplit3 ! $ fpick ! (λ so. drop ! $ move ! (1 ∷ []) $ fsplit ! $
     -- [a part of the token of the block's life; what it shows; which block it is; nothing; κ's
     -- token; the other token]
-    move ! (0 ∷ 2 ∷ 3 ∷ []) $ drop ! $ drop ! $ drop ! $
+    move ! (0 ∷ 2 ∷ 3 ∷ []) $ drop ! $ drop ! $ drop ! $ fsplit ! $ move ! (1 ∷ []) $ drop ! $
     sets ! (of_opd ! (get ! refl)) refl (tt, tt) $
     sets ! (bin ! (get ! refl) (lit ! tt) (tests_null p so.2.1)) refl (tt, tt) $ first ! $
     branches ! (get ! refl) (λ wrong. absurd wrong) (λ _.

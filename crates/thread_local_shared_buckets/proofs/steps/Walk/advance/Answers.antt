@@ -12,7 +12,7 @@ use Rattle.thread_local_shared_buckets.specs.Steps.{Leads}
 use Rattle.thread_local_shared_buckets.specs.Walks.{Yields, Ends}
 use Rattle.thread_local_shared_buckets.proofs.BitLaws.{ended}
 use Rattle.thread_local_shared_buckets.proofs.StepLaws.{leads_nowhere}
-use Rattle.thread_local_shared_buckets.proofs.WalkLaws.{gives_later, ends}
+use Rattle.thread_local_shared_buckets.proofs.WalkLaws.{gives_later, ends, fits}
 use Rattle.thread_local_shared_buckets.proofs.steps.Walk.advance.Goals as goal
 use Rattle.thread_local_shared_buckets.proofs.steps.Walk.advance.Goals.{else-self-eq0-via-then-self-eq0+else-not-reach}
 use Rattle.thread_local_shared_buckets.proofs.steps.Walk.advance.Goals.{else-self-eq0-via-else-self-eq0}
@@ -50,7 +50,7 @@ returns-clause-goes g c =
     (option_map owed to.own) in
     let come = comes g c in
     gives_later (resting w.raw) (resting met.raw) (resting to.raw) (option_map owed w.own)
-    (option_map owed to.own) c.pass-found.result.1.now come.0 c.requires.walk.walk.fits (subst P come.1 c.pass-found.ensures.gives)
+    (option_map owed to.own) c.pass-found.result.1.now come.0 (fits w.raw w.own c.requires.walk.walk) (subst P come.1 c.pass-found.ensures.gives)
 
 pub returns-then-not-reach-clause-meets : goal.returns-then-not-reach-clause-meets
 returns-then-not-reach-clause-meets g c =

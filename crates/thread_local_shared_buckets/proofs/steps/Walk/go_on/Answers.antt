@@ -1,13 +1,9 @@
-use Rattle.std.proofs.Common.{List, subst}
-use Rattle.thread_local_ids.specs.Views.{TokenView}
-use Rattle.thread_local_ids.specs.TokenLists.{NoneIn}
 use Rattle.thread_local_shared_buckets.proofs.AtHandLaws.{moves_on}
 use Rattle.thread_local_shared_buckets.proofs.steps.Walk.go_on.Goals as goal
 
 pub returns : goal.returns
 returns g c =
-    moves_on c.args.self.now c.move_on.new.raw c.is_some-owed.result c.requires.walk c.requires.passed c.requires.in_table
-    c.requires.elsewhere c.is_some-owed.ensures c.move_on.ensures.moves c.requires.behind
-    (λ bucket low high.
-    subst (λ (ts : List (TokenView _)). NoneIn c.args.self.now.buckets.now.sharing bucket ts) c.list.ensures
-    (c.move_on.ensures.told bucket low high))
+    let take = c.take_first-bucket.ensures in
+    moves_on c.args.self.now c.take_first-bucket.result c.bucket_size-self.result c.take_first-bucket.new.left c.requires.walk c.requires.passed
+    c.requires.in_table c.requires.elsewhere c.bucket_size-self.ensures
+    (record { in_table = take.in_table; first = take.first; some = take.some; others = take.rest }) c.requires.behind

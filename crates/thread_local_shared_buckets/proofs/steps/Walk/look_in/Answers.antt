@@ -3,7 +3,7 @@ use Rattle.thread_local_ids.specs.TokenLists.{NoneIn}
 use Rattle.thread_local_shared_buckets.specs.AtHand.{FindsTokens, HasLookedOn, IsRowOf, IsWalk, LooksIn}
 use Rattle.thread_local_shared_buckets.specs.Positions.{own_index}
 use Rattle.thread_local_shared_buckets.specs.Shared.{BucketView}
-use Rattle.thread_local_shared_buckets.specs.TableView.{TableView, bucket_view}
+use Rattle.thread_local_shared_buckets.specs.TableView.{TableView, IsBucketOf}
 use Rattle.thread_local_shared_buckets.specs.declared.row.Row.{Row}
 use Rattle.thread_local_shared_buckets.specs.declared.seen.Seen.{Seen}
 use Rattle.thread_local_shared_buckets.specs.declared.steps.Walk.{Walk}
@@ -20,11 +20,11 @@ module _ {V : Type 0} where
     pub of : IfSome row (IsRowOf w.buckets.now.sharing w.raw.bucket)
     pub absent : row ≡ None → NoneIn w.buckets.now.sharing w.raw.bucket w.told
 
-  of_bucket : (s : TableView) (bucket : ℕ) (d : BucketView) (row : Option (Row V)) → d ≡ bucket_view s bucket
+  of_bucket : (s : TableView) (bucket : ℕ) (d : BucketView) (row : Option (Row V)) → IsBucketOf s bucket d
       → IfSome row (λ r. r.of ≡ d) → IfSome row (IsRowOf s.sharing bucket)
   of_bucket s bucket d None is of = tt
   of_bucket s bucket d (Some r) is of =
-      (ap (λ (b : BucketView). b.bucket) (of ∙ is), ap (λ (b : BucketView). b.sharing) (of ∙ is))
+      (ap (λ (b : BucketView). b.bucket) of ∙ is.number, ap (λ (b : BucketView). b.sharing) of ∙ is.sharing)
 
   looked : (w met : Walk V) → Loaded w met → (own : Option ℕ) (x : Option (Seen V) × ℕ × ℕ) → IsWalk w → w.rest ≡ 0
       → w.raw.bucket < 63 → own ≡ own_index met.own met.raw.bucket
@@ -50,7 +50,8 @@ loaded g c =
             of = of_bucket w.buckets.now w.raw.bucket x.bucket.result.now x.load-self.result x.bucket.ensures x.load-self.ensures.of;
             absent = λ none.
                 subst (λ (ts : List (TokenView _)). NoneIn w.buckets.now.sharing w.raw.bucket ts) x.list.ensures
-                (subst (λ (d : BucketView). NoneIn d.sharing d.bucket x.list.result.now.tokens) x.bucket.ensures (x.load-self.ensures.told none));
+                (subst (λ (at : Option ℕ × ℕ). NoneIn at.0 at.1 x.list.result.now.tokens)
+                (λ j. (x.bucket.ensures.sharing j, x.bucket.ensures.number j)) (x.load-self.ensures.told none));
           })
       | else-is_none x ↦
           (record {

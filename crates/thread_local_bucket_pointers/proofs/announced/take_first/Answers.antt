@@ -1,0 +1,12 @@
+use Rattle.std.proofs.Common.{arith}
+use Rattle.thread_local_base.proofs.Word.{lowest_set, clear_lowest_at}
+use Rattle.thread_local_bucket_pointers.proofs.announced.take_first.Goals as goal
+
+pub returns-clause-first : goal.returns-clause-first
+returns-clause-first c =
+    lowest_set c.args.buckets.now (omega arith) (λ none. absurd (let some = c.requires in omega (arith, none, some)))
+
+pub returns-clause-rest : goal.returns-clause-rest
+returns-clause-rest c =
+    clear_lowest_at c.args.buckets.now _ (omega arith)
+    (lowest_set c.args.buckets.now (omega arith) (λ none. absurd (let some = c.requires in omega (arith, none, some))))

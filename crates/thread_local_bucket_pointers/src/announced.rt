@@ -1,0 +1,40 @@
+//! Words of announced buckets, a bit each, and how a loop takes one bucket after another out of them.
+ghost use Rattle.std.specs.Prelude.{◌≡◌, ◌*◌, ◌^◌, ◌<◌, true, false};
+ghost use Rattle.thread_local_base.specs.Bits.{is_set, IsLowestSet, IsWordBut};
+
+/// A bit for each announced bucket. It is a struct, since threads share it as a struct of one field.
+#[derive(Clone, Copy)]
+pub struct AnnouncedBuckets {
+    pub bits: u64,
+}
+
+/// The first seven buckets, which are announced from the beginning.
+pub(crate) const FIRST_SEVEN: u64 = 127;
+
+/// Takes the first bucket out of a word of buckets.
+#[inline]
+pub fn take_first(buckets: &mut u64) -> usize
+    requires { 0 < buckets.old }
+    ensures first { IsLowestSet buckets.old result }
+    ensures rest { IsWordBut buckets.new buckets.old result false }
+    ensures fewer { buckets.new < buckets.old }
+{
+    let first = buckets.trailing_zeros() as usize;
+    *buckets &= *buckets - 1;
+    first
+}
+
+/// Takes the last bucket out of a word of buckets.
+#[inline]
+pub fn take_last(buckets: &mut u64) -> usize
+    requires { 0 < buckets.old }
+    ensures within { result < 64 }
+    ensures last { is_set buckets.old result ≡ true }
+    ensures highest { buckets.old < 2 * 2 ^ result }
+    ensures rest { IsWordBut buckets.new buckets.old result false }
+    ensures fewer { buckets.new < buckets.old }
+{
+    let last = buckets.ilog2() as usize;
+    *buckets &= !(1 << last);
+    last
+}

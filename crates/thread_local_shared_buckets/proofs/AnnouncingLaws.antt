@@ -1,0 +1,278 @@
+-- What lies with the word of announced buckets: it changes as buckets are announced, and shows of a
+-- bucket that was that its bit is set still. Assumes `Logic`.
+use Rattle.std.proofs.Common.{◌≡◌, ◌≢◌, ℕ, zero, suc, ◌+◌, ◌*◌, ◌%◌, ◌^◌, ◌<◌, Bool, true, false, [], ◌∷◌, refl, sym, subst, ◌∙◌}
+use Rattle.std.proofs.Common.{arith, ⊎_elim, Option, None, Some, bit_or}
+use Rattle.std.proofs.lemmas.Bool.{cases_lt, ne_eqb, eq-eqb}
+use Rattle.std.specs.Prelude.{◌==◌, if◌then◌else◌}
+use Rattle.std.specs.Coded.{coded_option}
+use seplogic.Ra.Ura.{Ura}
+use base.Logic.{SProp, emp, ex, upd, upd_i, via, guard, guard_e}
+use base.Fml.{GName, Lft, Share, Fml, ftrue, fsep, fex, flft, fbor}
+use types.Logic.{Logic}
+use types.Kit.{‵, raw, ◌⊛◌, some, settle, pick, show, frame, assume, suffices, ◌$◌, ◌∵◌, !, qed, move, keep, drop, split, fsplit}
+use types.Kit.{fjoin, fpick, fpack, check, learn, given, rewrite, use0, use1, use2, done}
+use denote.Builtin.{u64}
+use denote.RawPtr.{block_ptr}
+use denote.Steps.{nothing}
+use Rattle.std.specs.Sync.RawAtomic.{word, asks, always}
+use Rattle.thread_local_base.specs.Bits.{is_set, IsWordBut}
+use Rattle.thread_local_base.specs.Fact.{fact}
+use Rattle.thread_local_base.proofs.Opened.{Lies, opened}
+use Rattle.thread_local_base.proofs.Signs.{signs}
+use Rattle.thread_local_base.proofs.Word.{set_bit}
+use Rattle.thread_local_ids.specs.Told.{told_or_untold, untold_in}
+use Rattle.thread_local_ids.proofs.ToldElements.{told_dup, tells_it, telling_alike, source, source_new, all_drawn, New}
+use Rattle.thread_local_shared_buckets.specs.Announcing.{Announcing, told_of, announced_by, announced, lies_with_bit, lies_with_bits}
+use Rattle.thread_local_shared_buckets.specs.Announcing.{lies_with_word, word_invariant}
+
+none_is_not : ◌≡◌ {A = Option ℕ} None (Some 0) → ⊥
+none_is_not e = cc
+
+-- of a bit that is set as a bit of that name, and of another
+same_bit : (bit : ℕ) (old : Bool) → (if bit == bit then true else old) ≡ true
+same_bit bit old = rw (eq-eqb bit bit refl) refl
+
+other_bit : (bit i : ℕ) → bit ≢ i → (old : Bool) → (if bit == i then true else old) ≡ old
+other_bit bit i apart old = rw (ne_eqb bit i apart) refl
+
+-- the rights to tell of the buckets below a number that they are announced
+abbrev pub bits_untold : GName → ℕ → Fml
+bits_untold γ zero = ftrue
+bits_untold γ (suc bit) = fsep (untold_in (Some γ) bit) (bits_untold γ bit)
+
+-- all that a sharing begins with beside its word: a new name's rights
+abbrev pub new_rights : Fml
+new_rights = fex GName (λ γ. bits_untold γ 63)
+
+module _ {M : Type 1} {𝓤 : Ura M} (𝓛 : Logic 𝓤) where
+  open 𝓛 use {A}
+  open signs 𝓛 use {⟦◌⟧, ◌⊢◌, ◌∗◌}
+
+  infix 26 ◌⊢◌
+  infixr 35 ◌∗◌
+  told_twice : (γ : GName) (bit : ℕ) → ⟦ told_of γ bit ⟧ ⊢ ⟦ told_of γ bit ⟧ ∗ ⟦ told_of γ bit ⟧
+  told_twice γ bit = told_dup 𝓛 (Some γ) bit ((coded_option u64.coded).code (Some 0))
+
+  by_twice : (γ : GName) (bit : ℕ) (begun : Bool)
+      → ⟦ announced_by γ bit begun ⟧ ⊢ ⟦ announced_by γ bit begun ⟧ ∗ ⟦ announced_by γ bit begun ⟧
+  by_twice γ bit true = qed 𝓛 (‵ ftrue ∷ []) ∵ nothing ! $ done !
+  by_twice γ bit false = told_twice γ bit
+
+  -- that a bucket is announced can be had twice
+  pub announced_twice : (m : Announcing) (bit : ℕ) → ⟦ announced m bit ⟧ ⊢ ⟦ announced m bit ⟧ ∗ ⟦ announced m bit ⟧
+  announced_twice m bit = by_twice m.name bit (is_set m.begun bit)
+
+  -- whatever lies with a bit, the bucket may be announced by setting it
+  one_set : (γ : GName) (bit : ℕ) (begun set : Bool)
+      → ⟦ lies_with_bit γ bit begun set ⟧ ⊢ upd 𝓤 (⟦ lies_with_bit γ bit begun true ⟧ ∗ ⟦ announced_by γ bit begun ⟧)
+  one_set γ bit true set =
+      let Z = ⟦ lies_with_bit γ bit true true ⟧ ∗ ⟦ announced_by γ bit true ⟧ in
+      qed 𝓛 (‵ (lies_with_bit γ bit true set) ∷ []) ∵ drop ! $ suffices ! _ (upd_i 𝓤 Z) $ nothing ! $
+      fpack ! (true ≡ true) (λ _. ftrue) refl $ nothing ! $ move ! (1 ∷ 0 ∷ []) $ done !
+  one_set γ bit false true =
+      let Z = ⟦ lies_with_bit γ bit false true ⟧ ∗ ⟦ announced_by γ bit false ⟧ in
+      qed 𝓛 (‵ (told_of γ bit) ∷ []) ∵ use1 𝓛 (‵ (told_of γ bit) ⊛ ‵ (told_of γ bit)) (told_twice γ bit) $
+      suffices ! _ (upd_i 𝓤 Z) $ split ! $ done !
+  one_set γ bit false false =
+      let Z = ⟦ lies_with_bit γ bit false true ⟧ ∗ ⟦ announced_by γ bit false ⟧ in
+      qed 𝓛 (‵ (untold_in (Some γ) bit) ∷ []) ∵
+      use1 𝓛 (raw (upd 𝓤 ⟦ told_of γ bit ⟧)) (tells_it 𝓛 (Some γ) bit ((coded_option u64.coded).code (Some 0))) $
+      settle 𝓛 Z (‵ (told_of γ bit)) $
+      use1 𝓛 (‵ (told_of γ bit) ⊛ ‵ (told_of γ bit)) (told_twice γ bit) $
+      suffices ! _ (upd_i 𝓤 Z) $ split ! $ done !
+
+  module _ (m : Announcing) where
+    -- bits that don't change keep what lies with them
+    stay : (n n' count : ℕ) → ((i : ℕ) → i < count → is_set n' i ≡ is_set n i)
+        → ⟦ lies_with_bits m n count ⟧ ⊢ ⟦ lies_with_bits m n' count ⟧
+    stay n n' zero same = qed 𝓛 (‵ ftrue ∷ []) ∵ done !
+    stay n n' (suc c) same =
+        qed 𝓛 (‵ (lies_with_bits m n (suc c)) ∷ []) ∵ fsplit ! $
+        rewrite ! 0 (λ (b : Bool). ‵ (lies_with_bit m.name c (is_set m.begun c) b)) (sym (same c (omega arith))) refl $
+        move ! (1 ∷ []) $ use1 𝓛 (‵ (lies_with_bits m n' c)) (stay n n' c (λ i low. same i (omega arith))) $
+        move ! (1 ∷ 0 ∷ []) $ fjoin ! $ done !
+
+    -- a bit is set: the bucket is announced, and the others stay
+    bit_raised : (n n' bit count : ℕ) → bit < count → is_set n' bit ≡ true
+        → ((i : ℕ) → i < count → bit ≢ i → is_set n' i ≡ is_set n i)
+        → ⟦ lies_with_bits m n count ⟧ ⊢ upd 𝓤 (⟦ lies_with_bits m n' count ⟧ ∗ ⟦ announced m bit ⟧)
+    bit_raised n n' bit zero low set others = absurd (omega arith)
+    bit_raised n n' bit (suc c) low set others =
+        let Z = ⟦ lies_with_bits m n' (suc c) ⟧ ∗ ⟦ announced m bit ⟧ in
+        let One : Bool → Fml = λ b. lies_with_bit m.name c (is_set m.begun c) b in
+        ⊎_elim
+        (λ (below : bit < c).
+        qed 𝓛 (‵ (lies_with_bits m n (suc c)) ∷ []) ∵ fsplit ! $
+        rewrite ! 0 (λ (b : Bool). ‵ (One b)) (sym (others c (omega arith) (λ e. absurd (omega arith)))) refl $
+        move ! (1 ∷ []) $
+        use1 𝓛 (raw (upd 𝓤 (⟦ lies_with_bits m n' c ⟧ ∗ ⟦ announced m bit ⟧)))
+        (bit_raised n n' bit c below set (λ i l. others i (omega arith))) $
+        settle 𝓛 Z (‵ (lies_with_bits m n' c) ⊛ ‵ (announced m bit)) $ suffices ! _ (upd_i 𝓤 Z) $ split ! $
+        move ! (2 ∷ 0 ∷ []) $ fjoin ! $ done !)
+        (λ above.
+        let here : c ≡ bit = omega arith in
+        let is : true ≡ is_set n' c = sym (subst (λ (i : ℕ). is_set n' i ≡ true) (sym here) set) in
+        qed 𝓛 (‵ (lies_with_bits m n (suc c)) ∷ []) ∵ fsplit ! $
+        use1 𝓛 (raw (upd 𝓤 (⟦ One true ⟧ ∗ ⟦ announced m c ⟧))) (one_set m.name c (is_set m.begun c) (is_set n c)) $
+        settle 𝓛 Z (‵ (One true) ⊛ ‵ (announced m c)) $ suffices ! _ (upd_i 𝓤 Z) $ split ! $
+        -- [what lies with the bit; the bucket is announced; the other bits]
+        rewrite ! 0 (λ (b : Bool). ‵ (One b)) is refl $ move ! (2 ∷ []) $
+        use1 𝓛 (‵ (lies_with_bits m n' c)) (stay n n' c (λ i l. others i (omega arith) (λ e. absurd (omega arith)))) $
+        move ! (1 ∷ 0 ∷ []) $ fjoin ! $ move ! (1 ∷ []) $
+        rewrite ! 0 (λ (i : ℕ). ‵ (announced m i)) here refl $ move ! (1 ∷ 0 ∷ []) $ done !)
+        (cases_lt bit c)
+
+    pub raised : (n n' bit : ℕ) → bit < 63 → IsWordBut n' n bit true
+        → ⟦ lies_with_word m n ⟧ ⊢ upd 𝓤 (⟦ lies_with_word m n' ⟧ ∗ ⟦ announced m bit ⟧)
+    raised n n' bit low but =
+        let Z = ⟦ lies_with_word m n' ⟧ ∗ ⟦ announced m bit ⟧ in
+        qed 𝓛 (‵ (lies_with_word m n) ∷ []) ∵ fsplit ! $ fpick ! (λ none. drop ! $
+        use1 𝓛 (raw (upd 𝓤 (⟦ lies_with_bits m n' 63 ⟧ ∗ ⟦ announced m bit ⟧)))
+        (bit_raised n n' bit 63 low (but bit (omega arith) ∙ same_bit bit (is_set n bit))
+        (λ i near apart. but i (omega arith) ∙ other_bit bit i apart (is_set n i))) $
+        settle 𝓛 Z (‵ (lies_with_bits m n' 63) ⊛ ‵ (announced m bit)) $ suffices ! _ (upd_i 𝓤 Z) $ split ! $
+        let still : is_set n' 63 ≡ false = but 63 (omega arith) ∙ other_bit bit 63 (λ e. absurd (omega arith)) (is_set n 63) ∙ none in
+        nothing ! $ fpack ! (is_set n' 63 ≡ false) (λ _. ftrue) still $ move ! (0 ∷ 1 ∷ []) $ fjoin ! $ done !)
+
+    agrees : (bit : ℕ) (begun set : Bool)
+        → ⟦ lies_with_bit m.name bit begun set ⟧ ∗ ⟦ announced_by m.name bit begun ⟧
+        ⊢ guard 𝓤 (set ≡ true) ⟦ lies_with_bit m.name bit begun set ⟧
+    agrees bit true set =
+        qed 𝓛 (‵ (fact (set ≡ true)) ∷ ‵ ftrue ∷ []) ∵ fpick ! (λ is. check ! is $ drop ! $
+        fpack ! (set ≡ true) (λ _. ftrue) is $ done !)
+    agrees bit false true =
+        qed 𝓛 (‵ (told_of m.name bit) ∷ ‵ (told_of m.name bit) ∷ []) ∵ check ! refl $ keep ! (0 ∷ []) $ done !
+    agrees bit false false =
+        let Z = guard 𝓤 (false ≡ true) ⟦ lies_with_bit m.name bit false false ⟧ in
+        let Both = ⟦ told_or_untold u64 (Some m.name) bit None ⟧ ∗ ⟦ told_of m.name bit ⟧ in
+        let Not : Type 0 = ◌≡◌ {A = Option ℕ} None (Some 0) in
+        via 𝓤 (guard 𝓤 Not Both) (telling_alike 𝓛 u64 (Some m.name) refl bit None 0)
+        (guard_e 𝓤 Not Both (λ e. let no : Both ⊢ Z = absurd (none_is_not e) in no))
+
+    bit_shown : (n bit count : ℕ) → bit < count
+        → ⟦ lies_with_bits m n count ⟧ ∗ ⟦ announced m bit ⟧ ⊢ guard 𝓤 (is_set n bit ≡ true) ⟦ lies_with_bits m n count ⟧
+    bit_shown n bit zero low = absurd (omega arith)
+    bit_shown n bit (suc c) low =
+        let One : ℕ → Fml = λ i. lies_with_bit m.name i (is_set m.begun i) (is_set n i) in
+        ⊎_elim
+        (λ (below : bit < c).
+        qed 𝓛 (‵ (lies_with_bits m n (suc c)) ∷ ‵ (announced m bit) ∷ []) ∵ fsplit ! $ move ! (1 ∷ 2 ∷ []) $
+        use2 𝓛 (given (is_set n bit ≡ true) (‵ (lies_with_bits m n c))) (bit_shown n bit c below) $ learn ! (λ is.
+        check ! is $ move ! (1 ∷ 0 ∷ []) $ fjoin ! $ done !))
+        (λ above.
+        let here : bit ≡ c = omega arith in
+        qed 𝓛 (‵ (lies_with_bits m n (suc c)) ∷ ‵ (announced m bit) ∷ []) ∵ fsplit ! $ move ! (0 ∷ 2 ∷ []) $
+        rewrite ! 0 (λ (i : ℕ). ‵ (One i)) (sym here) refl $
+        use2 𝓛 (given (is_set n bit ≡ true) (‵ (One bit))) (agrees bit (is_set m.begun bit) (is_set n bit)) $ learn ! (λ is.
+        check ! is $ rewrite ! 0 (λ (i : ℕ). ‵ (One i)) here refl $ fjoin ! $ done !))
+        (cases_lt bit c)
+
+    -- the bit of a bucket that is announced is set
+    pub shows : (n bit : ℕ) → bit < 63
+        → ⟦ lies_with_word m n ⟧ ∗ ⟦ announced m bit ⟧ ⊢ guard 𝓤 (is_set n bit ≡ true) ⟦ lies_with_word m n ⟧
+    shows n bit low =
+        qed 𝓛 (‵ (lies_with_word m n) ∷ ‵ (announced m bit) ∷ []) ∵ fsplit ! $ move ! (1 ∷ 2 ∷ []) $
+        use2 𝓛 (given (is_set n bit ≡ true) (‵ (lies_with_bits m n 63))) (bit_shown n bit 63 low) $ learn ! (λ is.
+        check ! is $ move ! (1 ∷ 0 ∷ []) $ fjoin ! $ done !)
+
+    -- the bits that were set when the sharing began are
+    begun_set : (n bit : ℕ) → bit < 63 → is_set m.begun bit ≡ true
+        → ⟦ lies_with_word m n ⟧ ⊢ guard 𝓤 (is_set n bit ≡ true) ⟦ lies_with_word m n ⟧
+    begun_set n bit low was =
+        qed 𝓛 (‵ (lies_with_word m n) ∷ []) ∵ nothing ! $
+        rewrite ! 0 (λ (b : Bool). ‵ (announced_by m.name bit b)) (sym was) refl $ move ! (1 ∷ 0 ∷ []) $
+        use2 𝓛 (given (is_set n bit ≡ true) (‵ (lies_with_word m n))) (shows n bit low) $ learn ! (λ is.
+        check ! is $ done !)
+
+    pub first_set : (n count : ℕ) → count < 63 → ((bit : ℕ) → bit < count → is_set m.begun bit ≡ true)
+        → ⟦ lies_with_word m n ⟧ ⊢ guard 𝓤 ((bit : ℕ) → bit < count → is_set n bit ≡ true) ⟦ lies_with_word m n ⟧
+    first_set n zero low was = qed 𝓛 (‵ (lies_with_word m n) ∷ []) ∵ check ! (λ bit near. absurd (omega (arith, near))) $ done !
+    first_set n (suc c) low was =
+        qed 𝓛 (‵ (lies_with_word m n) ∷ []) ∵
+        use1 𝓛 (given ((bit : ℕ) → bit < c → is_set n bit ≡ true) (‵ (lies_with_word m n)))
+        (first_set n c (omega (arith, low)) (λ bit near. was bit (omega (arith, near)))) $ learn ! (λ below.
+        use1 𝓛 (given (is_set n c ≡ true) (‵ (lies_with_word m n))) (begun_set n c (omega (arith, low)) (was c (omega arith))) $
+        learn ! (λ last. check ! (λ bit near. ⊎_elim (λ (under : bit < c). below bit under)
+        (λ above. let here : c ≡ bit = omega (arith, near, above) in subst (λ (k : ℕ). is_set n k ≡ true) here last) (cases_lt bit c)) $
+        done !))
+
+    pub none_past : (n : ℕ) → ⟦ lies_with_word m n ⟧ ⊢ guard 𝓤 (is_set n 63 ≡ false) ⟦ lies_with_word m n ⟧
+    none_past n =
+        qed 𝓛 (‵ (lies_with_word m n) ∷ []) ∵ fsplit ! $ fpick ! (λ none. check ! none $
+        fpack ! (is_set n 63 ≡ false) (λ _. ftrue) none $ fjoin ! $ done !)
+
+    -- a bucket that was announced when the sharing began is
+    pub begun_announced : (bit : ℕ) → is_set m.begun bit ≡ true → ⟦ ftrue ⟧ ⊢ ⟦ announced m bit ⟧
+    begun_announced bit is =
+        qed 𝓛 (‵ ftrue ∷ []) ∵ rewrite ! 0 (λ (b : Bool). ‵ (announced_by m.name bit b)) (sym is) refl $ done !
+
+  -- a new name has these rights
+  pub untold_drawn : (γ : GName) (count : ℕ) → ⟦ source 𝓛 γ 0 ⟧ ⊢ upd 𝓤 (⟦ bits_untold γ count ⟧ ∗ ⟦ source 𝓛 γ count ⟧)
+  untold_drawn γ zero =
+      let Z : SProp 𝓤 = ⟦ ftrue ⟧ ∗ ⟦ source 𝓛 γ 0 ⟧ in
+      qed 𝓛 (‵ (source 𝓛 γ 0) ∷ []) ∵ suffices ! _ (upd_i 𝓤 Z) $ nothing ! $ done !
+  untold_drawn γ (suc c) =
+      let Z : SProp 𝓤 = ⟦ bits_untold γ (suc c) ⟧ ∗ ⟦ source 𝓛 γ (suc c) ⟧ in
+      let One : Fml = fsep (untold_in (Some γ) c) ftrue in
+      qed 𝓛 (‵ (source 𝓛 γ 0) ∷ []) ∵
+      use1 𝓛 (raw (upd 𝓤 (⟦ bits_untold γ c ⟧ ∗ ⟦ source 𝓛 γ c ⟧))) (untold_drawn γ c) $
+      settle 𝓛 Z (‵ (bits_untold γ c) ⊛ ‵ (source 𝓛 γ c)) $ split ! $ move ! (1 ∷ []) $
+      use1 𝓛 (raw (upd 𝓤 (⟦ One ⟧ ∗ ⟦ source 𝓛 γ (suc c) ⟧))) (all_drawn 𝓛 u64 γ c (suc c) (None ∷ []) (omega arith)) $
+      settle 𝓛 Z (‵ One ⊛ ‵ (source 𝓛 γ (suc c))) $ suffices ! _ (upd_i 𝓤 Z) $ split ! $ fsplit ! $
+      -- [the right; nothing; what is left; the other rights]
+      move ! (0 ∷ 3 ∷ []) $ fjoin ! $ keep ! (0 ∷ 2 ∷ []) $ done !
+
+  pub rights_new : emp 𝓤 ⊢ upd 𝓤 ⟦ new_rights ⟧
+  rights_new =
+      let Z : SProp 𝓤 = ⟦ new_rights ⟧ in
+      qed 𝓛 [] ∵ use0 𝓛 (raw (upd 𝓤 (ex 𝓤 (New 𝓛 None)))) (source_new 𝓛 None) $
+      settle 𝓛 Z (some (λ (γ : ℕ). given (Some γ ≢ None) (‵ (source 𝓛 γ 0)))) $ pick ! (λ γ. learn ! (λ _.
+      use1 𝓛 (raw (upd 𝓤 (⟦ bits_untold γ 63 ⟧ ∗ ⟦ source 𝓛 γ 63 ⟧))) (untold_drawn γ 63) $
+      settle 𝓛 Z (‵ (bits_untold γ 63) ⊛ ‵ (source 𝓛 γ 63)) $ suffices ! _ (upd_i 𝓤 Z) $ split ! $
+      keep ! (0 ∷ []) $ fpack ! GName (λ η. bits_untold η 63) γ $ done !))
+
+  -- any word may begin a sharing with these rights
+  one_begins : (γ : GName) (bit : ℕ) (set : Bool) → ⟦ untold_in (Some γ) bit ⟧ ⊢ ⟦ lies_with_bit γ bit set set ⟧
+  one_begins γ bit true =
+      qed 𝓛 (‵ (untold_in (Some γ) bit) ∷ []) ∵ drop ! $ nothing ! $ fpack ! (true ≡ true) (λ _. ftrue) refl $ done !
+  one_begins γ bit false = qed 𝓛 (‵ (untold_in (Some γ) bit) ∷ []) ∵ done !
+
+  bits_begin : (γ : GName) (n count : ℕ)
+      → ⟦ bits_untold γ count ⟧ ⊢ ⟦ lies_with_bits (record { name = γ; begun = n }) n count ⟧
+  bits_begin γ n zero = qed 𝓛 (‵ ftrue ∷ []) ∵ done !
+  bits_begin γ n (suc c) =
+      let m : Announcing = record { name = γ; begun = n } in
+      qed 𝓛 (‵ (bits_untold γ (suc c)) ∷ []) ∵ fsplit ! $
+      use1 𝓛 (‵ (lies_with_bit γ c (is_set n c) (is_set n c))) (one_begins γ c (is_set n c)) $ move ! (1 ∷ []) $
+      use1 𝓛 (‵ (lies_with_bits m n c)) (bits_begin γ n c) $ move ! (1 ∷ 0 ∷ []) $ fjoin ! $ done !
+
+  pub begins : (γ : GName) (n : ℕ) → is_set n 63 ≡ false
+      → ⟦ bits_untold γ 63 ⟧ ⊢ ⟦ lies_with_word (record { name = γ; begun = n }) n ⟧
+  begins γ n none =
+      qed 𝓛 (‵ (bits_untold γ 63) ∷ []) ∵
+      use1 𝓛 (‵ (lies_with_bits (record { name = γ; begun = n }) n 63)) (bits_begin γ n 63) $
+      nothing ! $ fpack ! (is_set n 63 ≡ false) (λ _. ftrue) none $ fjoin ! $ done !
+
+  module _ (m : Announcing) (b o : ℕ) (κ : Lft) (q : Share) where
+    abbrev I : Fml
+    I = word_invariant m b (o + 0)
+
+    -- the atomic step that sets the bit of a bucket
+    pub sets : (bit mask : ℕ) → bit < 63 → mask ≡ 1 * 2 ^ bit % 2 ^ 64
+        → A.inv (fbor κ I) ∗ (A.lft κ q ∗ ⟦ ftrue ⟧)
+        ⊢ asks 𝓛 (block_ptr b (o + 0)) (λ n. bit_or n mask) always (λ n. fsep (flft κ q) (announced m bit))
+    sets bit mask low is =
+        let f : ℕ → ℕ = λ n. bit_or n mask in
+        let L : ℕ → SProp 𝓤 = Lies 𝓛 κ q I b (o + 0) f (λ _. announced m bit) in
+        let Z : SProp 𝓤 = ⟦ I ⟧ ∗ ⟦ announced m bit ⟧ in
+        opened 𝓛 κ q I b (o + 0) f (λ _. announced m bit) ⟦ ftrue ⟧ (qed 𝓛 (‵ I ∷ ‵ ftrue ∷ []) ∵
+        suffices ! _ (upd_i 𝓤 (ex 𝓤 L)) $ fpick ! (λ n. fsplit ! $
+        show ! L n $ frame ! $ assume ! (‵ (word b (o + 0) (f n))) $
+        -- [the word; what lies with it; nothing]
+        let but : IsWordBut (f n) n bit true =
+        subst (λ (k : ℕ). IsWordBut (bit_or n k) n bit true) (sym is) (set_bit n bit (omega arith)) in
+        move ! (1 ∷ []) $
+        use1 𝓛 (raw (upd 𝓤 (⟦ lies_with_word m (f n) ⟧ ∗ ⟦ announced m bit ⟧))) (raised m n (f n) bit low but) $
+        settle 𝓛 Z (‵ (lies_with_word m (f n)) ⊛ ‵ (announced m bit)) $ suffices ! _ (upd_i 𝓤 Z) $ split ! $
+        move ! (2 ∷ 0 ∷ []) $ fjoin ! $ fpack ! ℕ (λ k. fsep (word b (o + 0) k) (lies_with_word m k)) (f n) $
+        keep ! (0 ∷ 1 ∷ []) $ done !))
