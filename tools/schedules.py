@@ -374,9 +374,9 @@ def under_way(doing):
     match doing:
         case ("Gets", count):
             return count, None
-        case ("Started", create) | ("Private", create, _, _):
+        case ("Started", create) | ("Private", create, _):
             return 0, create
-        case ("Written", value):
+        case ("Written", value) | ("Filled", value, _, _):
             return 0, ("Ok", value)
 
 
@@ -454,9 +454,9 @@ def calls_go(step, before, after):
     match step[0]:
         case "MakeBucket":
             return offer_ends and told if refused else goes_on
-        case "LoadPointer" | "LookAtFlag" | "AnnounceBucket" | "InstallBucket":
+        case "LoadPointer" | "LookAtFlag" | "AnnounceBucket":
             return goes_on
-        case "WriteValue":
+        case "FillBucket" | "InstallBucket" | "WriteValue":
             return goes_on or offer_ends
         case "SetFlag":
             return offer_ends
@@ -465,7 +465,7 @@ def calls_go(step, before, after):
 
 
 @tries("every_schedule", "goes_on")
-@tries("words_say", "step_keeps", "get_begins", "publishing_begins", "calls_stay", "writes", "sets_flag", "replies")
+@tries("words_say", "step_keeps", "get_begins", "publishing_begins", "calls_stay", "fills", "install_goes", "writes", "sets_flag", "replies")
 def clause_goes_on(m):
     if m.event[0] != "OfLocal" or not model.is_enabled(m.before, m.event):
         return True
@@ -574,10 +574,12 @@ def needs(step, local):
             return looks and learnt == "Standing"
         case "MakeBucket":
             return doing == "Started" and learnt == "Missing"
+        case "FillBucket":
+            return doing == "Private"
         case "AnnounceBucket":
-            return doing == "Private" and not local.doing[3]
+            return doing == "Filled" and not local.doing[3]
         case "InstallBucket":
-            return doing == "Private" and local.doing[3]
+            return doing == "Filled" and local.doing[3]
         case "WriteValue":
             return doing == "Started" and learnt == "Vacant"
         case "SetFlag":
@@ -620,6 +622,11 @@ def clause_step_asks(m):
     return as_needed(m, "MakeBucket", False) and as_needed(m, "MakeBucket", True)
 
 
+@tries("steps_happen", "fills")
+def clause_step_fills(m):
+    return as_needed(m, "FillBucket")
+
+
 @tries("steps_happen", "announces")
 def clause_step_announces(m):
     return as_needed(m, "AnnounceBucket")
@@ -660,14 +667,19 @@ def clause_walk_looks(m):
 # What each event changes of the sheet, the buckets and the slots, and what it leaves.
 
 
+def own_stands(core, local):
+    """Whether the bucket of a Local's id stands."""
+    return model.bucket_stands(core.table, bucket_of(local.id))
+
+
 def numbers_of(sheet):
     """The held ids of a sheet."""
     return {k for k, it in enumerate(sheet.held) if it}
 
 
-@tries("events_change", "sheet_stays", "takes", "gives_back", "publishes", "rewrites")
+@tries("events_change", "sheet_stays", "takes", "gives_back", "publishes", "installs_value", "installs_beside", "rewrites")
 def clause_sheet_stays(m):
-    """A take holds the least free id, a give back frees its Local's, a flag publishes what was written; all else stays."""
+    """A take holds the least free id, a give back frees its Local's, a flag and an install publish a value; all else stays."""
     before, after = model.shadow(m.before), model.shadow(m.after)
     held, values = numbers_of(before), list(before.values)
     match m.event if model.is_enabled(m.before, m.event) else None:
@@ -676,6 +688,8 @@ def clause_sheet_stays(m):
         case ("GiveBack", n):
             held -= {live_local(m.before, n).id}
         case ("OfLocal", n, ("SetFlag",)):
+            values[live_local(m.before, n).id] = live_local(m.before, n).doing[1]
+        case ("OfLocal", n, ("InstallBucket",)) if not own_stands(m.before, live_local(m.before, n)):
             values[live_local(m.before, n).id] = live_local(m.before, n).doing[1]
         case ("Owner", ("RewriteTable", others)):
             values = [None if v is None else others(k, v) for k, v in enumerate(values)]
@@ -695,29 +709,34 @@ def clause_shows(m):
     return all(values[k] == (it.written if it.flag else None) for k, it in slots)
 
 
-@tries("events_change", "writes", "sets_flag")
+@tries("events_change", "writes", "writes_beside", "sets_flag")
 def clause_writes(m):
     """A value is written in the slot of the Local's id, and then its flag is set; no other slot changes meanwhile."""
     old, new = m.before.table, m.after.table
-    writes, sets = stepped(m, "WriteValue"), stepped(m, "SetFlag")
-    if new is old and writes is None and sets is None:
+    writes, sets, installs = stepped(m, "WriteValue"), stepped(m, "SetFlag"), stepped(m, "InstallBucket")
+    if new is old and writes is None and sets is None and installs is None:
         return True
     slots = {k: model.slot_at(old, k) for k in range(model.IDS)}
     if writes is not None and writes[0].doing[1][0] == "Ok":
         slots[writes[0].id] = replace(slots[writes[0].id], written=writes[0].doing[1][1])
     if sets is not None:
         slots[sets[0].id] = replace(slots[sets[0].id], flag=True)
+    if installs is not None:
+        slots[installs[0].id] = Slot(installs[0].doing[1], not own_stands(m.before, installs[0]))
     return model.is_exclusive(m.event) or all(model.slot_at(new, k) == it for k, it in slots.items())
 
 
-@tries("events_change", "makes", "announces", "announced")
+@tries("events_change", "makes", "fills", "fill_stays", "announces", "announced")
 def clause_makes(m):
-    """A call that has made its bucket knows whether it is announced, and where it isn't, announces that one and no other."""
-    made, announced = stepped(m, "MakeBucket"), stepped(m, "AnnounceBucket")
+    """A call makes its bucket empty, fills it unseen, and announces it where it doesn't know that, and no other."""
+    made, fills, announced = stepped(m, "MakeBucket"), stepped(m, "FillBucket"), stepped(m, "AnnounceBucket")
     table = m.before.table
     if made is not None and m.event[2] == ("MakeBucket", False):
-        own = bucket_of(made[0].id)
-        return made[1].doing == ("Private", made[0].doing[1], table.made, table.announced[own])
+        return made[1].doing == ("Private", made[0].doing[1], table.made)
+    if fills is not None:
+        (_, (kind, value), number), own = fills[0].doing, bucket_of(fills[0].id)
+        knows = kind == "Err" or fills[1].doing == ("Filled", value, number, table.announced[own])
+        return knows and m.after.table == table
     if announced is None:
         return True
     own = bucket_of(announced[0].id)
@@ -737,12 +756,15 @@ def clause_installs_own(m):
     return kept and model.number_at(new, own) == (model.own_number(it[0].doing) if number is None else number)
 
 
-@tries("events_change", "holds", "installed")
+@tries("events_change", "holds", "installed", "beside")
 def clause_holds(m):
-    """After an install the slot is known to be empty, and after the flag is set to hold the value."""
+    """After an install and after the flag is set the slot is known to hold the value; beside another's bucket, to be empty yet."""
     installed, sets = stepped(m, "InstallBucket"), stepped(m, "SetFlag")
-    empty = installed is None or installed[1].learnt == ("Vacant",)
-    return empty and (sets is None or sets[1].learnt == ("Holding", sets[0].doing[1]))
+    if installed is not None:
+        value, learnt, doing = installed[0].doing[1], installed[1].learnt, installed[1].doing
+        beside = own_stands(m.before, installed[0])
+        return (learnt, doing) == ((("Vacant",), ("Written", value)) if beside else (("Holding", value), ("Gets", 0)))
+    return sets is None or sets[1].learnt == ("Holding", sets[0].doing[1])
 
 
 @tries("every_walk", "pass_moves", "load_moves", "look_moves")
@@ -773,7 +795,8 @@ def clause_one_among(m):
     return all(model.buckets_among(announced[: b + 1]) == model.buckets_among(announced[:b]) + it for b, it in enumerate(announced))
 
 
-@tries("words_say", "no_moves", "take_moves", "give_moves", "publish_moves", "rewrite_moves", "drain_moves", "clear_moves")
+@tries("words_say", "no_moves", "take_moves", "give_moves", "publish_moves", "install_moves", "beside_moves")
+@tries("words_say", "rewrite_moves", "drain_moves", "clear_moves")
 def clause_no_moves(m):
     """Which move each event is."""
     move = model.move_of(m.before, m.event)
@@ -783,6 +806,8 @@ def clause_no_moves(m):
         case ("GiveBack", n):
             return move == ("Give", live_local(m.before, n).id)
         case ("OfLocal", n, ("SetFlag",)):
+            return move == ("Publish", live_local(m.before, n).id, live_local(m.before, n).doing[1])
+        case ("OfLocal", n, ("InstallBucket",)) if not own_stands(m.before, live_local(m.before, n)):
             return move == ("Publish", live_local(m.before, n).id, live_local(m.before, n).doing[1])
         case ("Owner", (name, *others)) if name in ("RewriteTable", "DrainTable", "ClearTable"):
             return move == (name[: -len("Table")], *others)
@@ -813,7 +838,7 @@ def clause_created(m):
         if call[2] and not view.known:
             return ("Refused",), view
         value = call[1][1]
-        return (("Answered", value), View(value, True)) if call[1][0] == "Ok" else (("Failed", value), View(None, True))
+        return (("Answered", value), View(value, True)) if call[1][0] == "Ok" else (("Failed", value), view)
 
     views = [View(value, known) for value in (None, "there") for known in (False, True)]
     calls = [("Get",)] + [("GetOr", (kind, "any"), refused) for kind in ("Ok", "Err") for refused in (False, True)]
@@ -841,7 +866,7 @@ def clause_newcomers(m):
 def clause_call_goes_on(m):
     """A call under way has a step that is enabled and brings it nearer to its end."""
     steps = [("LoadPointer",), ("LookAtFlag",), ("MakeBucket", False), ("MakeBucket", True)]
-    steps += [("AnnounceBucket",), ("InstallBucket",), ("WriteValue",), ("SetFlag",), ("Reply",)]
+    steps += [("FillBucket",), ("AnnounceBucket",), ("InstallBucket",), ("WriteValue",), ("SetFlag",), ("Reply",)]
 
     def goes_on(n, it):
         after = [model.step(m.after, ("OfLocal", n, step)) for step in steps]
@@ -921,15 +946,17 @@ def clause_owners_announced(m):
     return not model.is_exclusive(m.event) or m.after.table.announced == m.before.table.announced
 
 
+@tries("events_say", "fails", "fails_unused")
 def clause_fails(m):
-    """The closure's error is handed on where the slot is vacant."""
+    """The closure's error is handed on where the slot is vacant, and where the call has a bucket of its own."""
     for n, it in changed(m):
         create = under_way(it.doing)[1]
-        if not m.after.ended and create is not None and create[0] == "Err" and it.learnt == ("Vacant",):
-            after = model.step(m.after, ("OfLocal", n, ("WriteValue",)))
-            then = None if after is None else live_local(after, n)
-            if not has_no_call(then) or then.answers != it.answers + (("Failed", create[1]),):
-                return False
+        if m.after.ended or create is None or create[0] != "Err" or (it.learnt != ("Vacant",) and it.doing[0] != "Private"):
+            continue
+        after = model.step(m.after, ("OfLocal", n, ("FillBucket",) if it.doing[0] == "Private" else ("WriteValue",)))
+        then = None if after is None else live_local(after, n)
+        if not has_no_call(then) or then.answers != it.answers + (("Failed", create[1]),) or then.learnt != it.learnt:
+            return False
     return True
 
 
@@ -1009,13 +1036,15 @@ def clause_installed(m):
 
 def offering(m):
     """The Locals whose calls have made a bucket and not yet offered it."""
-    return [it for _, it in live(m.after) if it.doing[0] == "Private"]
+    return [it for _, it in live(m.after) if it.doing[0] in ("Private", "Filled")]
 
 
+@tries("words_say", "own", "own_filled")
 def clause_own(m):
     return all(model.own_number(it.doing) == it.doing[2] for it in offering(m))
 
 
+@tries("words_say", "own_slots", "filled_slots")
 def clause_own_slots(m):
     return all(model.private_slots(it.id, it.doing) == 2 ** bucket_of(it.id) for it in offering(m))
 
@@ -1192,7 +1221,8 @@ class Rewriter:
 def any_step(chance, mark):
     create = ("Ok", f"v{mark}") if chance.random() < 0.75 else ("Err", f"e{mark}")
     begins = [("BeginGet",), ("BeginGetOr", create), ("BeginGetOr", create)]
-    goes_on = [("LoadPointer",), ("LookAtFlag",), ("AnnounceBucket",), ("InstallBucket",), ("WriteValue",), ("SetFlag",), ("Reply",)]
+    goes_on = [("LoadPointer",), ("LookAtFlag",), ("FillBucket",), ("AnnounceBucket",), ("InstallBucket",), ("WriteValue",)]
+    goes_on += [("SetFlag",), ("Reply",)]
     return chance.choice(begins + goes_on * 2 + [("MakeBucket", chance.random() < 0.3)] * 2)
 
 
@@ -1227,8 +1257,8 @@ def owner_call(chance, mark):
 
 def quiet_events(chance, core):
     """Events that let every Local and walk end, so that exclusive calls get their turn."""
-    steps = [("LoadPointer",), ("LookAtFlag",), ("MakeBucket", False), ("AnnounceBucket",), ("InstallBucket",), ("WriteValue",)]
-    steps += [("SetFlag",), ("Reply",)]
+    steps = [("LoadPointer",), ("LookAtFlag",), ("MakeBucket", False), ("FillBucket",), ("AnnounceBucket",), ("InstallBucket",)]
+    steps += [("WriteValue",), ("SetFlag",), ("Reply",)]
     events = []
     for n, _ in live(core):
         events += [("OfLocal", n, it) for _ in range(6) for it in steps]
@@ -1328,9 +1358,30 @@ def wrong_bodies():
         return replace(after, held=core.held + (True,))
 
     def loser_stores(table, local):
-        if local.doing[0] == "Private":
+        if local.doing[0] == "Filled":
             b = bucket_of(local.id)
             return right["install_bucket"](model.with_pointer(table, b, None), local)
+
+    def installs_empty(table, local):
+        after = right["install_bucket"](table, local)
+        b = bucket_of(local.id)
+        if after is None or model.bucket_stands(table, b):
+            return after
+        return model.with_pointer(table, b, model.fresh_bucket(b, local.doing[2])), after[1]
+
+    def loses_value(table, local):
+        after = right["install_bucket"](table, local)
+        if after is None or not model.bucket_stands(table, bucket_of(local.id)):
+            return after
+        value = local.doing[1]
+        return table, model.after_call(local, ("GetOr", ("Ok", value), False), ("Answered", value), ("Holding", value), ("Gets", 0))
+
+    def error_installs(table, local):
+        after = model.fill_bucket(table, local)
+        if after is None or local.doing[1][0] == "Ok":
+            return after
+        b = bucket_of(local.id)
+        return model.with_pointer(table, b, model.fresh_bucket(b, local.doing[2])), after[1]
 
     def flag_first(table, local):
         after = right["write_value"](table, local)
@@ -1386,6 +1437,9 @@ def wrong_bodies():
     return {
         "take gives a fresh id": {"take_id": fresh_id},
         "the loser stores its bucket over the winner's": steps(InstallBucket=loser_stores),
+        "an install publishes nothing": steps(InstallBucket=installs_empty),
+        "an install that comes second loses its value": steps(InstallBucket=loses_value),
+        "a closure's error installs its bucket": steps(FillBucket=error_installs),
         "the flag is set before the write": steps(WriteValue=flag_first, SetFlag=write_last),
         "give back doesn't free the id": {"give_back": keeps_held},
         "publishing is never enabled": steps(SetFlag=never),
@@ -1555,6 +1609,8 @@ def more_wrong_bodies():
         "a publishing call that finds a value ends with no record": unrecorded("Reply", "GetOr"),
         "a refused publishing call ends with no record": unrecorded("MakeBucket", "GetOr"),
         "a failed publishing call ends with no record": unrecorded("WriteValue", "GetOr"),
+        "a publishing call that fails with a bucket of its own ends with no record": unrecorded("FillBucket", "GetOr"),
+        "a publishing call that installs ends with no record": unrecorded("InstallBucket", "GetOr"),
         "a call ends with another closure's answer": steps(Reply=others_answer),
         "a call that was refused nothing is recorded as refused": steps(WriteValue=refused_unasked),
         "buckets share one number": steps(MakeBucket=shares_number),
@@ -1687,7 +1743,7 @@ def wrong_effects():
 
         def ends(table, local):
             after = it(table, local)
-            if after is None or local.doing[0] != "Started" or after[1].calls == local.calls:
+            if after is None or local.doing[0] not in ("Started", "Private", "Filled") or after[1].calls == local.calls:
                 return after
             return after[0], replace(after[1], doing=("Gets", 1))
 
@@ -1828,6 +1884,8 @@ def wrong_effects():
         "no take is refused memory": {"is_granted": lambda core, refused: not model.is_exhausted(core)},
         "a take grows room by more than it says": {"take_id": takes_with_room},
         "a failing call leaves a get under way": leaves_get("WriteValue"),
+        "a call that fails with a bucket of its own leaves a get under way": leaves_get("FillBucket"),
+        "a call that installs leaves a get under way": leaves_get("InstallBucket"),
         "a call that replies leaves a get under way": leaves_get("Reply"),
         "the most held is what is held at last": {"most_held": lambda core, events: held_count(model.run(core, events).held)},
         "publishings are counted across a clear": {"publishings": counts_on},
@@ -1906,7 +1964,7 @@ def wrong_for_some():
         return after if after is None else (after[0], replace(after[1], learnt=("Vacant",)))
 
     def installs_unknown(table, local):
-        unknown = local.doing[0] == "Private" and not local.doing[3]
+        unknown = local.doing[0] == "Filled" and not local.doing[3]
         return model.install_bucket(table, replace(local, doing=(*local.doing[:3], True)) if unknown else local)
 
     def announces_all(table, local):
@@ -1917,9 +1975,11 @@ def wrong_for_some():
         after = model.announce_bucket(table, local)
         return after if after is None else (table, after[1])
 
-    def never_known(table, local, refused):
-        after = model.make_bucket(table, local, refused)
-        return after if after is None or refused else (after[0], replace(after[1], doing=(*after[1].doing[:3], False)))
+    def never_known(table, local):
+        after = model.fill_bucket(table, local)
+        if after is None or after[1].doing[0] != "Filled":
+            return after
+        return after[0], replace(after[1], doing=(*after[1].doing[:3], False))
 
     def loads_word(table, it):
         after = model.walk_load(table, it)
@@ -1948,7 +2008,7 @@ def wrong_for_some():
         "an install needs no announcement": steps(InstallBucket=installs_unknown),
         "an announcement announces every bucket": steps(AnnounceBucket=announces_all),
         "an announcement announces nothing": steps(AnnounceBucket=announces_nothing),
-        "no call knows its bucket to be announced before it announces it": steps(MakeBucket=never_known),
+        "no call knows its bucket to be announced before it announces it": steps(FillBucket=never_known),
         "a walk skips the third bucket": {"at_announced": lambda it: it.bucket != 2 and right["at_announced"](it)},
         "a walk may skip an announced bucket": walks(Pass=lambda table, it: model.at_next_bucket(it) if model.may_load(it) else None),
         "a walk loads every pointer": {"at_announced": lambda it: True},
@@ -2080,9 +2140,10 @@ def local_change(before, after):
     if after.doing != before.doing:
         gets, create = under_way(after.doing)
         said += {
-            "Private": ["knows it to be announced"] if before.doing[0] == "Private" else [f"own bucket {it}" for it in after.doing[2:3]],
+            "Private": [f"own bucket {it}" for it in after.doing[2:3]],
+            "Filled": ["knows it to be announced" if before.doing[0] == "Filled" else "has filled it"],
             "Written": ["has written"],
-            "Started": [] if before.doing[0] == "Private" else [f"publishing {create and create[1]}"],
+            "Started": [f"publishing {create and create[1]}"],
             "Gets": [f"{gets} gets"] if gets else [],
         }[after.doing[0]]
     return ", ".join(said + ["answers " + answer_text(it) for it in after.answers[len(before.answers) :]])
@@ -2110,6 +2171,7 @@ def table_change(before, after):
     for bucket, (old, new) in enumerate(zip(before.pointers, after.pointers)):
         if old is None and new is not None:
             said.append(f"pointer {bucket} leads to bucket {new.number}")
+            said += [f"slot {model.id_at(bucket, k)}: {slot_text(it)}" for k, it in enumerate(new.slots) if it != Slot()]
         elif old is not None and new is not None:
             changed = [k for k, (a, b) in enumerate(zip(old.slots, new.slots)) if a != b]
             said += [f"slot {model.id_at(bucket, k)}: {slot_text(new.slots[k])}" for k in changed]
@@ -2136,8 +2198,8 @@ def race(seed):
     chance, core, begun = random.Random(seed), new_core(), set()
     events = [("TakeId", False, 0)] * 3
     core = model.run(core, events)
-    steps = [("LoadPointer",), ("LookAtFlag",), ("MakeBucket", False), ("AnnounceBucket",), ("InstallBucket",), ("WriteValue",)]
-    steps += [("SetFlag",), ("Reply",)]
+    steps = [("LoadPointer",), ("LookAtFlag",), ("MakeBucket", False), ("FillBucket",), ("AnnounceBucket",), ("InstallBucket",)]
+    steps += [("WriteValue",), ("SetFlag",), ("Reply",)]
     while True:
         menu = []
         for n in (1, 2):

@@ -144,7 +144,7 @@ def view_after(view, call):
     _, create, refused = call
     if refused and not view.known:
         return view
-    return View(create[1] if create[0] == "Ok" else None, True)
+    return View(create[1], True) if create[0] == "Ok" else view
 
 
 def answers(view, calls):
@@ -217,6 +217,11 @@ def with_table_slot(table, identity, slot):
     return with_pointer(table, b, replace(named, slots=named.slots[:i] + (slot,) + named.slots[i + 1 :]))
 
 
+def with_filled_bucket(table, identity, number, value):
+    b = bucket_of(identity)
+    return with_table_slot(with_pointer(table, b, fresh_bucket(b, number)), identity, Slot(value, True))
+
+
 def slots(table):
     return sum(2**b for b in range(BUCKETS) if bucket_stands(table, b))
 
@@ -225,7 +230,7 @@ def slots(table):
 class Local:
     id: int
     learnt: tuple  # Unknown, Missing, Standing, Vacant, Holding value
-    doing: tuple  # Gets count, Started create, Private create number announced, Written value
+    doing: tuple  # Gets count, Started create, Private create number, Filled value number announced, Written value
     start: View
     calls: tuple = ()
     answers: tuple = ()
@@ -343,22 +348,31 @@ def make_bucket(table, local, refused):
         case ("Started", create), ("Missing",):
             if refused:
                 return table, after_call(local, ("GetOr", create, True), ("Refused",), ("Missing",), ("Gets", 0))
-            doing = ("Private", create, table.made, table.announced[bucket_of(local.id)])
-            return replace(table, made=table.made + 1), replace(local, doing=doing)
+            return replace(table, made=table.made + 1), replace(local, doing=("Private", create, table.made))
+
+
+def fill_bucket(table, local):
+    match local.doing:
+        case ("Private", ("Ok", value), number):
+            return table, replace(local, doing=("Filled", value, number, table.announced[bucket_of(local.id)]))
+        case ("Private", ("Err", error), _):
+            return table, after_call(local, ("GetOr", ("Err", error), False), ("Failed", error), local.learnt, ("Gets", 0))
 
 
 def announce_bucket(table, local):
     match local.doing:
-        case ("Private", create, number, False):
-            return with_announced(table, bucket_of(local.id)), replace(local, doing=("Private", create, number, True))
+        case ("Filled", value, number, False):
+            return with_announced(table, bucket_of(local.id)), replace(local, doing=("Filled", value, number, True))
 
 
 def install_bucket(table, local):
     match local.doing, local.learnt:
-        case ("Private", create, number, True), ("Missing",):
-            b = bucket_of(local.id)
-            after = table if bucket_stands(table, b) else with_pointer(table, b, fresh_bucket(b, number))
-            return after, replace(local, learnt=("Vacant",), doing=("Started", create))
+        case ("Filled", value, number, True), ("Missing",):
+            if bucket_stands(table, bucket_of(local.id)):
+                slot = replace(slot_at(table, local.id), written=value)
+                return with_table_slot(table, local.id, slot), replace(local, learnt=("Vacant",), doing=("Written", value))
+            call = ("GetOr", ("Ok", value), False)
+            return with_filled_bucket(table, local.id, number, value), after_call(local, call, ("Answered", value), ("Holding", value), ("Gets", 0))
 
 
 def write_value(table, local):
@@ -401,6 +415,7 @@ LOCAL_STEPS = {
     "LoadPointer": load_pointer,
     "LookAtFlag": look_at_flag,
     "MakeBucket": make_bucket,
+    "FillBucket": fill_bucket,
     "AnnounceBucket": announce_bucket,
     "InstallBucket": install_bucket,
     "WriteValue": write_value,
@@ -436,15 +451,17 @@ def steps_left(local):
             return count + {"Unknown": 2, "Standing": 1}.get(local.learnt[0], 0)
         case ("Started", _):
             return {"Unknown": 6, "Missing": 5, "Standing": 3, "Vacant": 2, "Holding": 1}[local.learnt[0]]
-        case ("Private", _, _, announced):
-            return 3 if announced else 4
+        case ("Private", _, _):
+            return 4
+        case ("Filled", _, _, announced):
+            return 2 if announced else 3
         case ("Written", _):
             return 1
 
 
 def private_slots(identity, doing):
     """How many slots the bucket has that a call has made and not yet offered."""
-    return 2 ** bucket_of(identity) if doing[0] == "Private" else 0
+    return 2 ** bucket_of(identity) if doing[0] in ("Private", "Filled") else 0
 
 
 def is_idle(doing):
@@ -656,7 +673,7 @@ def steps_of(number, steps):
 
 def publishes_first(number, value):
     """The steps of a Local's first publishing call, where its bucket is missing."""
-    steps = [("BeginGetOr", ("Ok", value)), ("LoadPointer",), ("MakeBucket", False), ("InstallBucket",), ("WriteValue",), ("SetFlag",)]
+    steps = [("BeginGetOr", ("Ok", value)), ("LoadPointer",), ("MakeBucket", False), ("FillBucket",), ("InstallBucket",)]
     return steps_of(number, steps)
 
 
@@ -755,7 +772,7 @@ def number_at(table, bucket):
 
 def own_number(doing):
     """The number of the bucket that a call has made and not yet offered."""
-    return doing[2] if doing[0] == "Private" else None
+    return doing[2] if doing[0] in ("Private", "Filled") else None
 
 
 def nothing_refused(core, events):
@@ -840,6 +857,9 @@ def move_of(core, event):
         case ("TakeId", refused, _):
             return ("Take",) if is_granted(core, refused) else ("Stay",)
         case ("OfLocal", number, ("SetFlag",)):
+            local = core.locals[number]
+            return ("Publish", local.id, local.doing[1])
+        case ("OfLocal", number, ("InstallBucket",)) if not bucket_stands(core.table, bucket_of(core.locals[number].id)):
             local = core.locals[number]
             return ("Publish", local.id, local.doing[1])
         case ("GiveBack", number):

@@ -3,7 +3,7 @@
 use Rattle.std.proofs.Common.{◌≡◌, subst, sym, Option, Some, None, Result, Ok, Err, Bool, is_some, true, false, refl, ap}
 use Rattle.std.specs.Prelude.{OnErr}
 use Rattle.thread_local_base.specs.Answers.{View, Answered, answer_or, view_after_or}
-use Rattle.thread_local.specs.Locals.{LocalView, knows, knowing, vacant, holding, IsFilled, IsAnswered, Fails, Fills, IsRefused}
+use Rattle.thread_local.specs.Locals.{LocalView, knows, knowing, holding, StaysEmpty, IsFilled, IsAnswered, Fails, Fills, IsRefused}
 
 filled_at : {V : Type 0} (E : Type 0) (makes : V → Type 0) (view : LocalView V) (value : Option V)
     → view.value ≡ value → is_some value ≡ true
@@ -45,16 +45,16 @@ filled_empty {V} E makes old new value none left made =
 
 -- a call whose closure fails leaves an empty slot empty
 pub fails_empty : {V E : Type 0} (makes : E → Type 0) (old new : LocalView V) (made error : E) → made ≡ error
-    → old.value ≡ None → new ≡ knowing old vacant → makes made
+    → old.value ≡ None → StaysEmpty old new → makes made
     → Fails makes old new error
-fails_empty {V} {E} makes old new made error same none left holds =
-    let fails : Fails makes old (knowing old vacant) made = record {
-      says = record { answered = rw none refl; leaves = rw none refl };
-      made = holds;
-      same = record { table = refl; sharing = refl; id = refl; reserved = refl; before = refl };
-    } in
-    subst (λ (e : E). Fails makes old new e) same
-    (subst (λ (view : LocalView V). Fails makes old view made) (sym left) fails)
+fails_empty {V} {E} makes old new made error same none leaves holds =
+    let fails : Fails makes old new made = record { answered = rw none refl; made = holds; leaves = leaves } in
+    subst (λ (e : E). Fails makes old new e) same fails
+
+-- what is known of a slot takes the place of what was known before
+pub same_knowing : {V : Type 0} (old now : LocalView V) (view : View V) → StaysEmpty old now
+    → knowing now view ≡ knowing old view
+same_knowing old now view leaves = rw (leaves.same.table, leaves.same.sharing, leaves.same.id, leaves.same.reserved, leaves.same.before) refl
 
 -- a call is refused memory only where the slot is empty and its bucket isn't known to stand
 pub refused_at : {V : Type 0} (E : Type 0) (old new : LocalView V) → old.value ≡ None → old.known ≡ false → new ≡ old

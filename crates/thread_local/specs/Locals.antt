@@ -6,7 +6,7 @@ use Rattle.std.specs.Prelude.{Err, refl}
 use base.Stored.{coded_bool}
 use Rattle.std.specs.Coded.{Coded, coded_option, coded_ℕ, coded×, code_by}
 use Rattle.thread_local_base.specs.Answers.{View, GetOr, Answered, Refused, Failed, Says, answer, view_of}
-use Rattle.thread_local_base.specs.Learnt.{Missing}
+use Rattle.thread_local_base.specs.Learnt.{Learnt, Missing, Vacant, Holding}
 use Rattle.thread_local_ids.specs.Views.{TokenView}
 use Rattle.thread_local_base.specs.IdMoves.{IdMove, Take, Give, moves_coded, noted}
 use mathlib.Core.List.{IsPrefix}
@@ -50,6 +50,15 @@ local_view_coded {V} c =
 abbrev pub knows : {V : Type 0} → LocalView V → View V
 knows s = record { value = s.value; known = s.known }
 
+-- what a claim has learnt that has looked, by what is known of its slot
+abbrev pub learnt_at : {V : Type 0} → Option V → Bool → Learnt V
+learnt_at (Some v) known = Holding v
+learnt_at None true = Vacant
+learnt_at None false = Missing
+
+abbrev pub learnt_by : {V : Type 0} → View V → Learnt V
+learnt_by view = learnt_at view.value view.known
+
 -- the same `Local`, with this known of its slot
 abbrev pub knowing : {V : Type 0} → LocalView V → View V → LocalView V
 knowing s view = record { table = s.table; sharing = s.sharing; id = s.id; reserved = s.reserved; value = view.value; known = view.known; before = s.before }
@@ -83,6 +92,13 @@ pub record IsSameLocal {V : Type 0} (old new : LocalView V) : Type 0 where
   pub reserved : new.reserved ≡ old.reserved
   pub before : new.before ≡ old.before
 
+-- The slot stays empty, and what was known of its bucket still is. That it stands may have become
+-- known.
+pub record StaysEmpty {V : Type 0} (old new : LocalView V) : Type 0 where
+  pub empty : new.value ≡ None
+  pub known : old.known ≡ true → new.known ≡ true
+  pub same : IsSameLocal old new
+
 -- a `Local` of a table: its claim is of this table in this sharing, has looked for its bucket, and
 -- has found it where the id is reserved. What is kept of the take is of this table and of this id
 pub record IsLocalOf {V : Type 0} (of : ThreadLocalView) (claim : ClaimView V) (tenure : Tenure) : Type 0 where
@@ -93,10 +109,6 @@ pub record IsLocalOf {V : Type 0} (of : ThreadLocalView) (claim : ClaimView V) (
   pub reserved : claim.id < of.reserved → claim.learnt ≢ Missing
   pub of_table : tenure.table ≡ of.table
   pub least : claim.id ≡ taken_id tenure.before
-
--- what is known of a slot that is empty and whose bucket stands
-abbrev pub vacant : {V : Type 0} → View V
-vacant = record { value = None; known = true }
 
 -- what is known of a slot that holds this value
 abbrev pub holding : {V : Type 0} → V → View V
@@ -120,12 +132,12 @@ pub record IsFilled {V : Type 0} (E : Type 0) (makes : V → Type 0) (old new : 
   pub value : V
   pub fills : Fills E makes old new value
 
--- such a call ends with an error of the closure, which ran since the slot was empty: the slot is
--- still empty, and its bucket is known to stand
+-- Such a call ends with an error of the closure, which ran since the slot was empty. The slot is
+-- still empty.
 pub record Fails {V E : Type 0} (makes : E → Type 0) (old new : LocalView V) (error : E) : Type 0 where
-  pub says : Says {V = V} {E = E} (knows old) (GetOr (Err error) false) (Failed error) (knows new)
+  pub answered : answer {V = V} (knows old) (GetOr (Err error) false) ≡ Failed error
   pub made : makes error
-  pub same : IsSameLocal old new
+  pub leaves : StaysEmpty old new
 
 -- Such a call runs out of memory, whatever the closure would have answered: the slot was empty, its
 -- bucket was not known to stand, and the view stays.

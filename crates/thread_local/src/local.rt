@@ -10,7 +10,8 @@ ghost use Rattle.thread_local_ids.specs.Rights.{taken_id};
 ghost use mathlib.Core.List.{IsPrefix};
 ghost use mathlib.Core.Logic.{◌∨₁◌};
 ghost use Rattle.thread_local.specs.Errors.{IfCreate};
-ghost use Rattle.thread_local.specs.Locals.{knows, knowing, own_of, token_of, vacant, holding, IsAnswered, IsFilled, Fills, Fails, IsRefused, EndsWithReturn};
+ghost use Rattle.thread_local.specs.Locals.{knows, knowing, learnt_by, own_of, token_of, holding, StaysEmpty, IsAnswered, IsFilled, Fills, Fails, IsRefused, EndsWithReturn};
+ghost use Rattle.thread_local_shared_buckets.specs.Room.{HasRoom};
 ghost use Rattle.thread_local_shared_buckets.specs.Walks.{fresh_with};
 
 pub use crate::error::{SetError, TryError};
@@ -20,7 +21,8 @@ use std::default::MadeWith;
 use std::fmt;
 use std::marker::Model;
 use std::sync::Wait;
-use thread_local_base::Thread;
+use thread_local_base::{Thread, bucket_size};
+use thread_local_bucket_pointers::Block;
 use thread_local_ids::{HeldId, Page, Right, Tenure, Token, Told};
 use thread_local_shared_buckets::{Claim, Iter, Tokens};
 
@@ -195,25 +197,44 @@ impl<'a, T, R: Wait> Local<'a, T, R> {
         self.claim.place()
     }
 
-    /// Finds or makes the bucket of the slot, which is empty.
-    fn find_bucket(&mut self, thread: Thread) -> Result<(), AllocError>
+    /// Makes room for a value in the slot, which is empty: finds its bucket, or makes a block for it.
+    fn room(
+        &mut self,
+        alloc: &Global,
+        thread: Thread,
+    ) -> Result<Option<Block<T, Global>>, AllocError>
         requires empty { self.old.value ≡ None }
         requires place { IsPlaceOf thread.bucket thread.index self.old.id }
-        ensures ok { OnOk result (self.new ≡ knowing self.old vacant) }
+        ensures ok { IfOk result (HasRoom alloc.now thread.bucket (learnt_by (knows self.new))) }
         ensures err { OnErr result ((self.old.known ≡ false) × (self.new ≡ self.old)) }
+        ensures leaves { StaysEmpty self.old self.new }
     {
-        let table = self.table;
-        let reached = self.tenure.reached();
-        self.claim.find_bucket(&table.alloc, thread, reached)
+        self.claim.room(alloc, thread)
     }
 
-    /// Publishes a value in the slot, which is vacant.
-    fn publish_at(&mut self, thread: Thread, value: T)
-        requires vacant { knows self.old ≡ vacant }
+    /// Publishes a value in the slot, where there is room for it.
+    fn publish_in(
+        &mut self,
+        alloc: &Global,
+        thread: Thread,
+        block: Option<Block<T, Global>>,
+        value: T,
+    )
+        requires room { HasRoom alloc.now thread.bucket (learnt_by (knows self.old)) block }
         requires place { IsPlaceOf thread.bucket thread.index self.old.id }
         ensures { self.new ≡ knowing self.old (holding value) }
     {
-        self.claim.publish(thread, value);
+        let reached = self.tenure.reached();
+        self.claim.publish_in(alloc, thread, block, value, reached);
+    }
+
+    /// Frees the block that was made for a value, where there is one.
+    fn release_room(&self, alloc: &Global, thread: Thread, block: Option<Block<T, Global>>)
+        requires room { HasRoom alloc.now thread.bucket (learnt_by (knows self.now)) block }
+    {
+        if let Some(block) = block {
+            block.release(alloc, bucket_size(thread.bucket));
+        }
     }
 
     /// The value of a slot that holds one, without a test.
@@ -231,8 +252,8 @@ impl<'a, T, R: Wait> Local<'a, T, R> {
         self.get().is_some()
     }
 
-    /// Fills the slot if it is empty: finds or makes its bucket, then calls the closure and
-    /// publishes its value.
+    /// Fills the slot if it is empty: finds its bucket or makes a block for it, then calls the
+    /// closure and publishes its value.
     fn fill<F: FnOnce() -> T + Drop>(&mut self, create: F) -> Result<(), AllocError>
         requires { self.old.value ≡ None → F.pre create }
         ensures ok { OnOk result (IsFilled ⊤ (F.post create) self.old self.new) }
@@ -241,9 +262,10 @@ impl<'a, T, R: Wait> Local<'a, T, R> {
         ensures has_value { IsSome self.old.value → IsOk result }
     {
         if !self.is_published() {
+            let table = self.table;
             let thread = self.place();
-            self.find_bucket(thread)?;
-            self.publish_at(thread, create());
+            let block = self.room(&table.alloc, thread)?;
+            self.publish_in(&table.alloc, thread, block, create());
         }
         Ok(())
     }
@@ -277,10 +299,11 @@ impl<'a, T, R: Wait> Local<'a, T, R> {
         if self.is_published() {
             return Err(SetError::Occupied(value));
         }
+        let table = self.table;
         let thread = self.place();
-        match self.find_bucket(thread) {
-            Ok(()) => {
-                self.publish_at(thread, value);
+        match self.room(&table.alloc, thread) {
+            Ok(block) => {
+                self.publish_in(&table.alloc, thread, block, value);
                 Ok(())
             }
             Err(_) => Err(SetError::Memory(value)),
@@ -326,14 +349,18 @@ impl<'a, T, R: Wait> Local<'a, T, R> {
         if self.is_published() {
             return Ok(());
         }
+        let table = self.table;
         let thread = self.place();
-        self.find_bucket(thread)?;
+        let block = self.room(&table.alloc, thread)?;
         match create() {
             Ok(value) => {
-                self.publish_at(thread, value);
+                self.publish_in(&table.alloc, thread, block, value);
                 Ok(())
             }
-            Err(error) => Err(TryError::Create(error)),
+            Err(error) => {
+                self.release_room(&table.alloc, thread, block);
+                Err(TryError::Create(error))
+            }
         }
     }
 

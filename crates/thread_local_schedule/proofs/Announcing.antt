@@ -5,13 +5,13 @@ use Rattle.std.specs.Prelude.{unwrap_or}
 use Rattle.std.proofs.lemmas.Bool.{false≢true, cond_both, cases_eq, ne_eqb}
 use Rattle.thread_local_base.specs.Place.{bucket_of}
 use Rattle.thread_local_base.specs.Held.{is_granted}
-use Rattle.thread_local_base.specs.Learnt.{Learnt, learnt_by_load, learnt_by_look, learnt_by_install, learnt_by_publish}
+use Rattle.thread_local_base.specs.Learnt.{Learnt, learnt_by_load, learnt_by_look, learnt_by_publish}
 use Rattle.thread_local_base.specs.Answers.{Answered, GetOr}
 use Rattle.thread_local_schedule.specs.Table.{Table, published, bucket_stands, with_announced, with_flag}
-use Rattle.thread_local_schedule.specs.Local.{Local, LocalStep, local_step, Gets, Started, BeginGet, BeginGetOr, LoadPointer}
-use Rattle.thread_local_schedule.specs.Local.{LookAtFlag, MakeBucket, AnnounceBucket, InstallBucket, WriteValue, SetFlag, Reply}
+use Rattle.thread_local_schedule.specs.Local.{Local, LocalStep, local_step, Gets, BeginGet, BeginGetOr, LoadPointer}
+use Rattle.thread_local_schedule.specs.Local.{LookAtFlag, MakeBucket, FillBucket, AnnounceBucket, InstallBucket, WriteValue, SetFlag, Reply}
 use Rattle.thread_local_schedule.specs.Local.{doing_with_get, doing_with_get_or, begin_call, may_look, learns, closure_at_missing}
-use Rattle.thread_local_schedule.specs.Local.{make_bucket, unannounced_bucket, announce_bucket, offered, private_bucket}
+use Rattle.thread_local_schedule.specs.Local.{make_bucket, empty_bucket, fill_bucket, unannounced_bucket, announce_bucket, filled_bucket}
 use Rattle.thread_local_schedule.specs.Local.{install_bucket, closure_at_vacant, write_value, value_written, set_flag, after_call}
 use Rattle.thread_local_schedule.specs.Local.{ending_of, reply}
 use Rattle.thread_local_schedule.specs.SharedWalk.{walk_step}
@@ -21,8 +21,8 @@ use Rattle.thread_local_schedule.specs.Events.{Event, TakeId, OfLocal, GiveBack,
 use Rattle.thread_local_schedule.specs.Events.{Owner, OwnerCall, RewriteTable, Slots, DrainTable, ClearTable, IntoIter, DropTable}
 use Rattle.thread_local_schedule.specs.Events.{take_id, with_step, is_idle, without_local, with_id_given, with_walk}
 use Rattle.thread_local_schedule.specs.Events.{after_owner, step_of, step, happens}
-use Rattle.thread_local_schedule.proofs.CallsLaws.{whatever_is_learnt}
-use Rattle.thread_local_schedule.proofs.TableLaws.{announced-with_announced, announced-more, announced-offered, announced-with_table_slot}
+use Rattle.thread_local_schedule.proofs.CallsLaws.{whatever_is_learnt, either_install}
+use Rattle.thread_local_schedule.proofs.TableLaws.{announced-with_announced, announced-more, announced-with_filled_bucket, announced-with_table_slot}
 use Rattle.thread_local_schedule.proofs.OwnerLaws.{announced-rewritten}
 use Rattle.thread_local_schedule.proofs.ClearedLaws.{announced-cleared, announced-drained}
 use Rattle.thread_local_schedule.proofs.OptionLaws.{if_enabled, if_mapped, if_there, if_then, unwrapped}
@@ -50,41 +50,49 @@ written-announces : {V E : Type 0} (table : Table V) (local : Local V E) (create
 written-announces table local (Ok v) = announced-with_table_slot table local.id _
 written-announces table local (Err e) = refl
 
+filled-announces : {V E : Type 0} (table : Table V) (local : Local V E) (number : ℕ) (create : Result V E)
+    → (fill_bucket table local number create).0.announced ≡ table.announced
+filled-announces table local number (Ok v) = refl
+filled-announces table local number (Err e) = refl
+
 step-announces : {V E : Type 0} (table : Table V) (local : Local V E) (step : LocalStep V E)
     → IfSome (local_step table local step) (λ after. Announces step table local.id after.0)
 unfolding local_step
-step-announces table local BeginGet =
+step-announces {V} {E} table local BeginGet =
     if_there (λ after. Announces BeginGet table local.id after.0) (begin_call table local) (doing_with_get local.doing) (λ _ _. inl refl)
-step-announces table local (BeginGetOr create) =
+step-announces {V} {E} table local (BeginGetOr create) =
     if_there (λ after. Announces (BeginGetOr create) table local.id after.0) (begin_call table local)
     (doing_with_get_or create local.doing) (λ _ _. inl refl)
-step-announces table local LoadPointer =
+step-announces {V} {E} table local LoadPointer =
     learns-announces LoadPointer table local (may_look local.doing) (learnt_by_load local.learnt (bucket_stands table (bucket_of local.id)))
-step-announces table local LookAtFlag =
+step-announces {V} {E} table local LookAtFlag =
     learns-announces LookAtFlag table local (may_look local.doing) (learnt_by_look local.learnt (published table local.id))
-step-announces table local (MakeBucket refused) =
+step-announces {V} {E} table local (MakeBucket refused) =
     if_there (λ after. Announces (MakeBucket refused) table local.id after.0) (make_bucket table local refused)
     (closure_at_missing local.doing local.learnt) (λ create _. inl (made-announces table local refused create))
-step-announces table local AnnounceBucket =
+step-announces {V} {E} table local FillBucket =
+    if_there (λ after. Announces FillBucket table local.id after.0) (λ own. fill_bucket table local own.number own.create)
+    (empty_bucket local.doing) (λ own _. inl (filled-announces table local own.number own.create))
+step-announces {V} {E} table local AnnounceBucket =
     if_there (λ after. Announces AnnounceBucket table local.id after.0) (announce_bucket table local)
-    (unannounced_bucket local.doing) (λ made _. inr (refl, refl))
-step-announces table local InstallBucket =
+    (unannounced_bucket local.doing) (λ own _. inr (refl, refl))
+step-announces {V} {E} table local InstallBucket =
     if_then (λ after. Announces InstallBucket table local.id after.0) (install_bucket table local)
-    (private_bucket local.doing) (λ made _.
-    whatever_is_learnt (offered table (bucket_of local.id) made.number) (record local { doing = Started made.create })
-    (learnt_by_install local.learnt) (λ after. Announces InstallBucket table local.id after.0)
-    (λ learnt. inl (announced-offered table (bucket_of local.id) made.number)))
-step-announces table local WriteValue =
+    (filled_bucket local.doing) (λ own _.
+    either_install table local own (λ after. Announces {E = E} InstallBucket table local.id after.0)
+    (λ _. inl (announced-with_table_slot table local.id _))
+    (λ _. inl (announced-with_filled_bucket table local.id own.number own.value)))
+step-announces {V} {E} table local WriteValue =
     if_there (λ after. Announces WriteValue table local.id after.0) (write_value table local)
     (closure_at_vacant local.doing local.learnt) (λ create _. inl (written-announces table local create))
-step-announces table local SetFlag =
+step-announces {V} {E} table local SetFlag =
     if_then (λ after. Announces SetFlag table local.id after.0) (set_flag table local)
     (value_written local.doing) (λ v _.
     whatever_is_learnt (with_flag table local.id)
     (after_call local (GetOr (Ok v) false) (Answered v) local.learnt (Gets 0))
     (learnt_by_publish local.learnt v) (λ after. Announces SetFlag table local.id after.0)
     (λ learnt. inl (announced-with_table_slot table local.id _)))
-step-announces table local Reply =
+step-announces {V} {E} table local Reply =
     if_there (λ after. Announces Reply table local.id after.0) (reply table local) (ending_of local.doing local.learnt) (λ _ _. inl refl)
 
 -- an event leaves which buckets are announced, or is the step of a Local that announces its bucket

@@ -1,18 +1,21 @@
 -- No step loses a call or makes one up.
 use Rattle.std.proofs.Common.{◌≡◌, ℕ, zero, suc, Bool, true, false, [], ◌∷◌, ◌++◌, Option, Some, None, Result, Ok, Err}
-use Rattle.std.proofs.Common.{IfSome, IsSomeAnd, refl, ap, sym, subst, inl, inr, cond}
+use Rattle.std.proofs.Common.{IsTrue, IfSome, IsSomeAnd, refl, ap, sym, subst, inl, inr, cond}
 use Rattle.thread_local_base.specs.Answers.{Get, GetOr, Answer, Answered}
 use Rattle.thread_local_base.specs.Learnt.{Learnt, Missing, Vacant, Holding, learnt_by_load, learnt_by_look}
 use Rattle.thread_local_base.specs.Learnt.{learnt_by_install, learnt_by_publish}
-use Rattle.thread_local_schedule.specs.Table.{Table, published, bucket_stands, with_flag}
+use Rattle.thread_local_schedule.specs.Table.{Table, published, bucket_stands, with_flag, with_written, with_filled_bucket}
 use Rattle.thread_local_base.specs.Place.{bucket_of}
-use Rattle.thread_local_schedule.specs.Local.{Doing, Gets, Started, Private, Written, Local, after_call, may_look}
-use Rattle.thread_local_schedule.specs.Local.{learns, load_pointer, look_at_flag, make_bucket, announce_bucket, offered, install_bucket}
+use Rattle.thread_local_schedule.specs.Local.{Doing, Gets, Started, Private, Filled, Written, Local, after_call, may_look}
+use Rattle.thread_local_schedule.specs.Local.{learns, load_pointer, look_at_flag, make_bucket, fill_bucket, announce_bucket}
+use Rattle.thread_local_schedule.specs.Local.{FilledBucket, offer_bucket, install_bucket}
 use Rattle.thread_local_schedule.specs.Local.{write_value, set_flag, reply, local_step, LocalStep, BeginGet, BeginGetOr}
-use Rattle.thread_local_schedule.specs.Local.{LoadPointer, LookAtFlag, MakeBucket, AnnounceBucket, InstallBucket, WriteValue, SetFlag}
+use Rattle.thread_local_schedule.specs.Local.{LoadPointer, LookAtFlag, MakeBucket, FillBucket, AnnounceBucket, InstallBucket}
+use Rattle.thread_local_schedule.specs.Local.{WriteValue, SetFlag}
 use Rattle.thread_local_schedule.specs.Local.{Reply, doing_with_get, doing_with_get_or, begin_call, closure_at_missing}
-use Rattle.thread_local_schedule.specs.Local.{closure_at_vacant, ending_of, unannounced_bucket, private_bucket, value_written}
+use Rattle.thread_local_schedule.specs.Local.{closure_at_vacant, ending_of, empty_bucket, unannounced_bucket, filled_bucket, value_written}
 use Rattle.std.specs.Prelude.{option_map, option_and_then}
+use Rattle.std.proofs.lemmas.Bool.{cond_both}
 use Rattle.thread_local_schedule.specs.Calls.{gets_of, closure_of, CallsStay, PublishingEnds, CallsGo, GoesOn}
 
 -- a Local whose step changes only what it has learnt and does keeps its id and first view
@@ -114,28 +117,63 @@ make_bucket-goes table local true (Started create) Missing e =
       };
     }
 make_bucket-goes table local false (Started create) Missing e =
-    let known = table.announced (bucket_of local.id) in
-    goes (MakeBucket false) local local.learnt (Private create table.made known)
-    (stay local local.learnt (Private create table.made known) (sym (ap gets_of e))
-    (sym (ap closure_of e)))
+    goes (MakeBucket false) local local.learnt (Private create table.made)
+    (stay local local.learnt (Private create table.made) (sym (ap gets_of e)) (sym (ap closure_of e)))
 make_bucket-goes table local refused _ _ e = tt
+
+fill_bucket-goes : {V E : Type 0} (table : Table V) (local : Local V E) (doing : Doing V E) → local.doing ≡ doing
+    → IfSome (option_map (λ own. fill_bucket table local own.number own.create) (empty_bucket doing))
+    (λ after. GoesOn FillBucket local after.1)
+fill_bucket-goes table local (Private (Ok v) number) e =
+    let filled = Filled v number (table.announced (bucket_of local.id)) in
+    goes FillBucket local local.learnt filled (inl (stay local local.learnt filled (sym (ap gets_of e)) (sym (ap closure_of e))))
+fill_bucket-goes table local (Private (Err x) number) e =
+    record { id = refl; start = refl; calls = inr (publishing_ends local (Err x) false _ local.learnt (ap gets_of e) (ap closure_of e)) }
+fill_bucket-goes table local _ e = tt
 
 announce_bucket-goes : {V E : Type 0} (table : Table V) (local : Local V E) (doing : Doing V E) → local.doing ≡ doing
     → IfSome (option_map (announce_bucket table local) (unannounced_bucket doing)) (λ after. GoesOn AnnounceBucket local after.1)
-announce_bucket-goes table local (Private create number false) e =
-    goes AnnounceBucket local local.learnt (Private create number true)
-    (stay local local.learnt (Private create number true) (sym (ap gets_of e)) (sym (ap closure_of e)))
+announce_bucket-goes table local (Filled v number false) e =
+    goes AnnounceBucket local local.learnt (Filled v number true)
+    (stay local local.learnt (Filled v number true) (sym (ap gets_of e)) (sym (ap closure_of e)))
 announce_bucket-goes table local _ e = tt
 
+-- what holds of an install where a bucket stands, and where none does, holds of it
+install_of : {V E : Type 0} (table : Table V) (local : Local V E) (own : FilledBucket V) (learnt : Learnt V) (P : Table V × Local V E → Type 0)
+    → (IsTrue (bucket_stands table (bucket_of local.id))
+    → P (with_written table local.id own.value, record local { learnt = Vacant; doing = Written own.value }))
+    → (bucket_stands table (bucket_of local.id) ≡ false
+    → P (
+      with_filled_bucket table local.id own.number own.value,
+      after_call local (GetOr (Ok own.value) false) (Answered own.value) (Holding own.value) (Gets 0),
+    ))
+    → IfSome (option_and_then (offer_bucket table local own) (learnt_by_install learnt)) P
+install_of table local own Missing P beside installs =
+    cond_both {A = Option (Table _ × Local _ _)} (bucket_stands table (bucket_of local.id)) _ _ (λ o. IfSome o P) beside installs
+install_of table local own _ P beside installs = tt
+
+pub either_install : {V E : Type 0} (table : Table V) (local : Local V E) (own : FilledBucket V) (P : Table V × Local V E → Type 0)
+    → (IsTrue (bucket_stands table (bucket_of local.id))
+    → P (with_written table local.id own.value, record local { learnt = Vacant; doing = Written own.value }))
+    → (bucket_stands table (bucket_of local.id) ≡ false
+    → P (
+      with_filled_bucket table local.id own.number own.value,
+      after_call local (GetOr (Ok own.value) false) (Answered own.value) (Holding own.value) (Gets 0),
+    ))
+    → IfSome (install_bucket table local own) P
+either_install table local own P beside installs = install_of table local own local.learnt P beside installs
+
 install_bucket-goes : {V E : Type 0} (table : Table V) (local : Local V E) (doing : Doing V E) → local.doing ≡ doing
-    → IfSome (option_and_then (install_bucket table local) (private_bucket doing)) (λ after. GoesOn InstallBucket local after.1)
-install_bucket-goes table local (Private create number true) e =
-    whatever_is_learnt (offered table (bucket_of local.id) number)
-    (record local { doing = Started create }) (learnt_by_install local.learnt)
-    (λ after. GoesOn InstallBucket local after.1)
-    (λ learnt.
-    goes InstallBucket local learnt (Started create)
-    (stay local learnt (Started create) (sym (ap gets_of e)) (sym (ap closure_of e))))
+    → IfSome (option_and_then (install_bucket table local) (filled_bucket doing)) (λ after. GoesOn InstallBucket local after.1)
+install_bucket-goes table local (Filled v number true) e =
+    either_install table local (record { value = v; number = number }) (λ after. GoesOn InstallBucket local after.1)
+    (λ _.
+    goes InstallBucket local Vacant (Written v) (inl (stay local Vacant (Written v) (sym (ap gets_of e)) (sym (ap closure_of e)))))
+    (λ _. record {
+      id = refl;
+      start = refl;
+      calls = inr (publishing_ends local (Ok v) false _ (Holding v) (ap gets_of e) (ap closure_of e));
+    })
 install_bucket-goes table local _ e = tt
 
 write_value-goes : {V E : Type 0} (table : Table V) (local : Local V E) (doing : Doing V E) (learnt : Learnt V) → local.doing ≡ doing
@@ -177,6 +215,7 @@ local_step-goes table local (BeginGetOr create) = begin_get_or-goes table local 
 local_step-goes table local LoadPointer = load_pointer-goes table local (may_look local.doing)
 local_step-goes table local LookAtFlag = look_at_flag-goes table local (may_look local.doing)
 local_step-goes table local (MakeBucket refused) = make_bucket-goes table local refused local.doing local.learnt refl
+local_step-goes table local FillBucket = fill_bucket-goes table local local.doing refl
 local_step-goes table local AnnounceBucket = announce_bucket-goes table local local.doing refl
 local_step-goes table local InstallBucket = install_bucket-goes table local local.doing refl
 local_step-goes table local WriteValue = write_value-goes table local local.doing local.learnt refl

@@ -201,7 +201,7 @@ still_new capacity core (TakeId refused growth) none e =
     (is_granted core.manager refused) e
 still_new capacity core (OfLocal number step) none e =
     settled (unused capacity) (is_enabled core (OfLocal number step))
-    (publishing (core.locals number) step) (rw (none number) refl)
+    (publishing core.table (core.locals number) step) (rw (none number) refl)
 still_new capacity core (GiveBack number) none e =
     settled (unused capacity) (is_enabled core (GiveBack number)) (move_of core (GiveBack number))
     (rw (none number) refl)

@@ -15,7 +15,7 @@ use Rattle.thread_local_base.proofs.WalkLaws.{walk_below-add, walk_below-none, l
 use Rattle.thread_local_base.proofs.AnswersLaws.{known_after_all}
 use Rattle.thread_local_schedule.specs.Table.{Table, published, bucket_stands, made_table}
 use Rattle.thread_local_base.specs.Learnt.{Missing}
-use Rattle.thread_local_schedule.specs.Local.{Local, Doing, Private}
+use Rattle.thread_local_schedule.specs.Local.{Local, Doing, Private, Filled}
 use Rattle.thread_local_base.specs.Cursor.{is_complete}
 use Rattle.thread_local_schedule.specs.SharedWalk.{SharedWalk, buckets_among}
 use Rattle.thread_local_schedule.proofs.WalkStepLaws.{complete_cursor, complete_loads}
@@ -47,7 +47,8 @@ installed_bound core m h c p = slots_bounded (bucket_stands core.table) m 63 (λ
 pub private_bound : {V E : Type 0} (held : List Bool) (id : ℕ) (doing : Doing V E)
     → IsTrue (is_held held id)
     → private_slots id doing ≤ length held
-private_bound held id (Private create number announced) t = own_small held id t
+private_bound held id (Private create number) t = own_small held id t
+private_bound held id (Filled v number announced) t = own_small held id t
 private_bound held id _ t = omega arith
 
 -- no more values are published than the peak

@@ -1,20 +1,20 @@
 -- What each event changes of the sheet, the buckets, the slots and its `Local`.
 use Rattle.std.proofs.Common.{◌≡◌, ℕ, Bool, true, false, cond, eqb, Option, Some, None, Result, Ok, Err, IsTrue, IfSome, IsSomeAnd, refl, ap, sym}
-use Rattle.std.proofs.Common.{◌∙◌, subst}
+use Rattle.std.proofs.Common.{◌∙◌, subst, ⊎_elim}
 use Rattle.std.specs.Prelude.{◌↔◌, is_some, option_map, option_and_then, unwrap_or}
-use Rattle.std.proofs.lemmas.Bool.{false≢true}
+use Rattle.std.proofs.lemmas.Bool.{false≢true, cases_eq, eq-eqb, ne_eqb}
 use Rattle.thread_local_base.specs.Place.{bucket_of}
 use Rattle.thread_local_base.specs.Held.{with_least, without}
 use Rattle.thread_local_base.specs.Walk.{with_value}
-use Rattle.thread_local_base.specs.Learnt.{Learnt, Unknown, Missing, Standing, Vacant, Holding, learnt_by_install}
+use Rattle.thread_local_base.specs.Learnt.{Learnt, Unknown, Missing, Standing, Vacant, Holding}
 use Rattle.thread_local_base.specs.Learnt.{learnt_by_publish}
 use Rattle.thread_local_base.specs.Answers.{GetOr, Answered}
 use Rattle.thread_local_schedule.specs.TableMoves.{TableMove, moved_by_if}
 use Rattle.thread_local_schedule.specs.Table.{Table, Slot, slot_at, value_of, published, bucket_stands, with_flag, with_fresh_bucket}
-use Rattle.thread_local_schedule.specs.Local.{Local, LocalStep, local_step, MakeBucket, AnnounceBucket, InstallBucket, WriteValue, SetFlag}
-use Rattle.thread_local_schedule.specs.Local.{closure_at_missing, make_bucket, unannounced_bucket, announce_bucket}
-use Rattle.thread_local_schedule.specs.Local.{Doing, Gets, Started, Private, Written, learns, offered, private_bucket}
-use Rattle.thread_local_schedule.specs.Local.{install_bucket, value_written, set_flag}
+use Rattle.thread_local_schedule.specs.Local.{Local, LocalStep, local_step, MakeBucket, FillBucket, AnnounceBucket, InstallBucket}
+use Rattle.thread_local_schedule.specs.Local.{WriteValue, SetFlag, closure_at_missing, make_bucket, empty_bucket, fill_bucket}
+use Rattle.thread_local_schedule.specs.Local.{unannounced_bucket, announce_bucket, Doing, Gets, Started, Private, Filled, Written}
+use Rattle.thread_local_schedule.specs.Local.{learns, FilledBucket, filled_bucket, install_bucket, value_written, set_flag}
 use Rattle.thread_local_schedule.specs.Local.{closure_at_vacant, write_value, after_call}
 use Rattle.thread_local_schedule.specs.Fits.{number_at, IsLearnt, IsDoing, view_now}
 use Rattle.thread_local_schedule.specs.Numbers.{own_number}
@@ -22,10 +22,11 @@ use Rattle.thread_local_schedule.specs.Core.{Core, shadow}
 use Rattle.thread_local_schedule.specs.CoreFits.{CoreFits}
 use Rattle.thread_local_schedule.specs.Events.{Event, OfLocal, GiveBack, Owner, RewriteTable, with_step, is_enabled, happens}
 use Rattle.thread_local_schedule.specs.Schedule.{move, is_granted_take, IsReached}
-use Rattle.thread_local_schedule.proofs.TableLaws.{announced-with_announced, bucket_stands-offered, slot_at-with_slot_same}
-use Rattle.thread_local_schedule.proofs.OptionLaws.{if_there}
+use Rattle.thread_local_schedule.proofs.TableLaws.{announced-with_announced, bucket_stands-with_table_slot, bucket_stands-with_filled_bucket}
+use Rattle.thread_local_schedule.proofs.TableLaws.{number_at-with_table_slot, slot_at-with_slot_same}
+use Rattle.thread_local_schedule.proofs.OptionLaws.{if_there, if_then}
 use Rattle.thread_local_schedule.proofs.Clauses.{says, goes, enabled_step}
-use Rattle.thread_local_schedule.proofs.CallsLaws.{whatever_is_learnt}
+use Rattle.thread_local_schedule.proofs.CallsLaws.{whatever_is_learnt, either_install}
 use Rattle.thread_local_schedule.proofs.NumbersLaws.{number_at-with_bucket_same}
 use Rattle.thread_local_schedule.proofs.Enabled.{step_leaves}
 use Rattle.thread_local_schedule.proofs.EventRules.{open_where}
@@ -98,45 +99,67 @@ table_after core n it local P t at p =
     o)))
     at (enabled_step core (OfLocal n it) t))))
 
--- a call that makes a bucket knows whether it is announced
+-- a call that makes a bucket owns it, with nothing in it
 made_so : {V E : Type 0} (table : Table V) (local : Local V E) (doing : Doing V E) (learnt : Learnt V) (create : Result V E)
     → doing ≡ Started create
     → IfSome (option_map (make_bucket table local false) (closure_at_missing doing learnt))
-    (λ after. after.1.doing ≡ Private create table.made (table.announced (bucket_of local.id)))
-made_so table local (Started it) Missing create e =
-    let same : it ≡ create = cc in
-    ap (λ x. Private x table.made (table.announced (bucket_of local.id))) same
+    (λ after. after.1.doing ≡ Private create table.made)
+made_so table local (Started it) Missing create e = let same : it ≡ create = cc in ap (λ x. Private x table.made) same
 made_so table local _ _ create e = tt
 
 pub makes : {V E : Type 0} (core : Core V E) (n : ℕ) (local : Local V E) (create : Result V E)
     → IsTrue (is_enabled core (OfLocal n (MakeBucket false))) → core.locals n ≡ Some local → local.doing ≡ Started create
-    → IsSomeAnd ((happens core (OfLocal n (MakeBucket false))).locals n)
-    (λ after. after.doing ≡ Private create core.table.made (core.table.announced (bucket_of local.id)))
+    → IsSomeAnd ((happens core (OfLocal n (MakeBucket false))).locals n) (λ after. after.doing ≡ Private create core.table.made)
 unfolding local_step
 makes core n local create t at started =
-    step_leaves core n (MakeBucket false) local
-    (λ after. after.doing ≡ Private create core.table.made (core.table.announced (bucket_of local.id))) t at
+    step_leaves core n (MakeBucket false) local (λ after. after.doing ≡ Private create core.table.made) t at
     (made_so core.table local local.doing local.learnt create started)
 
--- and announces it where it doesn't know that
-announced_so : {V E : Type 0} (table : Table V) (local : Local V E) (doing : Doing V E) (create : Result V E) (number : ℕ)
-    → doing ≡ Private create number false
-    → IfSome (option_map (announce_bucket table local) (unannounced_bucket doing))
-    (λ after. after.1.doing ≡ Private create number true)
-announced_so table local (Private it own false) create number e =
-    let first : it ≡ create = cc in
-    let second : own ≡ number = cc in
-    ap (λ x. Private x own true) first ∙ ap (λ k. Private create k true) second
-announced_so table local _ create number e = tt
+-- a call that fills its bucket knows whether it is announced, and the table stays
+filled_so : {V E : Type 0} (table : Table V) (local : Local V E) (doing : Doing V E) (v : V) (number : ℕ)
+    → doing ≡ Private (Ok v) number
+    → IfSome (option_map (λ own. fill_bucket table local own.number own.create) (empty_bucket doing))
+    (λ after. after.1.doing ≡ Filled v number (table.announced (bucket_of local.id)))
+filled_so table local doing v number e = rw e refl
 
-pub announced : {V E : Type 0} (core : Core V E) (n : ℕ) (local : Local V E) (create : Result V E) (number : ℕ)
-    → IsTrue (is_enabled core (OfLocal n AnnounceBucket)) → core.locals n ≡ Some local
-    → local.doing ≡ Private create number false
-    → IsSomeAnd ((happens core (OfLocal n AnnounceBucket)).locals n) (λ after. after.doing ≡ Private create number true)
+pub fills : {V E : Type 0} (core : Core V E) (n : ℕ) (local : Local V E) (v : V) (number : ℕ)
+    → IsTrue (is_enabled core (OfLocal n FillBucket)) → core.locals n ≡ Some local → local.doing ≡ Private (Ok v) number
+    → IsSomeAnd ((happens core (OfLocal n FillBucket)).locals n)
+    (λ after. after.doing ≡ Filled v number (core.table.announced (bucket_of local.id)))
 unfolding local_step
-announced core n local create number t at own =
-    step_leaves core n AnnounceBucket local (λ after. after.doing ≡ Private create number true) t at
-    (announced_so core.table local local.doing create number own)
+fills core n local v number t at own =
+    step_leaves core n FillBucket local (λ after. after.doing ≡ Filled v number (core.table.announced (bucket_of local.id))) t at
+    (filled_so core.table local local.doing v number own)
+
+fill_keeps : {V E : Type 0} (table : Table V) (local : Local V E) (number : ℕ) (create : Result V E)
+    → (fill_bucket table local number create).0 ≡ table
+fill_keeps table local number (Ok v) = refl
+fill_keeps table local number (Err e) = refl
+
+pub fill_stays : {V E : Type 0} (core : Core V E) (n : ℕ) (local : Local V E)
+    → IsTrue (is_enabled core (OfLocal n FillBucket)) → core.locals n ≡ Some local
+    → (happens core (OfLocal n FillBucket)).table ≡ core.table
+unfolding local_step
+fill_stays core n local t at =
+    table_after core n FillBucket local (λ table. table ≡ core.table) t at
+    (if_there (λ after. after.0 ≡ core.table) (λ own. fill_bucket core.table local own.number own.create) (empty_bucket local.doing)
+    (λ own _. fill_keeps core.table local own.number own.create))
+
+-- and announces it where it doesn't know that
+announced_so : {V E : Type 0} (table : Table V) (local : Local V E) (doing : Doing V E) (v : V) (number : ℕ)
+    → doing ≡ Filled v number false
+    → IfSome (option_map (announce_bucket table local) (unannounced_bucket doing))
+    (λ after. after.1.doing ≡ Filled v number true)
+announced_so table local doing v number e = rw e refl
+
+pub announced : {V E : Type 0} (core : Core V E) (n : ℕ) (local : Local V E) (v : V) (number : ℕ)
+    → IsTrue (is_enabled core (OfLocal n AnnounceBucket)) → core.locals n ≡ Some local
+    → local.doing ≡ Filled v number false
+    → IsSomeAnd ((happens core (OfLocal n AnnounceBucket)).locals n) (λ after. after.doing ≡ Filled v number true)
+unfolding local_step
+announced core n local v number t at own =
+    step_leaves core n AnnounceBucket local (λ after. after.doing ≡ Filled v number true) t at
+    (announced_so core.table local local.doing v number own)
 
 pub announces : {V E : Type 0} (core : Core V E) (n : ℕ) (local : Local V E) (bucket : ℕ)
     → IsTrue (is_enabled core (OfLocal n AnnounceBucket)) → core.locals n ≡ Some local
@@ -153,16 +176,20 @@ announces core n local bucket t at =
     (λ made _. announced-with_announced core.table own bucket))
 
 -- an install makes the bucket of its Local's id stand, the call's own where none stood
-install_offers : {V E : Type 0} (table : Table V) (local : Local V E) (doing : Doing V E) (P : Table V → Type 0)
-    → ((number : ℕ) → own_number doing ≡ Some number → P (offered table (bucket_of local.id) number))
-    → IfSome (option_and_then (install_bucket table local) (private_bucket doing)) (λ after. P after.0)
-install_offers table local (Private create number false) P p = tt
-install_offers table local (Private create number true) P p =
-    whatever_is_learnt (offered table (bucket_of local.id) number) (record local { doing = Started create })
-    (learnt_by_install local.learnt) (λ after. P after.0) (λ learnt. p number refl)
-install_offers table local (Gets count) P p = tt
-install_offers table local (Started create) P p = tt
-install_offers table local (Written v) P p = tt
+installed_so : {V E : Type 0} (table : Table V) (local : Local V E) (own : FilledBucket V) (bucket : ℕ)
+    → IfSome (install_bucket table local own)
+    (λ after. bucket_stands after.0 bucket ≡ cond (eqb (bucket_of local.id) bucket) true (bucket_stands table bucket))
+installed_so table local own bucket =
+    let here = bucket_of local.id in
+    either_install table local own
+    (λ after. bucket_stands after.0 bucket ≡ cond (eqb here bucket) true (bucket_stands table bucket))
+    (λ stands.
+    bucket_stands-with_table_slot table local.id bucket _
+    ∙ ⊎_elim
+    (λ same. ap (bucket_stands table) (sym same) ∙ stands ∙ sym (rw (eq-eqb here bucket same) refl))
+    (λ apart. rw (ne_eqb here bucket apart) refl)
+    (cases_eq here bucket))
+    (λ _. bucket_stands-with_filled_bucket table local.id own.number own.value bucket)
 
 pub installs : {V E : Type 0} (core : Core V E) (n : ℕ) (local : Local V E) (bucket : ℕ)
     → IsTrue (is_enabled core (OfLocal n InstallBucket)) → core.locals n ≡ Some local
@@ -170,19 +197,21 @@ pub installs : {V E : Type 0} (core : Core V E) (n : ℕ) (local : Local V E) (b
     ≡ cond (eqb (bucket_of local.id) bucket) true (bucket_stands core.table bucket)
 unfolding local_step
 installs core n local bucket t at =
-    let own = bucket_of local.id in
-    table_after core n InstallBucket local
-    (λ table. bucket_stands table bucket ≡ cond (eqb own bucket) true (bucket_stands core.table bucket))
-    t at
-    (install_offers core.table local local.doing
-    (λ table. bucket_stands table bucket ≡ cond (eqb own bucket) true (bucket_stands core.table bucket))
-    (λ number e. bucket_stands-offered core.table own number bucket))
+    let P : Table _ → Type 0 = λ table.
+    bucket_stands table bucket ≡ cond (eqb (bucket_of local.id) bucket) true (bucket_stands core.table bucket) in
+    table_after core n InstallBucket local P t at
+    (if_then (λ after. P after.0) (install_bucket core.table local) (filled_bucket local.doing)
+    (λ own _. installed_so core.table local own bucket))
 
 -- where none stood, the one that stands then is the call's own
-fresh_number : {V : Type 0} (table : Table V) (bucket number : ℕ) (b : Bool) → bucket_stands table bucket ≡ b → b ≡ false
-    → number_at (cond b table (with_fresh_bucket table bucket number)) bucket ≡ Some number
-fresh_number table bucket number true at none = absurd (false≢true (sym none))
-fresh_number table bucket number false at none = number_at-with_bucket_same table bucket number
+own_number_of : {V E : Type 0} (doing : Doing V E) (own : FilledBucket V) → filled_bucket doing ≡ Some own
+    → own_number doing ≡ Some own.number
+own_number_of (Filled v number true) own e = ap (option_map (λ it. it.number)) e
+own_number_of (Filled v number false) own e = cc
+own_number_of (Gets count) own e = cc
+own_number_of (Started create) own e = cc
+own_number_of (Private create number) own e = cc
+own_number_of (Written v) own e = cc
 
 pub installs_own : {V E : Type 0} (core : Core V E) (n : ℕ) (local : Local V E)
     → IsTrue (is_enabled core (OfLocal n InstallBucket)) → core.locals n ≡ Some local
@@ -190,10 +219,45 @@ pub installs_own : {V E : Type 0} (core : Core V E) (n : ℕ) (local : Local V E
     → number_at (happens core (OfLocal n InstallBucket)).table (bucket_of local.id) ≡ own_number local.doing
 unfolding local_step
 installs_own core n local t at none =
-    let own = bucket_of local.id in
-    table_after core n InstallBucket local (λ table. number_at table own ≡ own_number local.doing) t at
-    (install_offers core.table local local.doing (λ table. number_at table own ≡ own_number local.doing)
-    (λ number e. fresh_number core.table own number (bucket_stands core.table own) refl none ∙ sym e))
+    let here = bucket_of local.id in
+    table_after core n InstallBucket local (λ table. number_at table here ≡ own_number local.doing) t at
+    (if_then (λ after. number_at after.0 here ≡ own_number local.doing) (install_bucket core.table local)
+    (filled_bucket local.doing) (λ own e.
+    either_install core.table local own (λ after. number_at after.0 here ≡ own_number local.doing)
+    (λ stands. absurd (false≢true (sym none ∙ stands)))
+    (λ _.
+    number_at-with_table_slot (with_fresh_bucket core.table here own.number) local.id here _
+    ∙ number_at-with_bucket_same core.table here own.number
+    ∙ sym (own_number_of local.doing own e))))
+
+-- and its value is published, where none stood
+pub installs_value : {V E : Type 0} (core : Core V E) (n : ℕ) (local : Local V E) (v : V) (number : ℕ) → IsReached core
+    → IsTrue (is_enabled core (OfLocal n InstallBucket)) → core.locals n ≡ Some local → local.doing ≡ Filled v number true
+    → bucket_stands core.table (bucket_of local.id) ≡ false
+    → shadow (happens core (OfLocal n InstallBucket))
+    ≡ record (shadow core) { values = with_value (shadow core).values local.id v }
+installs_value core n local v number r t at filled none =
+    by_move core (OfLocal n InstallBucket) _ r (moves.install_moves core n local v number t at filled none)
+
+pub beside_stays : {V E : Type 0} (core : Core V E) (n : ℕ) (local : Local V E) → IsReached core
+    → IsTrue (is_enabled core (OfLocal n InstallBucket)) → core.locals n ≡ Some local
+    → IsTrue (bucket_stands core.table (bucket_of local.id))
+    → shadow (happens core (OfLocal n InstallBucket)) ≡ shadow core
+beside_stays core n local r t at stands = by_move core (OfLocal n InstallBucket) None r (moves.beside_moves core n local t at stands)
+
+-- where another bucket stands, the value is written there
+pub beside_writes : {V E : Type 0} (core : Core V E) (n : ℕ) (local : Local V E) (v : V) (number : ℕ)
+    → IsTrue (is_enabled core (OfLocal n InstallBucket)) → core.locals n ≡ Some local → local.doing ≡ Filled v number true
+    → IsTrue (bucket_stands core.table (bucket_of local.id))
+    → slot_at (happens core (OfLocal n InstallBucket)).table local.id
+    ≡ record (slot_at core.table local.id) { written = Some v }
+unfolding local_step
+beside_writes core n local v number t at filled stands =
+    let P : Table _ → Type 0 = λ table. slot_at table local.id ≡ record (slot_at core.table local.id) { written = Some v } in
+    table_after core n InstallBucket local P t at
+    (rw filled (either_install core.table local (record { value = v; number = number }) (λ after. P after.0)
+    (λ _. slot_at-with_slot_same core.table local.id _ stands)
+    (λ none. absurd (false≢true (sym none ∙ stands)))))
 
 -- a value is written into the slot of the Local's id, and then its flag is set
 writes_slot : {V E : Type 0} (table : Table V) (local : Local V E) (v : V) (o : Option (Result V E))
@@ -217,7 +281,8 @@ started_only (Started it) Missing create e other f = cc
 started_only (Started it) Standing create e other f = cc
 started_only (Started it) (Holding v) create e other f = cc
 started_only (Gets count) learnt create e other f = cc
-started_only (Private it number announced) learnt create e other f = cc
+started_only (Private it number) learnt create e other f = cc
+started_only (Filled v number announced) learnt create e other f = cc
 started_only (Written v) learnt create e other f = cc
 
 -- a Local that may write has learnt that its bucket stands
@@ -258,7 +323,8 @@ written_stands : {V E : Type 0} (table : Table V) (id : ℕ) (doing : Doing V E)
 written_stands table id (Written v) fits t = fits.0
 written_stands table id (Gets count) fits t = absurd (false≢true t)
 written_stands table id (Started create) fits t = absurd (false≢true t)
-written_stands table id (Private create number announced) fits t = absurd (false≢true t)
+written_stands table id (Private create number) fits t = absurd (false≢true t)
+written_stands table id (Filled v number announced) fits t = absurd (false≢true t)
 
 pub sets_flag : {V E : Type 0} (core : Core V E) (n : ℕ) (local : Local V E) → CoreFits core
     → IsTrue (is_enabled core (OfLocal n SetFlag)) → core.locals n ≡ Some local
@@ -270,37 +336,28 @@ sets_flag core n local h t at =
     (sets_slot core.table local (value_written local.doing)
     (written_stands core.table local.id local.doing (h.locals.each n local at).local_fits.view.doing_so))
 
--- what a Local has learnt by an install and by a publishing, and the bucket that it has made
-installed_learnt : {V E : Type 0} (table : Table V) (local : Local V E) (o : Option (Learnt V))
-    → ((learnt : Learnt V) → o ≡ Some learnt → learnt ≡ Vacant)
-    → IfSome (learns table local o) (λ after. after.1.learnt ≡ Vacant)
-installed_learnt table local None only = tt
-installed_learnt table local (Some learnt) only = only learnt refl
-
-by_install : {V : Type 0} (before learnt : Learnt V) → learnt_by_install before ≡ Some learnt → learnt ≡ Vacant
-by_install Missing learnt e = cc
-by_install Unknown learnt e = cc
-by_install Standing learnt e = cc
-by_install Vacant learnt e = cc
-by_install (Holding v) learnt e = cc
-
-install_learns : {V E : Type 0} (table : Table V) (local : Local V E) (doing : Doing V E)
-    → IfSome (option_and_then (install_bucket table local) (private_bucket doing)) (λ after. after.1.learnt ≡ Vacant)
-install_learns table local (Private create number false) = tt
-install_learns table local (Private create number true) =
-    installed_learnt (offered table (bucket_of local.id) number) (record local { doing = Started create })
-    (learnt_by_install local.learnt) (by_install local.learnt)
-install_learns table local (Gets count) = tt
-install_learns table local (Started create) = tt
-install_learns table local (Written v) = tt
-
-pub installed : {V E : Type 0} (core : Core V E) (n : ℕ) (local : Local V E)
-    → IsTrue (is_enabled core (OfLocal n InstallBucket)) → core.locals n ≡ Some local
-    → IsSomeAnd ((happens core (OfLocal n InstallBucket)).locals n) (λ after. after.learnt ≡ Vacant)
+-- what a Local has learnt by an install and by a publishing
+pub installed : {V E : Type 0} (core : Core V E) (n : ℕ) (local : Local V E) (v : V) (number : ℕ)
+    → IsTrue (is_enabled core (OfLocal n InstallBucket)) → core.locals n ≡ Some local → local.doing ≡ Filled v number true
+    → bucket_stands core.table (bucket_of local.id) ≡ false
+    → IsSomeAnd ((happens core (OfLocal n InstallBucket)).locals n) (λ after. (after.learnt ≡ Holding v) × (after.doing ≡ Gets 0))
 unfolding local_step
-installed core n local t at =
-    step_leaves core n InstallBucket local (λ after. after.learnt ≡ Vacant) t at
-    (install_learns core.table local local.doing)
+installed core n local v number t at filled none =
+    step_leaves core n InstallBucket local (λ after. (after.learnt ≡ Holding v) × (after.doing ≡ Gets 0)) t at
+    (rw filled (either_install core.table local (record { value = v; number = number })
+    (λ after. (after.1.learnt ≡ Holding v) × (after.1.doing ≡ Gets 0))
+    (λ stands. absurd (false≢true (sym none ∙ stands))) (λ _. (refl, refl))))
+
+pub beside : {V E : Type 0} (core : Core V E) (n : ℕ) (local : Local V E) (v : V) (number : ℕ)
+    → IsTrue (is_enabled core (OfLocal n InstallBucket)) → core.locals n ≡ Some local → local.doing ≡ Filled v number true
+    → IsTrue (bucket_stands core.table (bucket_of local.id))
+    → IsSomeAnd ((happens core (OfLocal n InstallBucket)).locals n) (λ after. (after.learnt ≡ Vacant) × (after.doing ≡ Written v))
+unfolding local_step
+beside core n local v number t at filled stands =
+    step_leaves core n InstallBucket local (λ after. (after.learnt ≡ Vacant) × (after.doing ≡ Written v)) t at
+    (rw filled (either_install core.table local (record { value = v; number = number })
+    (λ after. (after.1.learnt ≡ Vacant) × (after.1.doing ≡ Written v))
+    (λ _. (refl, refl)) (λ none. absurd (false≢true (sym none ∙ stands)))))
 
 by_publish : {V : Type 0} (before learnt : Learnt V) (v : V) → learnt_by_publish before v ≡ Some learnt → learnt ≡ Holding v
 by_publish Vacant learnt v e = cc

@@ -1,19 +1,20 @@
 -- Which steps of a `Local` are enabled, and what they teach: a call under way always has one.
-use Rattle.std.proofs.Common.{◌≡◌, ◌<◌, ◌≤◌, ℕ, zero, suc, Bool, true, false, cond, Option, Some, None, Result, Ok, Err, is_some}
+use Rattle.std.proofs.Common.{◌≡◌, ◌<◌, ℕ, zero, suc, Bool, true, false, cond, Option, Some, None, Result, Ok, Err, is_some}
 use Rattle.std.proofs.Common.{IsTrue, IfSome, IsSomeAnd, refl, arith}
 use Rattle.std.specs.Prelude.{option_map, option_and_then, MatchOption}
 use Rattle.std.proofs.lemmas.Bool.{false≢true}
 use Rattle.thread_local_base.specs.Place.{bucket_of}
 use Rattle.thread_local_base.specs.Learnt.{Learnt, Unknown, Missing, Standing, Vacant, Holding, learnt_by_load}
-use Rattle.thread_local_base.specs.Learnt.{learnt_by_look, learnt_by_install, learnt_by_publish}
+use Rattle.thread_local_base.specs.Learnt.{learnt_by_look, learnt_by_publish}
 use Rattle.thread_local_base.specs.Answers.{Failed, Answered, GetOr}
 use Rattle.thread_local_schedule.specs.Table.{Table, published, bucket_stands, with_flag}
-use Rattle.thread_local_schedule.specs.Local.{Doing, Gets, Started, Private, Written, Local, LocalStep, local_step}
-use Rattle.thread_local_schedule.specs.Local.{BeginGet, BeginGetOr, LoadPointer, LookAtFlag, MakeBucket, AnnounceBucket, InstallBucket}
-use Rattle.thread_local_schedule.specs.Local.{WriteValue, SetFlag, Reply, doing_with_get, doing_with_get_or, begin_call}
-use Rattle.thread_local_schedule.specs.Local.{may_look, learns, closure_at_missing, make_bucket, offered}
-use Rattle.thread_local_schedule.specs.Local.{unannounced_bucket, announce_bucket, private_bucket, install_bucket, closure_at_vacant, write_value}
+use Rattle.thread_local_schedule.specs.Local.{Doing, Gets, Started, Private, Filled, Written, Local, LocalStep, local_step}
+use Rattle.thread_local_schedule.specs.Local.{BeginGet, BeginGetOr, LoadPointer, LookAtFlag, MakeBucket, FillBucket, AnnounceBucket}
+use Rattle.thread_local_schedule.specs.Local.{InstallBucket, WriteValue, SetFlag, Reply, doing_with_get, doing_with_get_or, begin_call}
+use Rattle.thread_local_schedule.specs.Local.{may_look, learns, closure_at_missing, make_bucket, empty_bucket, fill_bucket}
+use Rattle.thread_local_schedule.specs.Local.{unannounced_bucket, announce_bucket, filled_bucket, install_bucket, closure_at_vacant, write_value}
 use Rattle.thread_local_schedule.specs.Local.{value_written, set_flag, after_call, ending_of, reply}
+use Rattle.thread_local_schedule.proofs.CallsLaws.{either_install}
 use Rattle.thread_local_schedule.specs.Calls.{gets_of, closure_of, HasNoCall, HasLearnt, EndsWith, GoesDown, steps_left}
 
 -- a get begins where no publishing call is under way
@@ -22,7 +23,8 @@ get_begins : {V E : Type 0} (table : Table V) (local : Local V E) (doing : Doing
     → IsTrue (is_some (option_map (begin_call table local) (doing_with_get doing)))
 get_begins table local (Gets count) none = refl
 get_begins table local (Started create) none = cc
-get_begins table local (Private create number announced) none = cc
+get_begins table local (Private create number) none = cc
+get_begins table local (Filled v number announced) none = cc
 get_begins table local (Written v) none = cc
 
 pub begins_get : {V E : Type 0} (table : Table V) (local : Local V E)
@@ -39,7 +41,8 @@ get_or_begins : {V E : Type 0} (table : Table V) (local : Local V E) (create : R
 get_or_begins table local create (Gets zero) gets none = refl
 get_or_begins table local create (Gets (suc count)) gets none = absurd (omega arith)
 get_or_begins table local create (Started other) gets none = cc
-get_or_begins table local create (Private other number announced) gets none = cc
+get_or_begins table local create (Private other number) gets none = cc
+get_or_begins table local create (Filled v number announced) gets none = cc
 get_or_begins table local create (Written v) gets none = cc
 
 pub begins_get_or : {V E : Type 0} (table : Table V) (local : Local V E) (create : Result V E)
@@ -55,7 +58,8 @@ load-learnt table local (Gets count) None e = tt
 load-learnt table local (Gets count) (Some learnt) e = rw e tt
 load-learnt table local (Started create) None e = tt
 load-learnt table local (Started create) (Some learnt) e = rw e tt
-load-learnt table local (Private create number announced) o e = tt
+load-learnt table local (Private create number) o e = tt
+load-learnt table local (Filled v number announced) o e = tt
 load-learnt table local (Written v) o e = tt
 
 begin_get-learnt : {V E : Type 0} (table : Table V) (local : Local V E) (doing : Doing V E)
@@ -78,22 +82,25 @@ make_bucket-learnt table local true (Started create) Missing e = tt
 make_bucket-learnt table local false (Started create) Missing e = e
 make_bucket-learnt table local refused _ _ e = tt
 
+fill_bucket-learnt : {V E : Type 0} (table : Table V) (local : Local V E) (doing : Doing V E)
+    → HasLearnt doing local.learnt
+    → IfSome (option_map (λ own. fill_bucket table local own.number own.create) (empty_bucket doing))
+    (λ after. HasLearnt after.1.doing after.1.learnt)
+fill_bucket-learnt table local (Private (Ok v) number) h = h
+fill_bucket-learnt table local (Private (Err e) number) h = tt
+fill_bucket-learnt table local _ h = tt
+
 announce_bucket-learnt : {V E : Type 0} (table : Table V) (local : Local V E) (doing : Doing V E)
     → HasLearnt doing local.learnt
     → IfSome (option_map (announce_bucket table local) (unannounced_bucket doing)) (λ after. HasLearnt after.1.doing after.1.learnt)
-announce_bucket-learnt table local (Private create number false) h = h
+announce_bucket-learnt table local (Filled v number false) h = h
 announce_bucket-learnt table local _ h = tt
 
-install-learnt : {V E : Type 0} (table : Table V) (local : Local V E) (create : Result V E) (o : Option (Learnt V))
-    → IfSome (learns table (record local { doing = Started create }) o) (λ after. HasLearnt after.1.doing after.1.learnt)
-install-learnt table local create None = tt
-install-learnt table local create (Some learnt) = tt
-
 install_bucket-learnt : {V E : Type 0} (table : Table V) (local : Local V E) (doing : Doing V E)
-    → IfSome (option_and_then (install_bucket table local) (private_bucket doing)) (λ after. HasLearnt after.1.doing after.1.learnt)
-install_bucket-learnt table local (Private create number true) =
-    install-learnt (offered table (bucket_of local.id) number) local create
-    (learnt_by_install local.learnt)
+    → IfSome (option_and_then (install_bucket table local) (filled_bucket doing)) (λ after. HasLearnt after.1.doing after.1.learnt)
+install_bucket-learnt table local (Filled v number true) =
+    either_install table local (record { value = v; number = number }) (λ after. HasLearnt after.1.doing after.1.learnt)
+    (λ _. refl) (λ _. tt)
 install_bucket-learnt table local _ = tt
 
 write_value-learnt : {V E : Type 0} (table : Table V) (local : Local V E) (doing : Doing V E) (learnt : Learnt V)
@@ -132,6 +139,7 @@ learnt table local LoadPointer h =
     (learnt_by_load local.learnt (bucket_stands table (bucket_of local.id))) refl
 learnt table local LookAtFlag h = load-learnt table local local.doing (learnt_by_look local.learnt (published table local.id)) refl
 learnt table local (MakeBucket refused) h = make_bucket-learnt table local refused local.doing local.learnt refl
+learnt table local FillBucket h = fill_bucket-learnt table local local.doing h
 learnt table local AnnounceBucket h = announce_bucket-learnt table local local.doing h
 learnt table local InstallBucket h = install_bucket-learnt table local local.doing
 learnt table local WriteValue h = write_value-learnt table local local.doing local.learnt
@@ -182,7 +190,8 @@ asked table local refused (Started create) Standing t = absurd (false≢true t)
 asked table local refused (Started create) Vacant t = absurd (false≢true t)
 asked table local refused (Started create) (Holding v) t = absurd (false≢true t)
 asked table local refused (Gets count) before t = absurd (false≢true t)
-asked table local refused (Private create number announced) before t = absurd (false≢true t)
+asked table local refused (Private create number) before t = absurd (false≢true t)
+asked table local refused (Filled v number announced) before t = absurd (false≢true t)
 asked table local refused (Written v) before t = absurd (false≢true t)
 
 pub asks : {V E : Type 0} (table : Table V) (local : Local V E) (refused : Bool)
@@ -191,26 +200,20 @@ pub asks : {V E : Type 0} (table : Table V) (local : Local V E) (refused : Bool)
 unfolding local_step
 asks table local refused t = asked table local refused local.doing local.learnt t
 
--- few steps are left of a call with a bucket of its own, whether or not that is known to be announced
-pub private_few : (T F : Type 0) (create : Result T F) (number : ℕ) (learnt : Learnt T) (announced : Bool)
-    → steps_left (Private create number announced) learnt ≤ 4
-private_few T F create number learnt true = omega arith
-private_few T F create number learnt false = omega arith
-
 -- a request for memory may be made with either answer, and goes on by both
 asked_either : {V E : Type 0} (table : Table V) (local : Local V E) (refused other : Bool) (doing : Doing V E) (before : Learnt V)
     → IsTrue (is_some (option_map (make_bucket table local refused) (closure_at_missing doing before)))
     → IsSomeAnd (option_map (make_bucket table local other) (closure_at_missing doing before))
     (λ after. steps_left after.1.doing after.1.learnt < steps_left doing before)
 asked_either table local refused true (Started create) Missing t = omega arith
-asked_either {V} {E} table local refused false (Started create) Missing t =
-    omega (arith, private_few V E create table.made local.learnt (table.announced (bucket_of local.id)))
+asked_either table local refused false (Started create) Missing t = omega arith
 asked_either table local refused other (Started create) Unknown t = absurd (false≢true t)
 asked_either table local refused other (Started create) Standing t = absurd (false≢true t)
 asked_either table local refused other (Started create) Vacant t = absurd (false≢true t)
 asked_either table local refused other (Started create) (Holding v) t = absurd (false≢true t)
 asked_either table local refused other (Gets count) before t = absurd (false≢true t)
-asked_either table local refused other (Private create number announced) before t = absurd (false≢true t)
+asked_either table local refused other (Private create number) before t = absurd (false≢true t)
+asked_either table local refused other (Filled v number announced) before t = absurd (false≢true t)
 asked_either table local refused other (Written v) before t = absurd (false≢true t)
 
 pub asks_either : {V E : Type 0} (table : Table V) (local : Local V E) (refused other : Bool)
@@ -229,7 +232,8 @@ failed table local e (Started (Err x)) before h c v =
     rw (v, same) (record { none = record { gets = refl; closure = refl }; answered = refl })
 failed table local e (Started (Ok x)) before h c v = cc
 failed table local e (Gets count) before h c v = cc
-failed table local e (Private create number announced) before h c v = cc
+failed table local e (Private create number) before h c v = cc
+failed table local e (Filled x number announced) before h c v = cc
 failed table local e (Written x) before h c v = cc
 
 pub fails : {V E : Type 0} (table : Table V) (local : Local V E) (e : E)
@@ -238,3 +242,17 @@ pub fails : {V E : Type 0} (table : Table V) (local : Local V E) (e : E)
     → IsSomeAnd (local_step table local WriteValue) (λ after. EndsWith (Failed e) local after.1)
 unfolding local_step
 fails table local e h c v = failed table local e local.doing local.learnt h c v
+
+-- and where the call has made a bucket, as it was
+failed_unused : {V E : Type 0} (table : Table V) (local : Local V E) (e : E) (number : ℕ) (doing : Doing V E)
+    → doing ≡ Private (Err e) number
+    → IsSomeAnd (option_map (λ own. fill_bucket table local own.number own.create) (empty_bucket doing))
+    (λ after. EndsWith (Failed e) local after.1 × (after.1.learnt ≡ local.learnt))
+failed_unused table local e number doing d = rw d (record { none = record { gets = refl; closure = refl }; answered = refl }, refl)
+
+pub fails_unused : {V E : Type 0} (table : Table V) (local : Local V E) (e : E) (number : ℕ)
+    → local.doing ≡ Private (Err e) number
+    → IsSomeAnd (local_step table local FillBucket)
+    (λ after. EndsWith (Failed e) local after.1 × (after.1.learnt ≡ local.learnt))
+unfolding local_step
+fails_unused table local e number d = failed_unused table local e number local.doing d

@@ -102,10 +102,10 @@ take_id-says core refused growth false e h =
 stepped-says : {V E : Type 0} (core : Core V E) (number : ℕ) (step : LocalStep V E)
     (local : Local V E) (after : Table V × Local V E)
     → core.locals number ≡ Some local
-    → StepFits core.table local (value_set local.doing step) after → CoreFits core
+    → StepFits core.table local (value_set core.table local step) after → CoreFits core
     → EventSays core (OfLocal number step) (with_step core number after)
 stepped-says core number step local after at s h =
-    let set = value_set local.doing step in
+    let set = value_set core.table local step in
     record {
       moves = rw at (published_moves core after.0 local.id set s.shown);
       allowed = rw at (publishing_allowed (shadow core) local.id set (h.locals.each number local at).id_held s.empty);

@@ -1,14 +1,15 @@
 -- A call under way has an enabled step that leaves fewer steps to make.
 use Rattle.std.proofs.Common.{◌≡◌, ℕ, zero, suc, ◌+◌, ◌<◌, ◌≤◌, Bool, true, false, cond, Option, Some, None, Result, Ok}
-use Rattle.std.proofs.Common.{Err, IsSomeAnd, refl, arith}
+use Rattle.std.proofs.Common.{Err, IsSomeAnd, refl, ◌∙◌, arith}
 use Rattle.thread_local_base.specs.Place.{bucket_of}
 use Rattle.thread_local_base.specs.Learnt.{Learnt, Unknown, Missing, Standing, Vacant, Holding, learnt_by_look}
 use Rattle.thread_local_schedule.specs.Table.{Table, published, bucket_stands}
-use Rattle.thread_local_schedule.specs.Local.{Doing, Gets, Started, Private, Written, Local, LocalStep, local_step}
-use Rattle.thread_local_schedule.specs.Local.{LoadPointer, LookAtFlag, MakeBucket, AnnounceBucket, InstallBucket, WriteValue, SetFlag}
+use Rattle.thread_local_schedule.specs.Local.{Doing, Gets, Started, Private, Filled, Written, Local, LocalStep, local_step}
+use Rattle.thread_local_schedule.specs.Local.{LoadPointer, LookAtFlag, MakeBucket, FillBucket, AnnounceBucket, InstallBucket}
+use Rattle.thread_local_schedule.specs.Local.{FilledBucket, install_bucket, WriteValue, SetFlag}
 use Rattle.thread_local_schedule.specs.Local.{Reply, learns}
 use Rattle.thread_local_schedule.specs.Calls.{gets_of, closure_of, HasNoCall, HasLearnt, GoesDown, looks_left, started_left, steps_left}
-use Rattle.thread_local_schedule.proofs.EnabledSteps.{private_few}
+use Rattle.std.proofs.lemmas.Bool.{cond_both}
 
 -- a step of this Local leaves fewer steps than this
 abbrev HasStep : {V E : Type 0} → Table V → Local V E → ℕ → Type 0
@@ -43,6 +44,18 @@ look_started : {V E : Type 0} (table : Table V) (local : Local V E) (create : Re
 look_started table local create None e = rw e (omega arith)
 look_started table local create (Some v) e = rw e (omega arith)
 
+-- few steps are left once a bucket was filled, and of an install at most one
+filled_few : (T F : Type 0) (v : T) (number : ℕ) (announced : Bool) (learnt : Learnt T)
+    → steps_left {E = F} (Filled v number announced) learnt ≤ 3
+filled_few T F v number true learnt = omega arith
+filled_few T F v number false learnt = omega arith
+
+install_few : {V E : Type 0} (table : Table V) (local : Local V E) (own : FilledBucket V) → local.learnt ≡ Missing
+    → IsSomeAnd (install_bucket table local own) (λ after. steps_left after.1.doing after.1.learnt < 2)
+install_few table local own h =
+    rw h (cond_both {A = Option (Table _ × Local _ _)} (bucket_stands table (bucket_of local.id)) _ _
+    (λ o. IsSomeAnd o (λ after. steps_left after.1.doing after.1.learnt < 2)) (λ _. omega arith) (λ _. omega arith))
+
 goes_by : {V E : Type 0} (table : Table V) (local : Local V E) (doing : Doing V E)
     (learnt : Learnt V)
     → local.doing ≡ doing → local.learnt ≡ learnt → HasLearnt doing learnt
@@ -63,7 +76,7 @@ goes_by {V} {E} table local (Gets (suc count)) (Holding v) e l h busy =
 goes_by {V} {E} table local (Started create) Unknown e l h busy =
     (LoadPointer, rw (e, l) (load_started V (bucket_stands table (bucket_of local.id))))
 goes_by {V} {E} table local (Started create) Missing e l h busy =
-    (MakeBucket false, rw (e, l) (omega (arith, private_few V E create table.made Missing (table.announced (bucket_of local.id)))))
+    (MakeBucket false, rw (e, l) (omega arith))
 goes_by {V} {E} table local (Started create) Standing e l h busy = (
   LookAtFlag,
   rw (e, l) (look_started table (record local { learnt = Standing; doing = Started create })
@@ -72,8 +85,12 @@ goes_by {V} {E} table local (Started create) Standing e l h busy = (
 goes_by {V} {E} table local (Started (Ok v)) Vacant e l h busy = (WriteValue, rw (e, l) (omega arith))
 goes_by {V} {E} table local (Started (Err x)) Vacant e l h busy = (WriteValue, rw (e, l) (omega arith))
 goes_by {V} {E} table local (Started create) (Holding v) e l h busy = (Reply, rw (e, l) (omega arith))
-goes_by {V} {E} table local (Private create number false) learnt e l h busy = (AnnounceBucket, rw e (omega arith))
-goes_by {V} {E} table local (Private create number true) learnt e l h busy = (InstallBucket, rw (e, l, h) (omega arith))
+goes_by {V} {E} table local (Private (Ok v) number) learnt e l h busy =
+    (FillBucket, rw e (omega (arith, filled_few V E v number (table.announced (bucket_of local.id)) local.learnt)))
+goes_by {V} {E} table local (Private (Err x) number) learnt e l h busy = (FillBucket, rw e (omega arith))
+goes_by {V} {E} table local (Filled v number false) learnt e l h busy = (AnnounceBucket, rw e (omega arith))
+goes_by {V} {E} table local (Filled v number true) learnt e l h busy =
+    (InstallBucket, rw e (install_few table local (record { value = v; number = number }) (l ∙ h)))
 goes_by {V} {E} table local (Written v) learnt e l h busy = (SetFlag, rw (e, l, h) (omega arith))
 
 pub goes_on : {V E : Type 0} (table : Table V) (local : Local V E) → HasLearnt local.doing local.learnt → (HasNoCall local → ⊥)
@@ -101,6 +118,7 @@ pub few_steps : {V E : Type 0} (doing : Doing V E) (learnt : Learnt V) → steps
 few_steps (Gets zero) learnt = omega arith
 few_steps (Gets (suc count)) learnt = omega (arith, looks_few learnt)
 few_steps (Started create) learnt = started_few learnt
-few_steps (Private create number false) learnt = omega arith
-few_steps (Private create number true) learnt = omega arith
+few_steps (Private create number) learnt = omega arith
+few_steps (Filled v number false) learnt = omega arith
+few_steps (Filled v number true) learnt = omega arith
 few_steps (Written v) learnt = omega arith

@@ -9,6 +9,7 @@ use Rattle.thread_local_base.proofs.IdMoveLaws.{after_take, after_give}
 use Rattle.thread_local_base.specs.Sheet.{Sheet, Take, Give, Publish, Keep, Rewrite, Clear}
 use Rattle.thread_local_schedule.specs.TableMoves.{TableMove, OfSheet, Drain, moved_by_if}
 use Rattle.thread_local_schedule.specs.Local.{Local, LocalStep}
+use Rattle.thread_local_schedule.specs.Table.{Table}
 use Rattle.thread_local_schedule.specs.Fits.{value_set}
 use Rattle.thread_local_schedule.specs.Core.{Core, made_core, shadow}
 use Rattle.thread_local_schedule.specs.CoreFits.{CoreFits}
@@ -94,10 +95,10 @@ published_notes : {V : Type 0} (moves : List IdMove) (id : ℕ) (set : Option V)
 published_notes moves id None = refl
 published_notes moves id (Some v) = refl
 
-step_notes : {V E : Type 0} (moves : List IdMove) (o : Option (Local V E)) (step : LocalStep V E)
-    → ids_noted moves (publishing o step) ≡ moves
-step_notes moves None step = refl
-step_notes moves (Some local) step = published_notes moves local.id (value_set local.doing step)
+step_notes : {V E : Type 0} (moves : List IdMove) (table : Table V) (o : Option (Local V E)) (step : LocalStep V E)
+    → ids_noted moves (publishing table o step) ≡ moves
+step_notes moves table None step = refl
+step_notes moves table (Some local) step = published_notes moves local.id (value_set table local step)
 
 refused_notes : (T : Type 0) (moves : List IdMove) (enabled granted : Bool) → IsTrue enabled
     → (enabled && not (not granted)) ≡ false
@@ -111,7 +112,7 @@ unnoted : {V E : Type 0} (moves : List IdMove) (core : Core V E) (event : Event 
     → ids_noted moves (move_of core event) ≡ moves
 unnoted {V} moves core (TakeId refused growth) t none =
     refused_notes V moves (is_enabled core (TakeId refused growth)) (is_granted core.manager refused) t none.0
-unnoted moves core (OfLocal number step) t none = step_notes moves (core.locals number) step
+unnoted moves core (OfLocal number step) t none = step_notes moves core.table (core.locals number) step
 unnoted moves core (GiveBack number) t none = absurd (none.1 number refl)
 unnoted moves core (Owner (RewriteTable others)) t none = refl
 unnoted moves core (Owner DrainTable) t none = refl

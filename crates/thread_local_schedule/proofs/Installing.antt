@@ -5,18 +5,18 @@ use Rattle.std.specs.Prelude.{option_map, option_and_then}
 use Rattle.std.proofs.lemmas.Bool.{cases_eq, ne_eqb, false≢true}
 use Rattle.thread_local_base.specs.Place.{bucket_of}
 use Rattle.thread_local_base.specs.Learnt.{Learnt, Missing, Vacant, Holding, learnt_by_load, learnt_by_look}
-use Rattle.thread_local_base.specs.Learnt.{learnt_by_install, learnt_by_publish}
+use Rattle.thread_local_base.specs.Learnt.{learnt_by_publish}
 use Rattle.thread_local_base.specs.Answers.{Answered, GetOr}
 use Rattle.thread_local_schedule.specs.Table.{Table, Slot, published, bucket_stands, with_announced, with_flag, with_table_slot}
-use Rattle.thread_local_schedule.specs.Local.{Doing, Gets, Started, Private, Local, LocalStep, local_step, BeginGet}
-use Rattle.thread_local_schedule.specs.Local.{BeginGetOr, LoadPointer, LookAtFlag, MakeBucket, AnnounceBucket, InstallBucket}
+use Rattle.thread_local_schedule.specs.Local.{Doing, Gets, Started, Private, Filled, Local, LocalStep, local_step, BeginGet}
+use Rattle.thread_local_schedule.specs.Local.{BeginGetOr, LoadPointer, LookAtFlag, MakeBucket, FillBucket, AnnounceBucket, InstallBucket}
 use Rattle.thread_local_schedule.specs.Local.{WriteValue, SetFlag, Reply, doing_with_get, doing_with_get_or, begin_call}
-use Rattle.thread_local_schedule.specs.Local.{may_look, learns, closure_at_missing, make_bucket, unannounced_bucket, announce_bucket, offered}
-use Rattle.thread_local_schedule.specs.Local.{private_bucket, install_bucket, closure_at_vacant, write_value}
-use Rattle.thread_local_schedule.specs.Local.{value_written, set_flag, after_call, ending_of, reply}
-use Rattle.thread_local_schedule.proofs.TableLaws.{bucket_stands-offered, bucket_stands-with_table_slot, bucket_stands-made}
+use Rattle.thread_local_schedule.specs.Local.{may_look, learns, closure_at_missing, make_bucket, empty_bucket, fill_bucket}
+use Rattle.thread_local_schedule.specs.Local.{unannounced_bucket, announce_bucket, filled_bucket, install_bucket, closure_at_vacant}
+use Rattle.thread_local_schedule.specs.Local.{write_value, value_written, set_flag, after_call, ending_of, reply}
+use Rattle.thread_local_schedule.proofs.TableLaws.{bucket_stands-with_filled_bucket, bucket_stands-with_table_slot, bucket_stands-made}
 use Rattle.thread_local_schedule.proofs.TableLaws.{bucket_stands-with_announced}
-use Rattle.thread_local_schedule.proofs.CallsLaws.{whatever_is_learnt}
+use Rattle.thread_local_schedule.proofs.CallsLaws.{whatever_is_learnt, either_install}
 
 -- a bucket that doesn't stand before a step stands after it only where the step installs it
 abbrev Installs : {V E : Type 0} → LocalStep V E → ℕ → ℕ → Table V → Type 0
@@ -70,12 +70,21 @@ make_bucket-installs table local bucket false (Some create) none =
     (bucket_stands-made table (suc table.made) bucket)
 make_bucket-installs table local bucket refused None none = tt
 
+fill_bucket-installs : {V E : Type 0} (table : Table V) (local : Local V E) (bucket : ℕ)
+    (doing : Doing V E)
+    → bucket_stands table bucket ≡ false
+    → IfSome (option_map (λ own. fill_bucket table local own.number own.create) (empty_bucket doing))
+    (λ after. Installs {E = E} FillBucket local.id bucket after.0)
+fill_bucket-installs table local bucket (Private (Ok v) number) none = leaves FillBucket table table local.id bucket none refl
+fill_bucket-installs table local bucket (Private (Err e) number) none = leaves FillBucket table table local.id bucket none refl
+fill_bucket-installs table local bucket _ none = tt
+
 announce_bucket-installs : {V E : Type 0} (table : Table V) (local : Local V E) (bucket : ℕ)
     (doing : Doing V E)
     → bucket_stands table bucket ≡ false
     → IfSome (option_map (announce_bucket table local) (unannounced_bucket doing))
     (λ after. Installs {E = E} AnnounceBucket local.id bucket after.0)
-announce_bucket-installs table local bucket (Private create number false) none =
+announce_bucket-installs table local bucket (Filled v number false) none =
     leaves AnnounceBucket table (with_announced table (bucket_of local.id)) local.id bucket none
     (bucket_stands-with_announced table (bucket_of local.id) bucket)
 announce_bucket-installs table local bucket _ none = tt
@@ -83,21 +92,21 @@ announce_bucket-installs table local bucket _ none = tt
 install_bucket-installs : {V E : Type 0} (table : Table V) (local : Local V E) (bucket : ℕ)
     (doing : Doing V E)
     → bucket_stands table bucket ≡ false
-    → IfSome (option_and_then (install_bucket table local) (private_bucket doing))
+    → IfSome (option_and_then (install_bucket table local) (filled_bucket doing))
     (λ after. Installs {E = E} InstallBucket local.id bucket after.0)
-install_bucket-installs table local bucket (Private create number true) none =
+install_bucket-installs {V} {E} table local bucket (Filled v number true) none =
     let own = bucket_of local.id in
-    whatever_is_learnt (offered table own number) (record local { doing = Started create })
-    (learnt_by_install local.learnt)
-    (λ after. Installs {E = _} InstallBucket local.id bucket after.0)
-    (λ learnt t. (
+    either_install table local (record { value = v; number = number })
+    (λ after. Installs {E = E} InstallBucket local.id bucket after.0)
+    (λ _. slot-leaves InstallBucket table local.id bucket _ none)
+    (λ _ t. (
       refl,
       ⊎_elim
           (λ same. same)
           (λ apart.
           absurd
           (false≢true (sym none
-          ∙ sym (bucket_stands-offered table own number bucket
+          ∙ sym (bucket_stands-with_filled_bucket table local.id number v bucket
           ∙ ap (λ b. cond b true (bucket_stands table bucket)) (ne_eqb own bucket apart))
           ∙ t)))
           (cases_eq own bucket),
@@ -150,6 +159,7 @@ installs table local LookAtFlag bucket none =
 installs table local (MakeBucket refused) bucket none =
     make_bucket-installs table local bucket refused
     (closure_at_missing local.doing local.learnt) none
+installs table local FillBucket bucket none = fill_bucket-installs table local bucket local.doing none
 installs table local AnnounceBucket bucket none = announce_bucket-installs table local bucket local.doing none
 installs table local InstallBucket bucket none = install_bucket-installs table local bucket local.doing none
 installs table local WriteValue bucket none = write_value-installs table local bucket (closure_at_vacant local.doing local.learnt) none

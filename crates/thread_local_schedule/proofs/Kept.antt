@@ -67,16 +67,16 @@ of_local-fits core number step h =
     if_then CoreFits _ (core.locals number) (λ local at.
     if_mapped CoreFits (with_step core number) (local_step core.table local step)
     (if_both (λ after.
-    StepFits core.table local (value_set local.doing step) after
+    StepFits core.table local (value_set core.table local step) after
     × NumbersGo core.table local after)
     (λ after. HasLearnt after.1.doing after.1.learnt) (local_step core.table local step)
-    (if_both (StepFits core.table local (value_set local.doing step)) (NumbersGo core.table local)
+    (if_both (StepFits core.table local (value_set core.table local step)) (NumbersGo core.table local)
     (local_step core.table local step)
     (local_step-fits core.table local step h.table.written
     (h.locals.each number local at).local_fits)
     (local_step-numbers core.table local step))
     (learnt core.table local step (h.locals.each number local at).learnt))
-    (λ after s. stepped-fits core number local (value_set local.doing step) after at s.0.0 s.0.1 s.1 h))
+    (λ after s. stepped-fits core number local (value_set core.table local step) after at s.0.0 s.0.1 s.1 h))
 
 -- a Local that gives its id back, or is forgotten
 given_back-fits : {V E : Type 0} (core : Core V E) (number : ℕ) (local : Local V E)

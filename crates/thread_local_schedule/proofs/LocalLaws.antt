@@ -8,23 +8,26 @@ use Rattle.thread_local_base.specs.Place.{bucket_of}
 use Rattle.thread_local_base.specs.Answers.{View, Call, Get, GetOr, Answer, Found, Answered, Refused, Failed, Says, answers}
 use Rattle.thread_local_base.proofs.AnswersLaws as says
 use Rattle.thread_local_base.proofs.AnswersLaws.{answers-push, view_after_all-push}
-use Rattle.thread_local_schedule.specs.Table.{Slot, Table, slot_at, published, bucket_stands, value_of, with_announced, with_table_slot, with_flag}
+use Rattle.thread_local_schedule.specs.Table.{Slot, Table, slot_at, published, bucket_stands, value_of, with_announced, with_fresh_bucket}
+use Rattle.thread_local_schedule.specs.Table.{with_filled_bucket, with_table_slot, with_flag}
 use Rattle.thread_local_base.specs.Learnt.{Learnt, Unknown, Missing, Standing, Vacant, Holding, learnt_by_load}
-use Rattle.thread_local_base.specs.Learnt.{learnt_by_look, learnt_by_install, learnt_by_publish}
-use Rattle.thread_local_schedule.specs.Local.{Doing, Gets, Started, Private, Written, Local, after_call, may_look}
-use Rattle.thread_local_schedule.specs.Local.{learns, load_pointer, look_at_flag, make_bucket, announce_bucket, offered, install_bucket}
+use Rattle.thread_local_base.specs.Learnt.{learnt_by_look, learnt_by_publish}
+use Rattle.thread_local_schedule.specs.Local.{Doing, Gets, Started, Private, Filled, Written, Local, after_call, may_look}
+use Rattle.thread_local_schedule.specs.Local.{learns, load_pointer, look_at_flag, make_bucket, fill_bucket, announce_bucket, install_bucket}
 use Rattle.thread_local_schedule.specs.Local.{write_value, set_flag, reply, local_step, LocalStep, BeginGet, BeginGetOr}
-use Rattle.thread_local_schedule.specs.Local.{LoadPointer, LookAtFlag, MakeBucket, AnnounceBucket, InstallBucket, WriteValue, SetFlag}
+use Rattle.thread_local_schedule.specs.Local.{LoadPointer, LookAtFlag, MakeBucket, FillBucket, AnnounceBucket, InstallBucket}
+use Rattle.thread_local_schedule.specs.Local.{WriteValue, SetFlag}
 use Rattle.thread_local_schedule.specs.Local.{Reply, doing_with_get, doing_with_get_or, begin_call, closure_at_missing}
-use Rattle.thread_local_schedule.specs.Local.{closure_at_vacant, ending_of, unannounced_bucket, private_bucket, value_written}
+use Rattle.thread_local_schedule.specs.Local.{closure_at_vacant, ending_of, empty_bucket, unannounced_bucket, filled_bucket, value_written}
 use Rattle.thread_local_schedule.specs.Fits.{IsWritten, AllWritten, view_now, IsLearnt, IsDoing, ViewFits, LocalFits}
+use Rattle.thread_local_schedule.proofs.CallsLaws.{either_install}
 use Rattle.thread_local_schedule.specs.Fits.{number_at, ChangesOnly, value_set, StepFits}
-use Rattle.thread_local_schedule.proofs.TableLaws.{slot_at-none, published_unset, slot_at-offered}
-use Rattle.thread_local_schedule.proofs.TableLaws.{bucket_stands-offered, published-slot_at, slot_at-with_slot_same}
+use Rattle.thread_local_schedule.proofs.TableLaws.{slot_at-none, published_unset, slot_at-with_fresh_bucket, bucket_stands-with_fresh_bucket}
+use Rattle.thread_local_schedule.proofs.TableLaws.{bucket_stands-with_filled_bucket, published-slot_at, slot_at-with_slot_same}
 use Rattle.thread_local_schedule.proofs.TableLaws.{slot_at-with_slot_other, bucket_stands-with_table_slot, slot_at-made}
-use Rattle.thread_local_schedule.proofs.TableLaws.{bucket_stands-made, number_at-made, number_at-offered, number_at-with_table_slot}
+use Rattle.thread_local_schedule.proofs.TableLaws.{bucket_stands-made, number_at-made, number_at-with_filled_bucket, number_at-with_table_slot}
 use Rattle.thread_local_schedule.proofs.TableLaws.{slot_at-with_announced, bucket_stands-with_announced, number_at-with_announced}
-use Rattle.thread_local_schedule.proofs.TableLaws.{announced-more, announced-own, announced-offered, announced-with_table_slot}
+use Rattle.thread_local_schedule.proofs.TableLaws.{announced-more, announced-own, announced-with_filled_bucket, announced-with_table_slot}
 
 learnt_carried : {V : Type 0} (old new : Table V) (id : ℕ) (view : View V) (learnt : Learnt V)
     → slot_at new id ≡ slot_at old id → (IsTrue (bucket_stands old (bucket_of id)) → IsTrue (bucket_stands new (bucket_of id)))
@@ -41,7 +44,8 @@ doing_carried : {V E : Type 0} (old new : Table V) (id : ℕ) (doing : Doing V E
     → IsDoing old id doing → IsDoing new id doing
 doing_carried old new id (Gets count) same stays known d = d
 doing_carried old new id (Started create) same stays known d = d
-doing_carried old new id (Private create number announced) same stays known d =
+doing_carried old new id (Private create number) same stays known d = ap (λ slot. slot.flag) same ∙ d
+doing_carried old new id (Filled v number announced) same stays known d =
     (ap (λ slot. slot.flag) same ∙ d.0, λ t. known (d.1 t))
 doing_carried old new id (Written v) same stays known d = (stays d.0, same ∙ d.1)
 
@@ -228,7 +232,7 @@ make_bucket-fits table local false (Started create) Missing written h l d =
     let after = record table { made = suc table.made } in
     let same = slot_at-made table (suc table.made) in
     let standing = bucket_stands-made table (suc table.made) in
-    offers table after local local.learnt (Private create table.made (table.announced (bucket_of local.id))) written h
+    offers table after local local.learnt (Private create table.made) written h
     (record {
       same = same;
       standing = λ bucket t. (standing bucket ∙ t, number_at-made table (suc table.made) bucket);
@@ -237,21 +241,34 @@ make_bucket-fits table local false (Started create) Missing written h l d =
     })
     (learnt_carried table after local.id (view_now local) local.learnt (same local.id)
     (λ t. standing (bucket_of local.id) ∙ t) h.view.learnt_so)
-    (ap (λ slot. slot.flag) (same local.id) ∙ l.0, λ t. t)
+    (ap (λ slot. slot.flag) (same local.id) ∙ l.0)
 make_bucket-fits table local refused _ _ written h l d = tt
 
+-- a call fills its bucket, which nobody else sees, or ends with the closure's error
+fill_bucket-fits : {V E : Type 0} (table : Table V) (local : Local V E) (doing : Doing V E)
+    → AllWritten table → LocalFits table local
+    → IsDoing table local.id doing
+    → IfSome (option_map (λ own. fill_bucket table local own.number own.create) (empty_bucket doing)) (StepFits table local None)
+fill_bucket-fits table local (Private (Ok v) number) written h d =
+    stays table local local.learnt (Filled v number (table.announced (bucket_of local.id))) written h h.view.learnt_so (d, λ t. t)
+fill_bucket-fits table local (Private (Err e) number) written h d =
+    ends table local (GetOr (Err e) false) (Failed e) (view_now local) local.learnt (Gets 0) written h
+    (says.failed (view_now local) e (h.view.value ∙ published_unset table local.id d))
+    (record { value = h.view.value; known = h.view.known; learnt_so = h.view.learnt_so; doing_so = tt })
+fill_bucket-fits table local _ written h d = tt
+
 -- a call announces its bucket, and no pointer and no slot changes
-announces : {V E : Type 0} (table : Table V) (local : Local V E) (create : Result V E) (number : ℕ)
+announces : {V E : Type 0} (table : Table V) (local : Local V E) (v : V) (number : ℕ)
     → AllWritten table → LocalFits table local
     → (slot_at table local.id).flag ≡ false
     → StepFits table local None
-    (with_announced table (bucket_of local.id), record local { doing = Private create number true })
-announces table local create number written h d =
+    (with_announced table (bucket_of local.id), record local { doing = Filled v number true })
+announces table local v number written h d =
     let own = bucket_of local.id in
     let after = with_announced table own in
     let same = slot_at-with_announced table own in
     let standing = bucket_stands-with_announced table own in
-    offers table after local local.learnt (Private create number true) written h
+    offers table after local local.learnt (Filled v number true) written h
     (record {
       same = same;
       standing = λ bucket t. (standing bucket ∙ t, number_at-with_announced table own bucket);
@@ -266,58 +283,8 @@ announce_bucket-fits : {V E : Type 0} (table : Table V) (local : Local V E) (doi
     → AllWritten table → LocalFits table local
     → IsDoing table local.id doing
     → IfSome (option_map (announce_bucket table local) (unannounced_bucket doing)) (StepFits table local None)
-announce_bucket-fits table local (Private create number false) written h d = announces table local create number written h d.0
+announce_bucket-fits table local (Filled v number false) written h d = announces table local v number written h d.0
 announce_bucket-fits table local _ written h d = tt
-
--- what an offer does to the pointers: its own isn't null afterwards, and the others stay
-offered_only : {V : Type 0} (table : Table V) (id number : ℕ) → IsTrue (table.announced (bucket_of id))
-    → OffersOnly table (offered table (bucket_of id) number) id
-offered_only table id number known = record {
-  same = slot_at-offered table (bucket_of id) number;
-  standing = λ bucket t. (
-    (bucket_stands-offered table (bucket_of id) number bucket
-        ∙ cond_both (eqb (bucket_of id) bucket) true (bucket_stands table bucket) (λ b. b ≡ true)
-        (λ _. refl) (λ _. t)),
-    (number_at-offered table (bucket_of id) number bucket t),
-  );
-  installed = λ bucket t.
-      ⊎_elim
-      (λ here. inr (here, ap table.announced (sym here) ∙ known))
-      (λ apart.
-      inl (sym (bucket_stands-offered table (bucket_of id) number bucket
-      ∙ ap (λ b. cond b true (bucket_stands table bucket))
-      (ne_eqb (bucket_of id) bucket apart))
-      ∙ t))
-      (cases_eq (bucket_of id) bucket);
-  announced = λ bucket t. ap (λ f. f bucket) (announced-offered table (bucket_of id) number) ∙ t;
-}
-
--- what an install teaches holds
-install-fits : {V E : Type 0} (table : Table V) (local : Local V E) (create : Result V E)
-    (number : ℕ) (learnt : Learnt V)
-    → AllWritten table → LocalFits table local
-    → (slot_at table local.id).flag ≡ false → IsTrue (table.announced (bucket_of local.id))
-    → IfSome (learns (offered table (bucket_of local.id) number)
-    (record local { doing = Started create }) (learnt_by_install learnt))
-    (StepFits table local None)
-install-fits table local create number Missing written h d known =
-    let b = bucket_of local.id in
-    offers table (offered table b number) local Vacant (Started create) written h (offered_only table local.id number known) (
-      (bucket_stands-offered table b number b
-          ∙ ap (λ here. cond here true (bucket_stands table b)) (eq-eqb b b refl)),
-      ap (λ slot. slot.flag) (slot_at-offered table b number local.id) ∙ d,
-    )
-    tt
-install-fits table local create number _ written h d known = tt
-
-install_bucket-fits : {V E : Type 0} (table : Table V) (local : Local V E) (doing : Doing V E)
-    → AllWritten table → LocalFits table local
-    → IsDoing table local.id doing
-    → IfSome (option_and_then (install_bucket table local) (private_bucket doing))
-    (StepFits table local None)
-install_bucket-fits table local (Private create number true) written h d =
-    install-fits table local create number local.learnt written h d.0 (d.1 refl)
-install_bucket-fits table local _ written h d = tt
 
 -- one slot changes, to one whose flag is set only over a written value
 slot_changes : {V : Type 0} (table : Table V) (id : ℕ) (slot : Slot V)
@@ -350,20 +317,19 @@ shown_other table id other slot apart =
     published-slot_at table (with_table_slot table id slot) other
     (slot_at-with_slot_other table id other slot apart)
 
-write_value-fits : {V E : Type 0} (table : Table V) (local : Local V E) (doing : Doing V E)
-    (learnt : Learnt V)
+-- a value is written into the empty slot of a bucket that stands
+writes : {V E : Type 0} (table : Table V) (local : Local V E) (v : V)
     → AllWritten table → LocalFits table local
-    → IsLearnt table local.id (view_now local) learnt
-    → IfSome (option_map (write_value table local) (closure_at_vacant doing learnt))
-    (StepFits table local None)
-write_value-fits table local (Started (Ok v)) Vacant written h l =
+    → IsTrue (bucket_stands table (bucket_of local.id)) → (slot_at table local.id).flag ≡ false
+    → StepFits table local None (write_value table local (Ok v))
+writes table local v written h stands empty =
     let id = local.id in
     let slot = record (slot_at table id) { written = Some v } in
     let after = with_table_slot table id slot in
-    let standing : IsTrue (bucket_stands after (bucket_of id)) = bucket_stands-with_table_slot table id (bucket_of id) slot ∙ l.0 in
+    let standing : IsTrue (bucket_stands after (bucket_of id)) = bucket_stands-with_table_slot table id (bucket_of id) slot ∙ stands in
     let here : slot_at after id ≡ record { written = Some v; flag = false } =
-    slot_at-with_slot_same table id slot l.0 ∙ ap (λ b. record { written = Some v; flag = b }) l.1 in
-    let none = published_unset table id l.1 in
+    slot_at-with_slot_same table id slot stands ∙ ap (λ b. record { written = Some v; flag = b }) empty in
+    let none = published_unset table id empty in
     let none_after = published_unset after id (ap (λ s. s.flag) here) in
     record {
       fits = record {
@@ -375,7 +341,7 @@ write_value-fits table local (Started (Ok v)) Vacant written h l =
           doing_so = (standing, here);
         };
       };
-      changes = slot_changes table id slot l.0 written (λ t. refl);
+      changes = slot_changes table id slot stands written (λ t. refl);
       shown = λ other.
           ⊎_elim
           (λ same. subst (λ j. published after j ≡ published table j) same (none_after ∙ sym none))
@@ -384,12 +350,89 @@ write_value-fits table local (Started (Ok v)) Vacant written h l =
       empty = tt;
       same = record { id = refl; start = refl };
     }
+
+write_value-fits : {V E : Type 0} (table : Table V) (local : Local V E) (doing : Doing V E)
+    (learnt : Learnt V)
+    → AllWritten table → LocalFits table local
+    → IsLearnt table local.id (view_now local) learnt
+    → IfSome (option_map (write_value table local) (closure_at_vacant doing learnt))
+    (StepFits table local None)
+write_value-fits table local (Started (Ok v)) Vacant written h l = writes table local v written h l.0 l.1
 write_value-fits table local (Started (Err e)) Vacant written h l =
-    let none = published_unset table local.id l.1 in
-    ends table local (GetOr (Err e) false) (Failed e) (record { value = None; known = true }) Vacant
-    (Gets 0) written h (says.failed (view_now local) e (h.view.value ∙ none))
-    (record { value = sym none; known = λ t. l.0; learnt_so = l; doing_so = tt })
+    ends table local (GetOr (Err e) false) (Failed e) (view_now local) Vacant (Gets 0) written h
+    (says.failed (view_now local) e (h.view.value ∙ published_unset table local.id l.1))
+    (record { value = h.view.value; known = h.view.known; learnt_so = l; doing_so = tt })
 write_value-fits table local _ _ written h l = tt
+
+-- a filled bucket is installed where none stands, and only its value is published by that
+installs : {V E : Type 0} (table : Table V) (local : Local V E) (v : V) (number : ℕ)
+    → AllWritten table → LocalFits table local
+    → bucket_stands table (bucket_of local.id) ≡ false → (slot_at table local.id).flag ≡ false
+    → IsTrue (table.announced (bucket_of local.id))
+    → StepFits table local (Some v) (
+      with_filled_bucket table local.id number v,
+      after_call local (GetOr (Ok v) false) (Answered v) (Holding v) (Gets 0),
+    )
+installs table local v number written h missing empty known =
+    let id = local.id in
+    let own = bucket_of id in
+    let there = with_fresh_bucket table own number in
+    let slot : Slot _ = record { written = Some v; flag = true } in
+    let after = with_filled_bucket table id number v in
+    let same : (other : ℕ) → slot_at there other ≡ slot_at table other =
+    λ other. slot_at-with_fresh_bucket table own number other missing in
+    let stood : IsTrue (bucket_stands there own) =
+    bucket_stands-with_fresh_bucket table own number own ∙ ap (λ b. cond b true (bucket_stands table own)) (eq-eqb own own refl) in
+    let standing : IsTrue (bucket_stands after own) = bucket_stands-with_table_slot there id own slot ∙ stood in
+    let filled = slot_changes there id slot stood (λ other. subst IsWritten (sym (same other)) (written other)) (λ t. refl) in
+    let none = published_unset table id empty in
+    let some : published after id ≡ Some v = shown_same there id slot stood in
+    record {
+      fits = call_fits after table local (GetOr (Ok v) false) (Answered v) (record { value = Some v; known = true }) (Holding v) (Gets 0) h
+          (says.created (view_now local) v (h.view.value ∙ none))
+          (record { value = sym some; known = λ t. standing; learnt_so = some; doing_so = tt });
+      changes = record {
+        others = λ other apart. filled.others other apart ∙ same other;
+        standing = λ bucket t. (
+          (bucket_stands-with_filled_bucket table id number v bucket
+              ∙ cond_both (eqb own bucket) true (bucket_stands table bucket) (λ b. b ≡ true)
+              (λ _. refl) (λ _. t)),
+          number_at-with_filled_bucket table id number v bucket
+              (λ here. false≢true (sym missing ∙ ap (bucket_stands table) here ∙ t)),
+        );
+        installed = λ bucket t.
+            ⊎_elim
+            (λ here. inr (here, ap table.announced (sym here) ∙ known))
+            (λ apart.
+            inl (sym (bucket_stands-with_filled_bucket table id number v bucket
+            ∙ ap (λ b. cond b true (bucket_stands table bucket)) (ne_eqb own bucket apart))
+            ∙ t))
+            (cases_eq own bucket);
+        announced = λ bucket t. ap (λ f. f bucket) (announced-with_filled_bucket table id number v) ∙ t;
+        written = filled.written;
+      };
+      shown = λ other.
+          ⊎_elim
+          (λ here. rw (eq-eqb id other here) (ap (published after) (sym here) ∙ some))
+          (λ apart.
+          rw (ne_eqb id other apart)
+          (shown_other there id other slot apart ∙ published-slot_at table there other (same other)))
+          (cases_eq id other);
+      empty = none;
+      same = record { id = refl; start = refl };
+    }
+
+install_bucket-fits : {V E : Type 0} (table : Table V) (local : Local V E) (doing : Doing V E)
+    → AllWritten table → LocalFits table local
+    → IsDoing table local.id doing
+    → let set = cond (bucket_stands table (bucket_of local.id)) None (option_map (λ own. own.value) (filled_bucket doing)) in
+    IfSome (option_and_then (install_bucket table local) (filled_bucket doing)) (StepFits table local set)
+install_bucket-fits table local (Filled v number true) written h d =
+    either_install table local (record { value = v; number = number })
+    (StepFits table local (cond (bucket_stands table (bucket_of local.id)) None (Some v)))
+    (λ stands. rw stands (writes table local v written h stands d.0))
+    (λ none. rw none (installs table local v number written h none d.0 (d.1 refl)))
+install_bucket-fits table local _ written h d = tt
 
 -- what a publishing teaches holds
 publish-fits : {V E : Type 0} (table : Table V) (local : Local V E) (v : V) (learnt : Learnt V)
@@ -455,7 +498,7 @@ reply-fits table local _ _ written h l = tt
 -- every enabled step leaves the Local fitting, and changes no slot but its own
 pub local_step-fits : {V E : Type 0} (table : Table V) (local : Local V E) (step : LocalStep V E)
     → AllWritten table → LocalFits table local
-    → IfSome (local_step table local step) (StepFits table local (value_set local.doing step))
+    → IfSome (local_step table local step) (StepFits table local (value_set table local step))
 unfolding local_step
 local_step-fits table local BeginGet written h = begin_get-fits table local local.doing written h
 local_step-fits table local (BeginGetOr create) written h = begin_get_or-fits table local create local.doing written h
@@ -464,6 +507,7 @@ local_step-fits table local LookAtFlag written h = look_at_flag-fits table local
 local_step-fits table local (MakeBucket refused) written h =
     make_bucket-fits table local refused local.doing local.learnt written h h.view.learnt_so
     h.view.doing_so
+local_step-fits table local FillBucket written h = fill_bucket-fits table local local.doing written h h.view.doing_so
 local_step-fits table local AnnounceBucket written h = announce_bucket-fits table local local.doing written h h.view.doing_so
 local_step-fits table local InstallBucket written h = install_bucket-fits table local local.doing written h h.view.doing_so
 local_step-fits table local WriteValue written h = write_value-fits table local local.doing local.learnt written h h.view.learnt_so

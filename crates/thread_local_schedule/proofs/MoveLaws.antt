@@ -5,7 +5,9 @@ use Rattle.std.proofs.lemmas.Bool.{false≢true, cond_both}
 use Rattle.thread_local_base.specs.Held.{is_granted}
 use Rattle.thread_local_base.specs.Sheet.{Take, Give, Publish, Rewrite, Clear}
 use Rattle.thread_local_schedule.specs.TableMoves.{TableMove, OfSheet, Drain}
-use Rattle.thread_local_schedule.specs.Local.{Local, LocalStep, SetFlag, Written}
+use Rattle.thread_local_base.specs.Place.{bucket_of}
+use Rattle.thread_local_schedule.specs.Table.{Table, bucket_stands}
+use Rattle.thread_local_schedule.specs.Local.{Local, LocalStep, InstallBucket, SetFlag, Filled, Written}
 use Rattle.thread_local_schedule.specs.Core.{Core}
 use Rattle.thread_local_schedule.specs.Events.{Event, TakeId, OfLocal, GiveBack, Owner, RewriteTable, DrainTable, ClearTable}
 use Rattle.thread_local_schedule.specs.Events.{is_enabled}
@@ -33,6 +35,18 @@ pub publish_moves : {V E : Type 0} (core : Core V E) (n : ℕ) (local : Local V 
     → move core (OfLocal n SetFlag) ≡ Some (OfSheet (Publish local.id v))
 publish_moves core n local v t at written = rw (t, at, written) refl
 
+pub install_moves : {V E : Type 0} (core : Core V E) (n : ℕ) (local : Local V E) (v : V) (number : ℕ)
+    → IsTrue (is_enabled core (OfLocal n InstallBucket)) → core.locals n ≡ Some local → local.doing ≡ Filled v number true
+    → bucket_stands core.table (bucket_of local.id) ≡ false
+    → move core (OfLocal n InstallBucket) ≡ Some (OfSheet (Publish local.id v))
+install_moves core n local v number t at filled none = rw (t, at, none, filled) refl
+
+pub beside_moves : {V E : Type 0} (core : Core V E) (n : ℕ) (local : Local V E)
+    → IsTrue (is_enabled core (OfLocal n InstallBucket)) → core.locals n ≡ Some local
+    → IsTrue (bucket_stands core.table (bucket_of local.id))
+    → move core (OfLocal n InstallBucket) ≡ None
+beside_moves core n local t at stands = rw (t, at, stands) refl
+
 pub rewrite_moves : {V E : Type 0} (core : Core V E) (others : ℕ → V → V)
     → IsTrue (is_enabled core (Owner (RewriteTable others)))
     → move core (Owner (RewriteTable others)) ≡ Some (OfSheet (Rewrite others))
@@ -51,6 +65,7 @@ pub record IsNoMove {V E : Type 0} (core : Core V E) (event : Event V E) : Type 
   pub take : is_granted_take core event ≡ false
   pub give : (n : ℕ) → event ≢ GiveBack n
   pub publish : (n : ℕ) → event ≢ OfLocal n SetFlag
+  pub install : (n : ℕ) → event ≢ OfLocal n InstallBucket
   pub rewrite : (others : ℕ → V → V) → event ≢ Owner (RewriteTable others)
   pub drain : event ≢ Owner DrainTable
   pub clear : event ≢ Owner ClearTable
@@ -63,19 +78,20 @@ refused_moves T true true t f = absurd (false≢true (sym f))
 refused_moves T true false t f = refl
 refused_moves T false granted t f = absurd (false≢true t)
 
-step_moves : {V E : Type 0} (o : Option (Local V E)) (n : ℕ) (step : LocalStep V E)
-    → ((m : ℕ) → OfLocal n step ≢ OfLocal m SetFlag)
-    → publishing o step ≡ None
-step_moves None n step elsewhere = refl
-step_moves (Some local) n SetFlag other = absurd (other n refl)
-step_moves (Some local) n step other = refl
+step_moves : {V E : Type 0} (table : Table V) (o : Option (Local V E)) (n : ℕ) (step : LocalStep V E)
+    → ((m : ℕ) → OfLocal n step ≢ OfLocal m SetFlag) → ((m : ℕ) → OfLocal n step ≢ OfLocal m InstallBucket)
+    → publishing table o step ≡ None
+step_moves table None n step sets installs = refl
+step_moves table (Some local) n SetFlag sets installs = absurd (sets n refl)
+step_moves table (Some local) n InstallBucket sets installs = absurd (installs n refl)
+step_moves table (Some local) n step sets installs = refl
 
 none_moves : {V E : Type 0} (core : Core V E) (event : Event V E) → IsTrue (is_enabled core event)
     → IsNoMove core event
     → move_of core event ≡ None
 none_moves {V} core (TakeId refused growth) t other =
     refused_moves V (is_enabled core (TakeId refused growth)) (is_granted core.manager refused) t other.take
-none_moves core (OfLocal number step) t other = step_moves (core.locals number) number step other.publish
+none_moves core (OfLocal number step) t other = step_moves core.table (core.locals number) number step other.publish other.install
 none_moves core (GiveBack number) t other = absurd (other.give number refl)
 none_moves core (Owner (RewriteTable others)) t other = absurd (other.rewrite others refl)
 none_moves core (Owner DrainTable) t other = absurd (other.drain refl)

@@ -7,17 +7,18 @@ use Rattle.std.proofs.lemmas.Bool.{cases_eq, eq-eqb}
 use Rattle.thread_local_base.specs.Place.{bucket_of}
 use Rattle.thread_local_base.specs.Answers.{GetOr, Answered}
 use Rattle.thread_local_base.specs.Learnt.{Learnt, Missing, Vacant, Holding, learnt_by_load, learnt_by_look}
-use Rattle.thread_local_base.specs.Learnt.{learnt_by_install, learnt_by_publish}
+use Rattle.thread_local_base.specs.Learnt.{learnt_by_publish}
 use Rattle.thread_local_schedule.specs.Table.{Table, Slot, published, bucket_stands, with_announced, with_fresh_bucket, with_table_slot, with_flag}
-use Rattle.thread_local_schedule.specs.Local.{Doing, Gets, Started, Private, Written, Local, after_call, may_look}
-use Rattle.thread_local_schedule.specs.Local.{learns, load_pointer, look_at_flag, make_bucket, announce_bucket, offered, install_bucket}
+use Rattle.thread_local_schedule.specs.Local.{Doing, Gets, Started, Private, Filled, Written, Local, after_call, may_look}
+use Rattle.thread_local_schedule.specs.Local.{learns, load_pointer, look_at_flag, make_bucket, fill_bucket, announce_bucket, install_bucket}
 use Rattle.thread_local_schedule.specs.Local.{write_value, set_flag, reply, local_step, LocalStep, BeginGet, BeginGetOr}
-use Rattle.thread_local_schedule.specs.Local.{LoadPointer, LookAtFlag, MakeBucket, AnnounceBucket, InstallBucket, WriteValue, SetFlag}
+use Rattle.thread_local_schedule.specs.Local.{LoadPointer, LookAtFlag, MakeBucket, FillBucket, AnnounceBucket, InstallBucket}
+use Rattle.thread_local_schedule.specs.Local.{WriteValue, SetFlag}
 use Rattle.thread_local_schedule.specs.Local.{Reply, doing_with_get, doing_with_get_or, begin_call, closure_at_missing}
-use Rattle.thread_local_schedule.specs.Local.{closure_at_vacant, ending_of, unannounced_bucket, private_bucket, value_written}
+use Rattle.thread_local_schedule.specs.Local.{closure_at_vacant, ending_of, empty_bucket, unannounced_bucket, filled_bucket, value_written}
 use Rattle.thread_local_schedule.specs.Fits.{number_at}
 use Rattle.thread_local_schedule.specs.Numbers.{own_number, NumbersGo}
-use Rattle.thread_local_schedule.proofs.CallsLaws.{whatever_is_learnt}
+use Rattle.thread_local_schedule.proofs.CallsLaws.{whatever_is_learnt, either_install}
 use Rattle.thread_local_schedule.proofs.TableLaws.{number_at-made, number_at-with_announced, number_at-with_fresh_bucket}
 use Rattle.thread_local_schedule.proofs.TableLaws.{number_at-with_table_slot}
 
@@ -93,18 +94,26 @@ make_bucket-numbers table local false (Started create) Missing = record {
 }
 make_bucket-numbers table local refused _ _ = tt
 
+fill_bucket-numbers : {V E : Type 0} (table : Table V) (local : Local V E) (doing : Doing V E)
+    → local.doing ≡ doing
+    → IfSome (option_map (λ own. fill_bucket table local own.number own.create) (empty_bucket doing)) (NumbersGo table local)
+fill_bucket-numbers table local (Private (Ok v) number) at =
+    same_numbers table table local _ refl (λ bucket. refl) (λ k e. ap own_number at ∙ e)
+fill_bucket-numbers table local (Private (Err x) number) at = none_own table local _ refl
+fill_bucket-numbers table local _ at = tt
+
 announce_bucket-numbers : {V E : Type 0} (table : Table V) (local : Local V E) (doing : Doing V E)
     → local.doing ≡ doing
     → IfSome (option_map (announce_bucket table local) (unannounced_bucket doing)) (NumbersGo table local)
-announce_bucket-numbers table local (Private create number false) at =
+announce_bucket-numbers table local (Filled v number false) at =
     same_numbers table (with_announced table (bucket_of local.id)) local _
     (made-with_announced table (bucket_of local.id))
     (number_at-with_announced table (bucket_of local.id))
     (λ k e. ap own_number at ∙ e)
 announce_bucket-numbers table local _ at = tt
 
--- a pointer that isn't null after an offer led to the same bucket before, or is the one offered to,
--- which leads to the offered bucket
+-- a pointer that isn't null after an install led to the same bucket before, or is the one that was
+-- null, which leads to the installed bucket
 pub number_at-with_bucket_same : {V : Type 0} (table : Table V) (bucket number : ℕ)
     → number_at (with_fresh_bucket table bucket number) bucket ≡ Some number
 unfolding number_at with_fresh_bucket
@@ -115,11 +124,10 @@ made-with_fresh_bucket : {V : Type 0} (table : Table V) (bucket number : ℕ)
 unfolding with_fresh_bucket
 made-with_fresh_bucket table bucket number = refl
 
-numbered_by_offer : {V : Type 0} (table : Table V) (bucket number : ℕ) (b : Bool) (other k : ℕ)
-    → number_at (cond b table (with_fresh_bucket table bucket number)) other ≡ Some k
+numbered_by_install : {V : Type 0} (table : Table V) (bucket number other k : ℕ)
+    → number_at (with_fresh_bucket table bucket number) other ≡ Some k
     → (number_at table other ≡ Some k) ⊎ ((Some number ≡ Some k) × (bucket ≡ other))
-numbered_by_offer table bucket number true other k e = inl e
-numbered_by_offer table bucket number false other k e =
+numbered_by_install table bucket number other k e =
     ⊎_elim
     (λ here.
     inr (
@@ -131,26 +139,23 @@ numbered_by_offer table bucket number false other k e =
     (λ apart. inl (sym (number_at-with_fresh_bucket table bucket number other apart) ∙ e))
     (cases_eq bucket other)
 
-made-offer : {V : Type 0} (table : Table V) (bucket number : ℕ) (b : Bool)
-    → (cond b table (with_fresh_bucket table bucket number)).made ≡ table.made
-made-offer table bucket number true = refl
-made-offer table bucket number false = made-with_fresh_bucket table bucket number
-
 install_bucket-numbers : {V E : Type 0} (table : Table V) (local : Local V E) (doing : Doing V E)
     → local.doing ≡ doing
-    → IfSome (option_and_then (install_bucket table local) (private_bucket doing))
-    (NumbersGo table local)
-install_bucket-numbers table local (Private create number true) at =
-    whatever_is_learnt (offered table (bucket_of local.id) number)
-    (record local { doing = Started create }) (learnt_by_install local.learnt)
-    (NumbersGo table local)
-    (λ learnt. record {
-      made = omega (arith, made-offer table (bucket_of local.id) number (bucket_stands table (bucket_of local.id)));
+    → IfSome (option_and_then (install_bucket table local) (filled_bucket doing)) (NumbersGo table local)
+install_bucket-numbers table local (Filled v number true) at =
+    let own = bucket_of local.id in
+    let there = with_fresh_bucket table own number in
+    let slot : Slot _ = record { written = Some v; flag = true } in
+    either_install table local (record { value = v; number = number }) (NumbersGo table local)
+    (λ _. none_own-with_table_slot table local.id _ local _ refl)
+    (λ _. record {
+      made = omega (arith, made-with_table_slot there local.id slot, made-with_fresh_bucket table own number);
       standing_before = λ bucket k e.
           ⊎_elim
           (λ before. inl before)
-          (λ own. inr (ap own_number at ∙ own.0, own.1, refl))
-          (numbered_by_offer table (bucket_of local.id) number (bucket_stands table (bucket_of local.id)) bucket k e);
+          (λ here. inr (ap own_number at ∙ here.0, here.1, refl))
+          (numbered_by_install table own number bucket k
+          (sym (number_at-with_table_slot there local.id bucket slot) ∙ e));
       own_before = λ k e. cc;
     })
 install_bucket-numbers table local _ at = tt
@@ -190,6 +195,7 @@ local_step-numbers table local (BeginGetOr create) = begin_get_or-numbers table 
 local_step-numbers table local LoadPointer = load_pointer-numbers table local (may_look local.doing)
 local_step-numbers table local LookAtFlag = look_at_flag-numbers table local (may_look local.doing)
 local_step-numbers table local (MakeBucket refused) = make_bucket-numbers table local refused local.doing local.learnt
+local_step-numbers table local FillBucket = fill_bucket-numbers table local local.doing refl
 local_step-numbers table local AnnounceBucket = announce_bucket-numbers table local local.doing refl
 local_step-numbers table local InstallBucket = install_bucket-numbers table local local.doing refl
 local_step-numbers table local WriteValue = write_value-numbers table local local.doing local.learnt

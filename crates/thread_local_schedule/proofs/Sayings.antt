@@ -3,7 +3,7 @@ use Rattle.std.proofs.Common.{◌≡◌, ℕ, ◌^◌, ◌<◌, false, List, [],
 use Rattle.std.proofs.Common.{not, ◌&&◌, Option, None, IsSomeAnd, Result, sym, ap, ◌∙◌}
 use Rattle.thread_local_base.specs.Place.{bucket_of}
 use Rattle.thread_local_base.specs.Held.{held_count, is_granted}
-use Rattle.thread_local_schedule.specs.Local.{Doing, Gets, Started, Private, Written, Local, LocalStep, MakeBucket}
+use Rattle.thread_local_schedule.specs.Local.{Doing, Gets, Started, Private, Filled, Written, Local, LocalStep, MakeBucket}
 use Rattle.thread_local_schedule.specs.Numbers.{own_number}
 use Rattle.thread_local_schedule.specs.Core.{Core, private_slots}
 use Rattle.thread_local_schedule.specs.Events.{Event, happens, run, TakeId, OfLocal, GiveBack, Forget, BeginWalk}
@@ -15,8 +15,8 @@ use Rattle.thread_local_schedule.specs.Bounds.{TakesBelow, NothingRefused}
 use mathlib.Core.Logic.{inl, inr}
 use Rattle.std.proofs.Common.{suc, ◌+◌, cond, ⊎_elim}
 use Rattle.thread_local_base.specs.Answers.{Get, GetOr}
-use Rattle.thread_local_schedule.specs.Calls.{gets_of, closure_of, CallsStay, GoesOn}
-use Rattle.thread_local_schedule.specs.Local.{LoadPointer, LookAtFlag, AnnounceBucket, InstallBucket, WriteValue, Reply}
+use Rattle.thread_local_schedule.specs.Calls.{gets_of, closure_of, CallsStay, PublishingEnds, GoesOn}
+use Rattle.thread_local_schedule.specs.Local.{LoadPointer, LookAtFlag, FillBucket, AnnounceBucket, InstallBucket, WriteValue, Reply}
 use Rattle.std.proofs.lemmas.Bool.{false≢true, eqb-true}
 use Rattle.std.specs.Prelude.{option_map}
 use Rattle.thread_local_schedule.specs.Table.{Table, Bucket}
@@ -32,7 +32,8 @@ pub private : {V E : Type 0} (id : ℕ) (doing : Doing V E) (number : ℕ)
     → private_slots id doing ≡ 2 ^ bucket_of id
 private id (Gets count) number e = cc
 private id (Started create) number e = cc
-private id (Private create own announced) number e = refl
+private id (Private create own) number e = refl
+private id (Filled v own announced) number e = refl
 private id (Written v) number e = cc
 
 pub nothing : {V E : Type 0} (core : Core V E) (events later : List (Event V E)) (event : Event V E)
@@ -94,13 +95,12 @@ ungranted core refused growth t f = ungranted_of (is_enabled core (TakeId refuse
 pub made : {V E : Type 0} (core : Core V E) (n : ℕ) → is_refused core (OfLocal n (MakeBucket false)) ≡ false
 made core n = and_right (is_enabled core (OfLocal n (MakeBucket false))) false refl
 
-pub own : {V E : Type 0} (create : Result V E) (number : ℕ) (announced : Bool)
-    → own_number (Private create number announced) ≡ Some number
-own create number announced = refl
+pub own : {V E : Type 0} (create : Result V E) (number : ℕ) → own_number (Private create number) ≡ Some number
+own create number = refl
 
-pub own_slots : {V E : Type 0} (id number : ℕ) (create : Result V E) (announced : Bool)
-    → private_slots id (Private create number announced) ≡ 2 ^ bucket_of id
-own_slots id number create announced = refl
+pub own_slots : {V E : Type 0} (id number : ℕ) (create : Result V E)
+    → private_slots id (Private create number) ≡ 2 ^ bucket_of id
+own_slots id number create = refl
 
 pub none_taken : {V E : Type 0} (core : Core V E) (events : List (Event V E)) (event : Event V E) → NoneTaken core events
     → is_granted_take (run core events) event ≡ false
@@ -149,14 +149,12 @@ stays_of before after x = (x.gets, x.closure, x.calls)
 pub calls_stay : {V E : Type 0} (before after : Local V E)
     → GoesOn LoadPointer before after
     ⊎ (GoesOn LookAtFlag before after
-    ⊎ (GoesOn (MakeBucket false) before after
-    ⊎ (GoesOn AnnounceBucket before after ⊎ GoesOn InstallBucket before after)))
+    ⊎ (GoesOn (MakeBucket false) before after ⊎ GoesOn AnnounceBucket before after))
     → Stay before after
 calls_stay before after (inl x) = stays_of before after x.calls
 calls_stay before after (inr (inl x)) = stays_of before after x.calls
 calls_stay before after (inr (inr (inl x))) = stays_of before after x.calls
-calls_stay before after (inr (inr (inr (inl x)))) = stays_of before after x.calls
-calls_stay before after (inr (inr (inr (inr x)))) = stays_of before after x.calls
+calls_stay before after (inr (inr (inr x))) = stays_of before after x.calls
 
 -- the publishing call ends
 abbrev End : {V E : Type 0} → Local V E → Local V E → Type 0
@@ -164,10 +162,22 @@ End before after =
     (closure_of after.doing ≡ None) × (gets_of after.doing ≡ gets_of before.doing)
     × IsSomeAnd (closure_of before.doing) (λ create. after.calls ≡ before.calls ++ GetOr create false ∷ [])
 
+stays_or_ends : {V E : Type 0} (before after : Local V E) → CallsStay before after ⊎ PublishingEnds false before after
+    → Stay before after ⊎ End before after
+stays_or_ends before after x =
+    ⊎_elim (λ stays. inl (stays_of before after stays)) (λ ends. inr (ends.none, ends.gets, ends.calls)) x
+
+pub fills : {V E : Type 0} (before after : Local V E) → GoesOn FillBucket before after
+    → Stay before after ⊎ End before after
+fills before after x = stays_or_ends before after x.calls
+
+pub installs : {V E : Type 0} (before after : Local V E) → GoesOn InstallBucket before after
+    → Stay before after ⊎ End before after
+installs before after x = stays_or_ends before after x.calls
+
 pub writes : {V E : Type 0} (before after : Local V E) → GoesOn WriteValue before after
     → Stay before after ⊎ End before after
-writes before after x =
-    ⊎_elim (λ stays. inl (stays_of before after stays)) (λ ends. inr (ends.none, ends.gets, ends.calls)) x.calls
+writes before after x = stays_or_ends before after x.calls
 
 pub replies : {V E : Type 0} (before after : Local V E) → GoesOn Reply before after
     → ((gets_of before.doing ≡ suc (gets_of after.doing)) × (closure_of after.doing ≡ closure_of before.doing)

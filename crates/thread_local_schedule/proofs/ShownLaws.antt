@@ -21,11 +21,11 @@ use Rattle.thread_local_base.specs.Refilled.{refilled_slot, refilled_row, refill
 use Rattle.thread_local_base.proofs.FillingLaws.{contents-empty}
 use Rattle.thread_local_base.proofs.RefilledLaws.{length-refilled_row, length-refilled_rows, refilled_row-at, refilled_rows-at}
 use Rattle.thread_local_schedule.specs.Table.{Slot, Bucket, fresh_bucket, Table, value_of, slot_of, slot_at, published}
-use Rattle.thread_local_schedule.specs.Table.{bucket_stands, made_table, with_fresh_bucket, with_slot_of}
+use Rattle.thread_local_schedule.specs.Table.{bucket_stands, made_table, with_fresh_bucket, with_filled_bucket, with_slot_of}
 use Rattle.thread_local_schedule.specs.Table.{with_table_slot, with_flag}
 use Rattle.thread_local_schedule.specs.Cleared.{emptied_bucket, cleared, drained}
 use Rattle.thread_local_schedule.specs.OwnerWalk.{owner_walk, rewritten_slot, rewritten_bucket, rewritten}
-use Rattle.thread_local_schedule.proofs.TableLaws.{bucket_stands-made_table, slot_at-made_table}
+use Rattle.thread_local_schedule.proofs.TableLaws.{bucket_stands-made_table, bucket_stands-with_fresh_bucket, slot_at-made_table}
 use Rattle.thread_local_schedule.proofs.OwnerLaws.{owner_walk-walk, value_of-rewritten_slot, slot_of-rewritten_bucket}
 use Rattle.thread_local_schedule.proofs.OwnerLaws.{published-rewritten, bucket_stands-rewritten}
 use Rattle.thread_local_schedule.specs.Shown.{shown_row, shown}
@@ -160,21 +160,20 @@ module _ {V : Type 0} where
       (get_or-set_other (shown_row (Some here) b) i j (Some v) None (λ e. apart (sym e)))))
       (cases_eq i j))
 
-  pub shown-with_flag : (table : Table V) (id : ℕ) (v : V) → id < 2 ^ 63 - 1
-      → IsTrue (bucket_stands table (bucket_of id)) → (slot_at table id).written ≡ Some v
-      → shown (with_flag table id) ≡ with_published (shown table) (bucket_of id) (index_of id) v
+  shown-with_table_slot : (table : Table V) (id : ℕ) (slot : Slot V) (v : V) → id < 2 ^ 63 - 1
+      → IsTrue (bucket_stands table (bucket_of id)) → value_of slot ≡ Some v
+      → shown (with_table_slot table id slot) ≡ with_published (shown table) (bucket_of id) (index_of id) v
   unfolding with_table_slot bucket_stands
-  shown-with_flag table id v below t written =
+  shown-with_table_slot table id slot v below t shows =
       let b = bucket_of id in
       let i = index_of id in
       let low = place.bucket_of-below id below in
-      let slot : Slot V = record (slot_at table id) { flag = true } in
       let within : b < length (shown table).rows = omega (arith, low, rows-shown table) in
-      same_contents (shown (with_flag table id)) (with_owners_slot (shown table) b i (Some v))
-      (rows-shown (with_flag table id))
+      same_contents (shown (with_table_slot table id slot)) (with_owners_slot (shown table) b i (Some v))
+      (rows-shown (with_table_slot table id slot))
       (length-set (shown table).rows b (set (row (shown table) b) i (Some v)) ∙ rows-shown table)
       (λ j beneath.
-      row-shown (with_flag table id) j beneath
+      row-shown (with_table_slot table id slot) j beneath
       ∙ ⊎_elim
       (λ (here : b ≡ j).
       let P : ℕ → Type 0 = λ k.
@@ -182,7 +181,7 @@ module _ {V : Type 0} where
       ≡ row (with_owners_slot (shown table) b i (Some v)) k in
       subst P here
       (rw (eq-eqb b b refl)
-      (shown_row-with_slot_of (table.pointers b) b i slot v t (place.inside id) written
+      (shown_row-with_slot_of (table.pointers b) b i slot v t (place.inside id) shows
       ∙ sym (ap (λ (r : List (Option V)). set r i (Some v)) (row-shown table b low))
       ∙ sym (row-with_row-same (shown table) b (set (row (shown table) b) i (Some v)) within))))
       (λ apart.
@@ -195,6 +194,28 @@ module _ {V : Type 0} where
       with_owners_slot (cond s (shown table) (with_row (shown table) b (empty_row b))) b i
       (Some v))
       (bucket_stands-shown table b low ∙ t))
+
+  pub shown-with_flag : (table : Table V) (id : ℕ) (v : V) → id < 2 ^ 63 - 1
+      → IsTrue (bucket_stands table (bucket_of id)) → (slot_at table id).written ≡ Some v
+      → shown (with_flag table id) ≡ with_published (shown table) (bucket_of id) (index_of id) v
+  shown-with_flag table id v below t written =
+      shown-with_table_slot table id (record (slot_at table id) { flag = true }) v below t written
+
+  -- a bucket installed with a value in it shows what an owner's insert leaves
+  pub shown-with_filled_bucket : (table : Table V) (id number : ℕ) (v : V) → id < 2 ^ 63 - 1
+      → bucket_stands table (bucket_of id) ≡ false
+      → shown (with_filled_bucket table id number v) ≡ with_published (shown table) (bucket_of id) (index_of id) v
+  shown-with_filled_bucket table id number v below none =
+      let b = bucket_of id in
+      let i = index_of id in
+      let there = with_fresh_bucket table b number in
+      let low = place.bucket_of-below id below in
+      let stood : IsTrue (bucket_stands there b) =
+      bucket_stands-with_fresh_bucket table b number b ∙ ap (λ t. cond t true (bucket_stands table b)) (eq-eqb b b refl) in
+      shown-with_table_slot there id (record { written = Some v; flag = true }) v below stood refl
+      ∙ ap (λ t. with_owners_slot (cond t (shown there) (with_row (shown there) b (empty_row b))) b i (Some v))
+      (bucket_stands-shown there b low ∙ stood)
+      ∙ ap (λ c. with_owners_slot c b i (Some v)) (shown-with_fresh_bucket table b number low none)
 
   pub values-shown-rewritten : (table : Table V) (others : ℕ → V → V) (id : ℕ) → id < 2 ^ 63 - 1
       → values (shown (rewritten table others)) id

@@ -6,9 +6,8 @@ use Rattle.thread_local_base.specs.Place.{bucket_of, index_of}
 use Rattle.thread_local_base.proofs.PlaceLaws as place
 use Rattle.thread_local_schedule.specs.Table.{Slot, empty_slot, value_of, Bucket, fresh_bucket, Table, slot_of, slot_at}
 use Rattle.thread_local_schedule.specs.Table.{published, bucket_stands, with_announced, with_fresh_bucket, with_slot_of}
-use Rattle.thread_local_schedule.specs.Table.{with_table_slot, made_table}
+use Rattle.thread_local_schedule.specs.Table.{with_table_slot, with_filled_bucket, made_table}
 use Rattle.thread_local_base.specs.Capacity.{reserves_bucket}
-use Rattle.thread_local_schedule.specs.Local.{offered}
 use Rattle.thread_local_schedule.specs.Fits.{number_at, IsSameBucket}
 use Rattle.std.specs.Prelude.{option_map, nat_lt, ◌||◌}
 
@@ -112,31 +111,13 @@ bucket_stands-with_fresh_bucket table bucket number other =
     (λ apart. rw (ne_eqb bucket other apart) refl)
     (cases_eq bucket other)
 
--- an offer changes no slot, its bucket stands, and every other stands that stood
-slot_at-offer : {V : Type 0} (table : Table V) (bucket number id : ℕ) (b : Bool)
-    → bucket_stands table bucket ≡ b
-    → slot_at (cond b table (with_fresh_bucket table bucket number)) id ≡ slot_at table id
-slot_at-offer table bucket number id true t = refl
-slot_at-offer table bucket number id false f = slot_at-with_fresh_bucket table bucket number id f
-
-pub slot_at-offered : {V : Type 0} (table : Table V) (bucket number id : ℕ)
-    → slot_at (offered table bucket number) id ≡ slot_at table id
-slot_at-offered table bucket number id = slot_at-offer table bucket number id (bucket_stands table bucket) refl
-
-bucket_stands-offer : {V : Type 0} (table : Table V) (bucket number other : ℕ) (b : Bool) → bucket_stands table bucket ≡ b
-    → bucket_stands (cond b table (with_fresh_bucket table bucket number)) other
-    ≡ cond (eqb bucket other) true (bucket_stands table other)
-bucket_stands-offer table bucket number other true t =
-    ⊎_elim
-    (λ here. rw (eq-eqb bucket other here) (ap (bucket_stands table) (sym here) ∙ t))
-    (λ apart. rw (ne_eqb bucket other apart) refl)
-    (cases_eq bucket other)
-bucket_stands-offer table bucket number other false f = bucket_stands-with_fresh_bucket table bucket number other
-
-pub bucket_stands-offered : {V : Type 0} (table : Table V) (bucket number other : ℕ)
-    → bucket_stands (offered table bucket number) other
-    ≡ cond (eqb bucket other) true (bucket_stands table other)
-bucket_stands-offered table bucket number other = bucket_stands-offer table bucket number other (bucket_stands table bucket) refl
+-- an installed bucket stands, and every other stands that stood
+pub bucket_stands-with_filled_bucket : {V : Type 0} (table : Table V) (id number : ℕ) (v : V) (other : ℕ)
+    → bucket_stands (with_filled_bucket table id number v) other
+    ≡ cond (eqb (bucket_of id) other) true (bucket_stands table other)
+bucket_stands-with_filled_bucket table id number v other =
+    bucket_stands-with_table_slot (with_fresh_bucket table (bucket_of id) number) id other _
+    ∙ bucket_stands-with_fresh_bucket table (bucket_of id) number other
 
 pub published-slot_at : {V : Type 0} (old new : Table V) (id : ℕ) → slot_at new id ≡ slot_at old id
     → published new id ≡ published old id
@@ -216,45 +197,36 @@ pub announced-own : {V : Type 0} (table : Table V) (bucket : ℕ) → IsTrue ((w
 announced-own table bucket =
     announced-with_announced table bucket bucket ∙ ap (λ here. cond here true (table.announced bucket)) (eq-eqb bucket bucket refl)
 
--- an offer and a changed slot announce nothing
+-- an install and a changed slot announce nothing
 announced-with_fresh_bucket : {V : Type 0} (table : Table V) (bucket number : ℕ)
     → (with_fresh_bucket table bucket number).announced ≡ table.announced
 unfolding with_fresh_bucket
 announced-with_fresh_bucket table bucket number = refl
-
-announced-offer : {V : Type 0} (table : Table V) (bucket number : ℕ) (b : Bool)
-    → (cond b table (with_fresh_bucket table bucket number)).announced ≡ table.announced
-announced-offer table bucket number true = refl
-announced-offer table bucket number false = announced-with_fresh_bucket table bucket number
-
-pub announced-offered : {V : Type 0} (table : Table V) (bucket number : ℕ)
-    → (offered table bucket number).announced ≡ table.announced
-announced-offered table bucket number = announced-offer table bucket number (bucket_stands table bucket)
 
 pub announced-with_table_slot : {V : Type 0} (table : Table V) (id : ℕ) (slot : Slot V)
     → (with_table_slot table id slot).announced ≡ table.announced
 unfolding with_table_slot
 announced-with_table_slot table id slot = refl
 
--- an offer leaves every other pointer at its bucket, and its own if it isn't null
+pub announced-with_filled_bucket : {V : Type 0} (table : Table V) (id number : ℕ) (v : V)
+    → (with_filled_bucket table id number v).announced ≡ table.announced
+announced-with_filled_bucket table id number v =
+    announced-with_table_slot (with_fresh_bucket table (bucket_of id) number) id _
+    ∙ announced-with_fresh_bucket table (bucket_of id) number
+
+-- an install leaves every other pointer at its bucket
 pub number_at-with_fresh_bucket : {V : Type 0} (table : Table V) (bucket number other : ℕ)
     → (bucket ≡ other → ⊥)
     → number_at (with_fresh_bucket table bucket number) other ≡ number_at table other
 unfolding number_at with_fresh_bucket
 number_at-with_fresh_bucket table bucket number other apart = rw (ne_eqb bucket other apart) refl
 
-number_at-offer : {V : Type 0} (table : Table V) (bucket number other : ℕ) (b : Bool)
-    → bucket_stands table bucket ≡ b → IsTrue (bucket_stands table other)
-    → number_at (cond b table (with_fresh_bucket table bucket number)) other ≡ number_at table other
-number_at-offer table bucket number other true t stood = refl
-number_at-offer table bucket number other false f stood =
-    number_at-with_fresh_bucket table bucket number other
-    (λ same. false≢true (sym f ∙ ap (bucket_stands table) same ∙ stood))
-
-pub number_at-offered : {V : Type 0} (table : Table V) (bucket number other : ℕ)
-    → IsTrue (bucket_stands table other)
-    → number_at (offered table bucket number) other ≡ number_at table other
-number_at-offered table bucket number other stood = number_at-offer table bucket number other (bucket_stands table bucket) refl stood
+pub number_at-with_filled_bucket : {V : Type 0} (table : Table V) (id number : ℕ) (v : V) (other : ℕ)
+    → (bucket_of id ≡ other → ⊥)
+    → number_at (with_filled_bucket table id number v) other ≡ number_at table other
+number_at-with_filled_bucket table id number v other apart =
+    number_at-with_table_slot (with_fresh_bucket table (bucket_of id) number) id other _
+    ∙ number_at-with_fresh_bucket table (bucket_of id) number other apart
 
 -- the table of a capacity has a bucket for each binary digit, and empty slots
 slot_of-made : {V : Type 0} (b : Bool) (number index : ℕ)

@@ -8,6 +8,7 @@ use Rattle.thread_local_base.specs.Sheet.{Take, Give, Publish}
 use Rattle.thread_local_schedule.specs.TableMoves.{TableMove, OfSheet}
 use Rattle.thread_local_base.specs.Capacity.{reserved_slots}
 use Rattle.thread_local_schedule.specs.Local.{Local, LocalStep, MakeBucket}
+use Rattle.thread_local_schedule.specs.Table.{Table}
 use Rattle.thread_local_schedule.specs.Fits.{value_set}
 use Rattle.thread_local_schedule.specs.Core.{Core, made_core, new_core, shadow, installed_slots, peak}
 use Rattle.thread_local_schedule.specs.Events.{Event, TakeId, OfLocal, GiveBack, Owner, RewriteTable, DrainTable, ClearTable, step_of}
@@ -26,16 +27,16 @@ use Rattle.thread_local_schedule.proofs.OptionLaws.{not_mapped, not_if, none_ena
 use Rattle.thread_local_base.proofs.CapacityLaws as reserve
 
 -- the only move of a Local's step is a publishing
-not_published : {V E : Type 0} (o : Option (Local V E)) (step : LocalStep V E) (m : TableMove V)
-    → ((id : ℕ) (v : V) → OfSheet (Publish id v) ≡ m → ⊥) → publishing o step ≡ Some m
+not_published : {V E : Type 0} (table : Table V) (o : Option (Local V E)) (step : LocalStep V E) (m : TableMove V)
+    → ((id : ℕ) (v : V) → OfSheet (Publish id v) ≡ m → ⊥) → publishing table o step ≡ Some m
     → ⊥
-not_published None step m other e = cc
-not_published (Some local) step m other e = not_mapped (value_set local.doing step) (λ v. OfSheet (Publish local.id v)) m (λ v. other local.id v) e
+not_published table None step m other e = cc
+not_published table (Some local) step m other e = not_mapped (value_set table local step) (λ v. OfSheet (Publish local.id v)) m (λ v. other local.id v) e
 
 -- an event that is no take makes no move of a take
 no_take : {V E : Type 0} (core : Core V E) (event : Event V E) → is_take event ≡ false → move_of core event ≡ Some (OfSheet Take) → ⊥
 no_take core (TakeId refused growth) f e = cc
-no_take core (OfLocal number step) f e = not_published (core.locals number) step (OfSheet Take) (λ id v same. cc) e
+no_take core (OfLocal number step) f e = not_published core.table (core.locals number) step (OfSheet Take) (λ id v same. cc) e
 no_take core (GiveBack number) f e = not_mapped (core.locals number) (λ local. OfSheet (Give local.id)) (OfSheet Take) (λ local same. cc) e
 no_take core (Owner (RewriteTable others)) f e = cc
 no_take core (Owner DrainTable) f e = cc

@@ -4,8 +4,8 @@ use Rattle.std.specs.Prelude.{◌≡◌, ℕ, zero, suc, ◌+◌, ◌<◌, ◌�
 use Rattle.std.specs.Prelude.{IsSomeAnd, Result, Ok}
 use Rattle.thread_local_base.specs.Learnt.{Learnt, Unknown, Missing, Standing, Vacant, Holding}
 use Rattle.thread_local_base.specs.Answers.{Answer, Get, GetOr, Refused}
-use Rattle.thread_local_schedule.specs.Local.{Doing, Gets, Started, Private, Written, Local, LocalStep, BeginGet}
-use Rattle.thread_local_schedule.specs.Local.{BeginGetOr, MakeBucket, WriteValue, SetFlag, Reply}
+use Rattle.thread_local_schedule.specs.Local.{Doing, Gets, Started, Private, Filled, Written, Local, LocalStep, BeginGet}
+use Rattle.thread_local_schedule.specs.Local.{BeginGetOr, MakeBucket, FillBucket, InstallBucket, WriteValue, SetFlag, Reply}
 
 -- how many gets are under way
 abbrev pub gets_of : {V E : Type 0} → Doing V E → ℕ
@@ -16,7 +16,8 @@ gets_of doing = 0
 abbrev pub closure_of : {V E : Type 0} → Doing V E → Option (Result V E)
 closure_of (Gets count) = None
 closure_of (Started create) = Some create
-closure_of (Private create number announced) = Some create
+closure_of (Private create number) = Some create
+closure_of (Filled v number announced) = Some (Ok v)
 closure_of (Written v) = Some (Ok v)
 
 -- no call of this Local is under way
@@ -65,6 +66,8 @@ abbrev pub CallsGo : {V E : Type 0} → LocalStep V E → Local V E → Local V 
 CallsGo BeginGet before after = GetBegins before after
 CallsGo (BeginGetOr create) before after = PublishingBegins create before after
 CallsGo (MakeBucket true) before after = MemoryRefused before after
+CallsGo FillBucket before after = CallsStay before after ⊎ PublishingEnds false before after
+CallsGo InstallBucket before after = CallsStay before after ⊎ PublishingEnds false before after
 CallsGo WriteValue before after = CallsStay before after ⊎ PublishingEnds false before after
 CallsGo SetFlag before after = PublishingEnds false before after
 CallsGo Reply before after = GetEnds before after ⊎ PublishingEnds false before after
@@ -79,7 +82,8 @@ pub record GoesOn {V E : Type 0} (step : LocalStep V E) (before after : Local V 
 -- a Local whose call has a bucket of its own found its bucket missing, and one whose call has
 -- written its value found its slot vacant
 abbrev pub HasLearnt : {V E : Type 0} → Doing V E → Learnt V → Type 0
-HasLearnt (Private create number announced) learnt = learnt ≡ Missing
+HasLearnt (Private create number) learnt = learnt ≡ Missing
+HasLearnt (Filled v number announced) learnt = learnt ≡ Missing
 HasLearnt (Written v) learnt = learnt ≡ Vacant
 HasLearnt doing learnt = ⊤
 
@@ -104,8 +108,9 @@ abbrev pub steps_left : {V E : Type 0} → Doing V E → Learnt V → ℕ
 steps_left (Gets zero) learnt = 0
 steps_left (Gets (suc count)) learnt = suc count + looks_left learnt
 steps_left (Started create) learnt = started_left learnt
-steps_left (Private create number false) learnt = 4
-steps_left (Private create number true) learnt = 3
+steps_left (Private create number) learnt = 4
+steps_left (Filled v number false) learnt = 3
+steps_left (Filled v number true) learnt = 2
 steps_left (Written v) learnt = 1
 
 -- after a step of a Local's call fewer steps are left

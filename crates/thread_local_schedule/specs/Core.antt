@@ -6,7 +6,7 @@ use Rattle.thread_local_base.specs.Held.{Manager}
 use Rattle.thread_local_base.specs.Buckets.{slots}
 use Rattle.thread_local_base.specs.Sheet.{Sheet}
 use Rattle.thread_local_schedule.specs.Table.{Table, made_table, published, bucket_stands}
-use Rattle.thread_local_schedule.specs.Local.{Local, Doing, Private}
+use Rattle.thread_local_schedule.specs.Local.{Local, Doing, Private, Filled}
 use Rattle.thread_local_schedule.specs.SharedWalk.{SharedWalk}
 
 -- A core: the manager of ids; the capacity; the table of buckets; the Locals and the walks under
@@ -66,5 +66,6 @@ peak core = length core.manager.held
 
 -- how many slots the bucket has that a call has made and not yet offered
 abbrev pub private_slots : {V E : Type 0} → ℕ → Doing V E → ℕ
-private_slots id (Private create number announced) = 2 ^ bucket_of id
+private_slots id (Private create number) = 2 ^ bucket_of id
+private_slots id (Filled v number announced) = 2 ^ bucket_of id
 private_slots id doing = 0

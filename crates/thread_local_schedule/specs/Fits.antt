@@ -1,11 +1,12 @@
 -- The invariant of a `Local` and its table, and what a step may change of both.
-use Rattle.std.specs.Prelude.{◌≡◌, ◌≢◌, ℕ, ◌⊎◌, false, Option, Some, None, option_map, IsTrue, is_some, IfSome, ⊤}
+use Rattle.std.specs.Prelude.{◌≡◌, ◌≢◌, ℕ, ◌⊎◌, false, Option, Some, None, option_map, IsTrue, is_some, IfSome, ⊤, if◌then◌else◌}
 use Rattle.thread_local_base.specs.Place.{bucket_of}
 use Rattle.thread_local_base.specs.Walk.{with_value}
 use Rattle.thread_local_base.specs.Answers.{View, answers, view_after_all}
 use Rattle.thread_local_schedule.specs.Table.{Slot, Table, slot_at, published, bucket_stands}
 use Rattle.thread_local_base.specs.Learnt.{Learnt, Unknown, Missing, Standing, Vacant, Holding}
-use Rattle.thread_local_schedule.specs.Local.{Doing, Gets, Started, Private, Written, Local, LocalStep, SetFlag, value_written}
+use Rattle.thread_local_schedule.specs.Local.{Doing, Gets, Started, Private, Filled, Written, Local, LocalStep, InstallBucket}
+use Rattle.thread_local_schedule.specs.Local.{SetFlag, filled_bucket, value_written}
 
 -- a slot whose flag is set holds the value that was written
 abbrev pub IsWritten : {V : Type 0} → Slot V → Type 0
@@ -32,11 +33,12 @@ IsLearnt table id view Vacant = IsTrue (bucket_stands table (bucket_of id)) × (
 IsLearnt table id view (Holding v) = published table id ≡ Some v
 
 -- a Local with a bucket of its own finds its flag unset, and its bucket announced where it knows
--- that, and one that has written also finds its value
+-- that, and one that has written into a bucket that stands also finds its value
 abbrev pub IsDoing : {V E : Type 0} → Table V → ℕ → Doing V E → Type 0
 IsDoing table id (Gets count) = ⊤
 IsDoing table id (Started create) = ⊤
-IsDoing table id (Private create number announced) =
+IsDoing table id (Private create number) = (slot_at table id).flag ≡ false
+IsDoing table id (Filled v number announced) =
     ((slot_at table id).flag ≡ false) × (IsTrue announced → IsTrue (table.announced (bucket_of id)))
 IsDoing table id (Written v) =
     IsTrue (bucket_stands table (bucket_of id))
@@ -74,10 +76,12 @@ pub record ChangesOnly {V : Type 0} (old new : Table V) (id : ℕ) : Type 0 wher
   pub announced : (bucket : ℕ) → IsTrue (old.announced bucket) → IsTrue (new.announced bucket)
   pub written : AllWritten new
 
--- the value that a step publishes, if any
-abbrev pub value_set : {V E : Type 0} → Doing V E → LocalStep V E → Option V
-value_set doing SetFlag = value_written doing
-value_set doing step = None
+-- the value that a step publishes, if any: an install publishes where no bucket stands yet
+abbrev pub value_set : {V E : Type 0} → Table V → Local V E → LocalStep V E → Option V
+value_set table local InstallBucket =
+    if bucket_stands table (bucket_of local.id) then None else option_map (λ own. own.value) (filled_bucket local.doing)
+value_set table local SetFlag = value_written local.doing
+value_set table local step = None
 
 -- a map with one value more, if there is one
 abbrev pub with_value_if : {V : Type 0} → (ℕ → Option V) → ℕ → Option V → ℕ → Option V

@@ -6,16 +6,18 @@ use Rattle.thread_local_base.specs.Place.{bucket_of}
 use Rattle.thread_local_base.specs.Answers.{View, Call, Get, GetOr, Answer, Found, Answered, Refused, Failed}
 use Rattle.thread_local_base.specs.Learnt.{Learnt, Unknown, Missing, Vacant, Holding, learnt_by_load, learnt_by_look}
 use Rattle.thread_local_base.specs.Learnt.{learnt_by_install, learnt_by_publish}
-use Rattle.thread_local_schedule.specs.Table.{Table, published, bucket_stands, with_announced, with_fresh_bucket}
+use Rattle.thread_local_schedule.specs.Table.{Table, published, bucket_stands, with_announced, with_filled_bucket}
 use Rattle.thread_local_schedule.specs.Table.{with_written, with_flag}
 
 -- What a Local does: any number of gets are under way, or one publishing call. That one has begun,
--- with what its closure would answer; or it has made a bucket of its own, with this number, which it
--- knows to be announced or not; or it has written its value.
+-- with what its closure would answer; or it has made an empty bucket of its own, with this number;
+-- or it has put its value into that bucket, which it knows to be announced or not; or it has written
+-- its value into the slot of a bucket that stands.
 pub data Doing (V E : Type 0) : Type 0 where
   Gets : (count : ℕ) → Doing V E
   Started : (create : Result V E) → Doing V E
-  Private : (create : Result V E) → (number : ℕ) → (announced : Bool) → Doing V E
+  Private : (create : Result V E) → (number : ℕ) → Doing V E
+  Filled : (value : V) → (number : ℕ) → (announced : Bool) → Doing V E
   Written : (value : V) → Doing V E
 
 -- a Local: its id, what it has learnt and does, its view at the start, and its ended calls with
@@ -40,6 +42,7 @@ pub data LocalStep (V E : Type 0) : Type 0 where
   LoadPointer : LocalStep V E
   LookAtFlag : LocalStep V E
   MakeBucket : (refused : Bool) → LocalStep V E
+  FillBucket : LocalStep V E
   AnnounceBucket : LocalStep V E
   InstallBucket : LocalStep V E
   WriteValue : LocalStep V E
@@ -94,43 +97,65 @@ abbrev pub closure_at_missing : {V E : Type 0} → Doing V E → Learnt V → Op
 closure_at_missing (Started create) Missing = Some create
 closure_at_missing doing learnt = None
 
--- such a call makes a bucket, and loads whether it is announced; or it ends where memory is refused
+-- such a call makes a bucket, or ends where memory is refused
 abbrev pub make_bucket : {V E : Type 0} → Table V → Local V E → Bool → Result V E → Table V × Local V E
 make_bucket table local true create = (table, after_call local (GetOr create true) Refused Missing (Gets 0))
-make_bucket table local false create = (
-  record table { made = suc table.made },
-  record local { doing = Private create table.made (table.announced (bucket_of local.id)) },
-)
+make_bucket table local false create =
+    (record table { made = suc table.made }, record local { doing = Private create table.made })
 
--- the table after a bucket was offered to a pointer: one that isn't null stays
-abbrev pub offered : {V : Type 0} → Table V → ℕ → ℕ → Table V
-offered table bucket number = if bucket_stands table bucket then table else with_fresh_bucket table bucket number
-
--- a bucket that a publishing call has made for itself, with what the closure would answer
-pub record PrivateBucket (V E : Type 0) : Type 0 where
+-- an empty bucket that a publishing call has made for itself, with what the closure would answer
+pub record EmptyBucket (V E : Type 0) : Type 0 where
   pub create : Result V E
   pub number : ℕ
 
--- the bucket that a call has made and doesn't know to be announced
-abbrev pub unannounced_bucket : {V E : Type 0} → Doing V E → Option (PrivateBucket V E)
-unannounced_bucket (Private create number false) = Some (record { create = create; number = number })
+-- the bucket that a call has made and put nothing into, if any
+abbrev pub empty_bucket : {V E : Type 0} → Doing V E → Option (EmptyBucket V E)
+empty_bucket (Private create number) = Some (record { create = create; number = number })
+empty_bucket doing = None
+
+-- Such a call puts what its closure answers into its bucket, with the flag, and loads whether the
+-- bucket is announced. Or it ends with the closure's error, and its bucket is gone.
+abbrev pub fill_bucket : {V E : Type 0} → Table V → Local V E → ℕ → Result V E → Table V × Local V E
+fill_bucket table local number (Ok v) =
+    (table, record local { doing = Filled v number (table.announced (bucket_of local.id)) })
+fill_bucket table local number (Err e) = (table, after_call local (GetOr (Err e) false) (Failed e) local.learnt (Gets 0))
+
+-- a bucket of a publishing call's own, with the value in it
+pub record FilledBucket (V : Type 0) : Type 0 where
+  pub value : V
+  pub number : ℕ
+
+-- the bucket into which a call has put its value, and which it doesn't know to be announced
+abbrev pub unannounced_bucket : {V E : Type 0} → Doing V E → Option (FilledBucket V)
+unannounced_bucket (Filled v number false) = Some (record { value = v; number = number })
 unannounced_bucket doing = None
 
 -- such a call announces it. Where another call has done so in the meantime, nothing changes but that
 -- this one knows it.
-abbrev pub announce_bucket : {V E : Type 0} → Table V → Local V E → PrivateBucket V E → Table V × Local V E
-announce_bucket table local made =
-    (with_announced table (bucket_of local.id), record local { doing = Private made.create made.number true })
+abbrev pub announce_bucket : {V E : Type 0} → Table V → Local V E → FilledBucket V → Table V × Local V E
+announce_bucket table local own =
+    (with_announced table (bucket_of local.id), record local { doing = Filled own.value own.number true })
 
--- the bucket that a call has made and not yet offered, and knows to be announced
-abbrev pub private_bucket : {V E : Type 0} → Doing V E → Option (PrivateBucket V E)
-private_bucket (Private create number true) = Some (record { create = create; number = number })
-private_bucket doing = None
+-- the bucket into which a call has put its value, and which it knows to be announced
+abbrev pub filled_bucket : {V E : Type 0} → Doing V E → Option (FilledBucket V)
+filled_bucket (Filled v number true) = Some (record { value = v; number = number })
+filled_bucket doing = None
 
--- such a call offers its bucket, and then uses the one that is installed
-abbrev pub install_bucket : {V E : Type 0} → Table V → Local V E → PrivateBucket V E → Option (Table V × Local V E)
-install_bucket table local made =
-    learns (offered table (bucket_of local.id) made.number) (record local { doing = Started made.create }) (learnt_by_install local.learnt)
+-- What an offer leaves, where this is learnt by it. Where a bucket stood before, the call's own is gone,
+-- and its value is written there. Else its own is installed, which publishes the value and ends the
+-- call.
+abbrev pub offer_bucket : {V E : Type 0} → Table V → Local V E → FilledBucket V → Learnt V → Option (Table V × Local V E)
+offer_bucket table local own learnt =
+    if bucket_stands table (bucket_of local.id)
+    then Some (with_written table local.id own.value, record local { learnt = learnt; doing = Written own.value })
+    else
+    learns (with_filled_bucket table local.id own.number own.value)
+    (after_call local (GetOr (Ok own.value) false) (Answered own.value) learnt (Gets 0))
+    (learnt_by_publish learnt own.value)
+
+-- such a call offers its bucket to the pointer that it found null
+abbrev pub install_bucket : {V E : Type 0} → Table V → Local V E → FilledBucket V → Option (Table V × Local V E)
+install_bucket table local own = option_and_then (offer_bucket table local own) (learnt_by_install local.learnt)
 
 -- the closure of a publishing call that found its slot empty
 abbrev pub closure_at_vacant : {V E : Type 0} → Doing V E → Learnt V → Option (Result V E)
@@ -180,8 +205,10 @@ local_step table local LoadPointer = if may_look local.doing then load_pointer t
 local_step table local LookAtFlag = if may_look local.doing then look_at_flag table local else None
 local_step table local (MakeBucket refused) =
     option_map (make_bucket table local refused) (closure_at_missing local.doing local.learnt)
+local_step table local FillBucket =
+    option_map (λ own. fill_bucket table local own.number own.create) (empty_bucket local.doing)
 local_step table local AnnounceBucket = option_map (announce_bucket table local) (unannounced_bucket local.doing)
-local_step table local InstallBucket = option_and_then (install_bucket table local) (private_bucket local.doing)
+local_step table local InstallBucket = option_and_then (install_bucket table local) (filled_bucket local.doing)
 local_step table local WriteValue = option_map (write_value table local) (closure_at_vacant local.doing local.learnt)
 local_step table local SetFlag = option_and_then (set_flag table local) (value_written local.doing)
 local_step table local Reply = option_map (reply table local) (ending_of local.doing local.learnt)
@@ -196,5 +223,5 @@ local_steps table local (step ∷ steps) = option_and_then (λ after. local_step
 abbrev pub five_calls : {V E : Type 0} → V → V → E → List (LocalStep V E)
 five_calls v w e =
     BeginGetOr (Ok v) ∷ LoadPointer ∷ MakeBucket true ∷ []
-    ++ BeginGetOr (Err e) ∷ MakeBucket false ∷ InstallBucket ∷ WriteValue ∷ []
-    ++ BeginGetOr (Ok v) ∷ WriteValue ∷ SetFlag ∷ BeginGet ∷ Reply ∷ BeginGetOr (Ok w) ∷ Reply ∷ []
+    ++ BeginGetOr (Err e) ∷ MakeBucket false ∷ FillBucket ∷ []
+    ++ BeginGetOr (Ok v) ∷ MakeBucket false ∷ FillBucket ∷ InstallBucket ∷ BeginGet ∷ Reply ∷ BeginGetOr (Ok w) ∷ Reply ∷ []

@@ -5,6 +5,7 @@ use Rattle.std.specs.Prelude.{option_map, ⊤, ◌==◌, if◌then◌else◌}
 use Rattle.thread_local_base.specs.Held.{is_granted}
 use Rattle.thread_local_base.specs.Sheet.{Take, Give, Publish, Rewrite, Clear}
 use Rattle.thread_local_schedule.specs.TableMoves.{TableMove, OfSheet, Drain}
+use Rattle.thread_local_schedule.specs.Table.{Table}
 use Rattle.thread_local_schedule.specs.Local.{Local, LocalStep, MakeBucket}
 use Rattle.thread_local_schedule.specs.Fits.{value_set}
 use Rattle.thread_local_schedule.specs.Core.{Core, made_core}
@@ -13,15 +14,15 @@ use Rattle.thread_local_schedule.specs.Events.{Owner, RewriteTable, DrainTable, 
 use Rattle.thread_local_schedule.specs.Events.{run}
 
 -- the move of a Local's step: the value that it publishes, if any
-abbrev pub publishing : {V E : Type 0} → Option (Local V E) → LocalStep V E → Option (TableMove V)
-publishing None step = None
-publishing (Some local) step = option_map (λ value. OfSheet (Publish local.id value)) (value_set local.doing step)
+abbrev pub publishing : {V E : Type 0} → Table V → Option (Local V E) → LocalStep V E → Option (TableMove V)
+publishing table None step = None
+publishing table (Some local) step = option_map (λ value. OfSheet (Publish local.id value)) (value_set table local step)
 
 -- the move of an enabled event, if any: a granted take, the step that sets a flag, an id given
 -- back, an owner's rewrite, drain and clear
 abbrev pub move_of : {V E : Type 0} → Core V E → Event V E → Option (TableMove V)
 move_of core (TakeId refused growth) = if is_granted core.manager refused then Some (OfSheet Take) else None
-move_of core (OfLocal number step) = publishing (core.locals number) step
+move_of core (OfLocal number step) = publishing core.table (core.locals number) step
 move_of core (GiveBack number) = option_map (λ local. OfSheet (Give local.id)) (core.locals number)
 move_of core (Owner (RewriteTable others)) = Some (OfSheet (Rewrite others))
 move_of core (Owner DrainTable) = Some Drain

@@ -2,7 +2,7 @@
 -- `Local` calls.
 use Rattle.std.specs.Prelude.{ℕ, zero, suc, false, List, [], ◌∷◌, ◌++◌, Ok}
 use Rattle.thread_local_schedule.specs.Local.{LocalStep, BeginGet, BeginGetOr, LoadPointer, LookAtFlag, MakeBucket}
-use Rattle.thread_local_schedule.specs.Local.{InstallBucket, WriteValue, SetFlag, Reply}
+use Rattle.thread_local_schedule.specs.Local.{FillBucket, InstallBucket, WriteValue, SetFlag, Reply}
 use Rattle.thread_local_schedule.specs.SharedWalk.{Pass, Load, Look}
 use Rattle.thread_local_schedule.specs.Core.{Core, new_core}
 use Rattle.thread_local_schedule.specs.Events.{Event, TakeId, OfLocal, GiveBack, BeginWalk, OfWalk, EndWalk, run}
@@ -15,7 +15,7 @@ steps_of number (step ∷ steps) = OfLocal number step ∷ steps_of number steps
 -- a publishing call whose bucket is missing, and announced
 abbrev pub publishes_first : {V E : Type 0} → ℕ → V → List (Event V E)
 publishes_first number value =
-    steps_of number (BeginGetOr (Ok value) ∷ LoadPointer ∷ MakeBucket false ∷ InstallBucket ∷ WriteValue ∷ SetFlag ∷ [])
+    steps_of number (BeginGetOr (Ok value) ∷ LoadPointer ∷ MakeBucket false ∷ FillBucket ∷ InstallBucket ∷ [])
 
 -- a publishing call whose bucket stands
 abbrev pub publishes_beside : {V E : Type 0} → ℕ → V → List (Event V E)

@@ -80,6 +80,11 @@ with_table_slot table id slot = record table {
   pointers = λ bucket. if bucket_of id == bucket then with_slot_of (table.pointers bucket) (index_of id) slot else table.pointers bucket;
 }
 
+-- the table after a new bucket was installed that holds one published value, at an id
+abbrev pub with_filled_bucket : {V : Type 0} → Table V → ℕ → ℕ → V → Table V
+with_filled_bucket table id number v =
+    with_table_slot (with_fresh_bucket table (bucket_of id) number) id (record { written = Some v; flag = true })
+
 -- the table after a value was written at an id; the flag stays
 abbrev pub with_written : {V : Type 0} → Table V → ℕ → V → Table V
 with_written table id v = with_table_slot table id (record (slot_at table id) { written = Some v })

@@ -6,7 +6,7 @@ ghost use Rattle.thread_local_base.specs.Buckets.{Contents, row, stands as stand
 ghost use Rattle.thread_local_base.specs.Walk.{walk};
 ghost use Rattle.thread_local_base.specs.Owner.{with_bucket, with_published, cleared_row, emptied};
 ghost use Rattle.thread_local_base.specs.Refilled.{refilled};
-ghost use Rattle.thread_local_schedule.specs.Table.{Table, slot_at, published, bucket_stands, made_table, with_fresh_bucket, with_flag};
+ghost use Rattle.thread_local_schedule.specs.Table.{Table, slot_at, published, bucket_stands, made_table, with_fresh_bucket, with_filled_bucket, with_flag};
 ghost use Rattle.thread_local_schedule.specs.OwnerWalk.{owner_walk, rewritten};
 ghost use Rattle.thread_local_schedule.specs.Cleared.{cleared, drained};
 ghost use Rattle.thread_local_schedule.specs.Shown.{shown};
@@ -21,15 +21,20 @@ pub fn a_table_shows_its_contents<V>()
     ensures walk { (table : Table V) → owner_walk table ≡ walk (values (shown table)) }
 {}
 
-/// The events change what an owner sees as an owner's calls do. Installing a bucket and then
-/// setting a flag is an `insert`; an owner's writes change values and no bucket; a drain leaves
-/// every bucket and a clear the reserved ones, with all slots empty; and a table of `new` shows
-/// what new buckets show.
+/// The events change what an owner sees as an owner's calls do. To install a bucket with a value in
+/// it is an `insert`, and so is to set a flag; an owner's writes change values and no bucket; a
+/// drain leaves every bucket and a clear the reserved ones, with all slots empty; and a table of
+/// `new` shows what new buckets show.
 pub fn events_change_contents_as_calls_do<V>()
     ensures installed { (table : Table V) (bucket number : ℕ)
         → bucket < 63
         → bucket_stands table bucket ≡ false
         → shown (with_fresh_bucket table bucket number) ≡ with_bucket (shown table) bucket }
+    ensures filled { (table : Table V) (id number : ℕ) (v : V)
+        → id < 2 ^ 63 - 1
+        → bucket_stands table (bucket_of id) ≡ false
+        → shown (with_filled_bucket table id number v)
+        ≡ with_published (shown table) (bucket_of id) (index_of id) v }
     ensures published { (table : Table V) (id : ℕ) (v : V)
         → id < 2 ^ 63 - 1
         → IsTrue (bucket_stands table (bucket_of id))

@@ -1,8 +1,8 @@
 //! When each step can happen, and when it can't.
 ghost use Rattle.std.specs.Prelude.{◌≡◌, ◌≢◌, ℕ, suc, ◌<◌, ◌⊎◌, ◌↔◌, Bool, true, false, Some, None, Result, IsTrue};
 ghost use Rattle.thread_local_base.specs.Learnt.{Unknown, Missing, Standing, Vacant, Holding};
-ghost use Rattle.thread_local_schedule.specs.Local.{Local, Gets, Started, Private, Written, BeginGet, BeginGetOr};
-ghost use Rattle.thread_local_schedule.specs.Local.{LoadPointer, LookAtFlag, MakeBucket, AnnounceBucket, InstallBucket};
+ghost use Rattle.thread_local_schedule.specs.Local.{Local, Gets, Started, Private, Filled, Written, BeginGet, BeginGetOr};
+ghost use Rattle.thread_local_schedule.specs.Local.{LoadPointer, LookAtFlag, MakeBucket, FillBucket, AnnounceBucket, InstallBucket};
 ghost use Rattle.thread_local_schedule.specs.Local.{WriteValue, SetFlag, Reply};
 ghost use Rattle.thread_local_schedule.specs.SharedWalk.{SharedWalk, Pass, Load, Look};
 ghost use Rattle.thread_local_schedule.specs.Core.{Core};
@@ -39,21 +39,25 @@ pub fn steps_happen<V, E>()
         × (local.learnt ≡ Standing)) }
 
     // A publishing call that found its bucket missing asks for memory, whatever stands by now. It
-    // announces the bucket that it has made, where it doesn't know that to be announced, and then
-    // installs it. One that found its slot empty writes its value or hands on the closure's error,
-    // and sets the flag over what it has written.
+    // fills the bucket that it has made, or hands on the closure's error; announces it, where it
+    // doesn't know that to be announced; and then offers it. One that found its slot empty writes
+    // its value or hands on the closure's error, and sets the flag over what it has written.
     ensures asks { (core : Core V E) (n : ℕ) (local : Local V E) (refused : Bool)
         → core.ended ≡ false → core.locals n ≡ Some local
         → IsTrue (is_enabled core (OfLocal n (MakeBucket refused)))
         ↔ (((create : Result V E) × (local.doing ≡ Started create)) × (local.learnt ≡ Missing)) }
+    ensures fills { (core : Core V E) (n : ℕ) (local : Local V E)
+        → core.ended ≡ false → core.locals n ≡ Some local
+        → IsTrue (is_enabled core (OfLocal n FillBucket))
+        ↔ ((create : Result V E) × (number : ℕ) × (local.doing ≡ Private create number)) }
     ensures announces { (core : Core V E) (n : ℕ) (local : Local V E)
         → core.ended ≡ false → core.locals n ≡ Some local
         → IsTrue (is_enabled core (OfLocal n AnnounceBucket))
-        ↔ ((create : Result V E) × (number : ℕ) × (local.doing ≡ Private create number false)) }
+        ↔ ((v : V) × (number : ℕ) × (local.doing ≡ Filled v number false)) }
     ensures installs { (core : Core V E) (n : ℕ) (local : Local V E)
         → IsReached core → core.ended ≡ false → core.locals n ≡ Some local
         → IsTrue (is_enabled core (OfLocal n InstallBucket))
-        ↔ ((create : Result V E) × (number : ℕ) × (local.doing ≡ Private create number true)) }
+        ↔ ((v : V) × (number : ℕ) × (local.doing ≡ Filled v number true)) }
     ensures writes { (core : Core V E) (n : ℕ) (local : Local V E)
         → core.ended ≡ false → core.locals n ≡ Some local
         → IsTrue (is_enabled core (OfLocal n WriteValue))

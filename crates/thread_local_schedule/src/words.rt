@@ -4,8 +4,8 @@ ghost use Rattle.std.specs.Prelude.{◌≢◌, max, IsSomeAnd, ◌∷◌, ◌++�
 ghost use Rattle.thread_local_base.specs.Held.{held_count, HoldsAllBelow, is_held};
 ghost use Rattle.thread_local_base.specs.Walk.{walk};
 ghost use Rattle.thread_local_schedule.specs.Table.{bucket_stands, published, Table, Slot};
-ghost use Rattle.thread_local_schedule.specs.Local.{Local, LocalStep, Doing, MakeBucket, Private, BeginGet};
-ghost use Rattle.thread_local_schedule.specs.Local.{BeginGetOr, LoadPointer, LookAtFlag, AnnounceBucket, InstallBucket, WriteValue};
+ghost use Rattle.thread_local_schedule.specs.Local.{Local, LocalStep, Doing, MakeBucket, Private, Filled, BeginGet};
+ghost use Rattle.thread_local_schedule.specs.Local.{BeginGetOr, LoadPointer, LookAtFlag, FillBucket, AnnounceBucket, InstallBucket, WriteValue};
 ghost use Rattle.thread_local_schedule.specs.Local.{SetFlag, Reply, Written};
 ghost use Rattle.thread_local_schedule.specs.SharedWalk.{SharedWalk, begun_walk, WalkStep, buckets_among};
 ghost use Rattle.thread_local_schedule.specs.Fits.{number_at, IsSameBucket, IsWritten};
@@ -84,6 +84,17 @@ pub fn words_say<V, E>()
         → core.locals n ≡ Some local
         → local.doing ≡ Written v
         → move core (OfLocal n SetFlag) ≡ Some (OfSheet (Publish local.id v)) }
+    ensures install_moves { (core : Core V E) (n : ℕ) (local : Local V E) (v : V) (number : ℕ)
+        → IsTrue (is_enabled core (OfLocal n InstallBucket))
+        → core.locals n ≡ Some local
+        → local.doing ≡ Filled v number true
+        → bucket_stands core.table (bucket_of local.id) ≡ false
+        → move core (OfLocal n InstallBucket) ≡ Some (OfSheet (Publish local.id v)) }
+    ensures beside_moves { (core : Core V E) (n : ℕ) (local : Local V E)
+        → IsTrue (is_enabled core (OfLocal n InstallBucket))
+        → core.locals n ≡ Some local
+        → IsTrue (bucket_stands core.table (bucket_of local.id))
+        → move core (OfLocal n InstallBucket) ≡ None }
     ensures rewrite_moves { (core : Core V E) (others : ℕ → V → V)
         → IsTrue (is_enabled core (Owner (RewriteTable others)))
         → move core (Owner (RewriteTable others)) ≡ Some (OfSheet (Rewrite others)) }
@@ -97,6 +108,7 @@ pub fn words_say<V, E>()
         → (is_granted_take core event ≡ false)
         × ((n : ℕ) → event ≢ GiveBack n)
         × ((n : ℕ) → event ≢ OfLocal n SetFlag)
+        × ((n : ℕ) → event ≢ OfLocal n InstallBucket)
         × ((others : ℕ → V → V) → event ≢ Owner (RewriteTable others))
         × (event ≢ Owner DrainTable)
         × (event ≢ Owner ClearTable))
@@ -159,10 +171,14 @@ pub fn words_say<V, E>()
         ↔ IsSomeAnd (table.pointers bucket) (λ here. here.number ≡ number) }
     ensures same_bucket { (old new : Table V) (bucket : ℕ) → IsSameBucket old new bucket
         → IsTrue (bucket_stands new bucket) × (number_at new bucket ≡ number_at old bucket) }
-    ensures own { (create : Result V E) (number : ℕ) (announced : Bool)
-        → own_number (Private create number announced) ≡ Some number }
-    ensures own_slots { (id number : ℕ) (create : Result V E) (announced : Bool)
-        → private_slots id (Private create number announced) ≡ 2 ^ bucket_of id }
+    ensures own { (create : Result V E) (number : ℕ)
+        → own_number (Private create number) ≡ Some number }
+    ensures own_filled { (v : V) (number : ℕ) (announced : Bool)
+        → own_number {V = V} {E = E} (Filled v number announced) ≡ Some number }
+    ensures own_slots { (id number : ℕ) (create : Result V E)
+        → private_slots id (Private create number) ≡ 2 ^ bucket_of id }
+    ensures filled_slots { (id number : ℕ) (v : V) (announced : Bool)
+        → private_slots {V = V} {E = E} id (Filled v number announced) ≡ 2 ^ bucket_of id }
 
     // None is taken by no event, and by one more where that is no granted take. No event is a take
     // that comes too late.
@@ -235,8 +251,7 @@ pub fn words_say<V, E>()
     ensures calls_stay { (before after : Local V E)
         → GoesOn LoadPointer before after
         ⊎ (GoesOn LookAtFlag before after
-        ⊎ (GoesOn (MakeBucket false) before after
-        ⊎ (GoesOn AnnounceBucket before after ⊎ GoesOn InstallBucket before after)))
+        ⊎ (GoesOn (MakeBucket false) before after ⊎ GoesOn AnnounceBucket before after))
         → (gets_of after.doing ≡ gets_of before.doing)
         × (closure_of after.doing ≡ closure_of before.doing)
         × (after.calls ≡ before.calls) }
@@ -246,6 +261,24 @@ pub fn words_say<V, E>()
         × IsSomeAnd (closure_of before.doing) (λ create.
         after.calls ≡ before.calls ++ GetOr create true ∷ [])
         × (after.answered ≡ before.answered ++ Refused ∷ []) }
+    ensures fills { (before after : Local V E) → GoesOn FillBucket before after
+        → ((gets_of after.doing ≡ gets_of before.doing)
+        × (closure_of after.doing ≡ closure_of before.doing)
+        × (after.calls ≡ before.calls))
+        ⊎
+        ((closure_of after.doing ≡ None)
+        × (gets_of after.doing ≡ gets_of before.doing)
+        × IsSomeAnd (closure_of before.doing) (λ create.
+        after.calls ≡ before.calls ++ GetOr create false ∷ [])) }
+    ensures install_goes { (before after : Local V E) → GoesOn InstallBucket before after
+        → ((gets_of after.doing ≡ gets_of before.doing)
+        × (closure_of after.doing ≡ closure_of before.doing)
+        × (after.calls ≡ before.calls))
+        ⊎
+        ((closure_of after.doing ≡ None)
+        × (gets_of after.doing ≡ gets_of before.doing)
+        × IsSomeAnd (closure_of before.doing) (λ create.
+        after.calls ≡ before.calls ++ GetOr create false ∷ [])) }
     ensures writes { (before after : Local V E) → GoesOn WriteValue before after
         → ((gets_of after.doing ≡ gets_of before.doing)
         × (closure_of after.doing ≡ closure_of before.doing)

@@ -1,23 +1,26 @@
--- A claim that found its bucket missing has its slot, which is empty, once a block stands. Assumes
--- `Logic`.
-use Rattle.std.proofs.Common.{◌≡◌, ℕ, ◌+◌, ◌<◌, Bool, [], ◌∷◌, length, refl, sym, subst, Option, None}
+-- A claim that found its bucket missing has its slot once a block stands: with its value where the block
+-- is its own, and else empty. Assumes `Logic`.
+use Rattle.std.proofs.Common.{◌≡◌, ℕ, ◌+◌, ◌<◌, Bool, [], ◌∷◌, length, refl, sym, subst, Option, None, Some}
 use seplogic.Ra.Ura.{Ura}
-use base.Fml.{Lft, Share, Fml, ftrue, fbor, flft, fres, finv}
+use base.Fml.{Lft, GName, Share, Fml, ftrue, fsep, fex, fbor, flft, fres, finv}
 use base.Before.{before}
 use types.Logic.{Logic}
 use types.Na.{before_dup}
-use types.Kit.{‵, ◌⊛◌, later, ◌$◌, ◌∵◌, !, qed, move, drop, split, rewrite, group, fsplit, fjoin, fpick, fpack, await}
+use types.Kit.{‵, ◌⊛◌, later, ◌$◌, ◌∵◌, !, qed, move, drop, split, rewrite, group, fsplit, fjoin, fjoin3, fpick, fpack, await}
 use types.Kit.{updating, now, use1, use2, done}
 use denote.RattleType.{RattleType}
 use denote.RawPtr.{Ptr, block_ptr}
 use denote.Steps.{nothing}
 use Rattle.thread_local_ids.specs.Rights.{right_owns}
+use Rattle.thread_local_ids.specs.Told.{tells}
+use Rattle.thread_local_judged.specs.Judged.{Judged}
 use Rattle.thread_local_bucket_pointers.specs.Slots.{value_offset}
 use Rattle.thread_local_base.specs.Fact.{fact}
 use Rattle.thread_local_shared_buckets.specs.Announcing.{Announcing}
 use Rattle.thread_local_shared_buckets.specs.Shared.{BucketView, Turn, StandingBlock, Sized, block_code, len, bucket_invariant, kept, loaded}
+use Rattle.thread_local_shared_buckets.specs.Shared.{name_at, pinned, holds, by as lent_by}
 use Rattle.thread_local_shared_buckets.proofs.Loads.{part, reaches}
-use Rattle.thread_local_base.specs.Learnt.{Vacant}
+use Rattle.thread_local_base.specs.Learnt.{Vacant, Holding}
 use Rattle.thread_local_shared_buckets.specs.Claims.{ClaimFields, claim_fields, IsOf, IsStateOf, value_at, has_slot, has_at, claim_owns}
 use Rattle.thread_local_shared_buckets.proofs.ClaimSteps as steps
 use Rattle.thread_local_base.proofs.Signs.{signs}
@@ -81,3 +84,40 @@ module _ {M : Type 1} {𝓤 : Ura M} (𝓛 : Logic 𝓤) (R : RattleType) (d : B
       fpack ! (IsOf R table Now d) (λ _. ftrue) of $ fjoin ! $
       fpack ! (BucketView × Turn) (has_at R β table Now Vacant) (d, t) $
       nothing ! $ fpack ! (IsStateOf R 1 Vacant) (λ _. ftrue) refl $ fjoin ! $ move ! (1 ∷ 0 ∷ []) $ now ! $ done !))
+
+  -- the claim whose block was installed holds the value that the block came with
+  pub installs_filled : (table : ℕ) (x : R.Denot) (η : GName) (zz : StandingBlock × Share) → IsOf R table Now d
+      → zz.0.at ≡ p → name_at zz.0.names i ≡ η
+      → ⟦ part 𝓛 R d t p zz ⟧ ∗ ⟦ kept R d t wb (wo + 0) β ⟧
+      ∗ ⟦ fsep (right_owns t.filled id) (tells R d.sharing id (Some x)) ⟧
+      ∗ ⟦ fsep (pinned R η x) (fex (Judged R) (lent_by R t pb zz.0.block_life (value_offset R o i) η x)) ⟧
+      ⊢ H.⇛ ⟦ claim_owns R β table Now (Holding x) 2 ⟧
+  installs_filled table x η zz of at named =
+      let e : ℕ = value_offset R o i in
+      let new : Option R.Denot = Some x in
+      let Gain : Fml = fsep (right_owns t.filled id) (tells R d.sharing id new) in
+      let Mine : Fml = fsep (pinned R η x) (fex (Judged R) (lent_by R t pb zz.0.block_life e η x)) in
+      qed 𝓛 (‵ (part 𝓛 R d t p zz) ∷ ‵ (kept R d t wb (wo + 0) β) ∷ ‵ Gain ∷ ‵ Mine ∷ []) ∵
+      updating ! $ move ! (1 ∷ []) $ fsplit ! $
+      use1 𝓛 (‵ (before β t.life) ⊛ ‵ (before β t.life)) (before_dup 𝓛 β t.life) $ split ! $
+      -- [before, twice; the invariant; the part; what the claim gets; what it had]
+      move ! (3 ∷ 1 ∷ []) $
+      use2 𝓛 (later (‵ (fact ((zz.0.at ≡ p) × Sized R (len R d) p)) ⊛ ‵ (loaded R d t zz.0 β)))
+      (reaches 𝓛 R d t β p zz) $
+      await ! tt $ split ! $ fpick ! (λ there. drop ! $
+      let s : StandingBlock = record zz.0 { at = p } in
+      rewrite ! 0 (λ (k : StandingBlock). ‵ (loaded R d t k β))
+      (λ j. record zz.0 { at = there.0 j }) refl $
+      -- [the row; before; the invariant; what the claim gets; what it had]
+      move ! (3 ∷ []) $ fsplit ! $ move ! (5 ∷ []) $ fsplit ! $
+      -- [pinned; by; filled; told; the row; before; the invariant]
+      move ! (0 ∷ 3 ∷ []) $ fjoin ! $ move ! (2 ∷ 0 ∷ 1 ∷ []) $ fjoin3 ! $
+      rewrite ! 0 (λ (η₁ : GName). ‵ (holds R t pb s.block_life d.sharing id e η₁ new)) (sym named) refl $
+      -- [what the slot holds; the row; before; the invariant]
+      move ! (1 ∷ 0 ∷ []) $ fjoin ! $ nothing ! $
+      fpack ! (value_at R p i ≡ value_at R s.at i) (λ _. ftrue) refl $ fjoin ! $
+      fpack ! StandingBlock (has_slot R d t β Now new) s $
+      move ! (1 ∷ 2 ∷ []) $ fjoin ! $ fjoin ! $ nothing ! $
+      fpack ! (IsOf R table Now d) (λ _. ftrue) of $ fjoin ! $
+      fpack ! (BucketView × Turn) (has_at R β table Now (Holding x)) (d, t) $
+      nothing ! $ fpack ! (IsStateOf R 2 (Holding x)) (λ _. ftrue) refl $ fjoin ! $ now ! $ done !)

@@ -1,27 +1,31 @@
 -- Offers a private block to a bucket that is missing: it is lent, and comes back where another
 -- block is installed first. Assumes `Logic`.
 --
--- The block is lent for a lifetime of its own beside the turn's life. Once it is installed, its
--- slots are born under the turn, each with the tokens that waited for it. Else that lifetime ends,
--- and the block is its maker's again.
-use Rattle.std.proofs.Common.{◌≡◌, ◌∙◌, ℕ, zero, suc, ◌+◌, Bool, true, false, List, [], ◌∷◌, length, is_some, refl, sym}
-use Rattle.std.proofs.Common.{ap, subst, lit<, arith, Option, None}
-use Rattle.std.proofs.lemmas.List.{length-replicate, get_or_past}
+-- One slot of the block is filled, for the claim that offers it. The block is lent for a lifetime of its
+-- own beside the turn's life. Once it is installed, its slots are born under the turn, each with the
+-- tokens that waited for it, and the filled one with its value. Else that lifetime ends, and the block
+-- is its maker's again, with the value.
+use Rattle.std.proofs.Common.{◌≡◌, ◌∙◌, ℕ, zero, suc, ◌+◌, ◌<◌, Bool, true, false, List, [], ◌∷◌, ◌++◌, length, is_some, refl, sym}
+use Rattle.std.proofs.Common.{ap, subst, lit<, arith, Option, None, Some}
+use Rattle.std.specs.Prelude.{slice_set}
+use Rattle.std.proofs.lemmas.List.{length-append, length-replicate, get_or_past}
 use Rattle.std.specs.Coded.{coded_option}
 use seplogic.Ra.Ura.{Ura}
 use mir.Syntax.{Ty}
 use base.Fraction.{full_share, left, right}
 use base.Stored.{gnil}
-use base.Logic.{SProp, ex, guard, upd, upd_i, guard_i}
-use base.Fml.{Lft, GName, Share, Fml, ftrue, ffalse, fsep, flft, fdead, fobs, fauth, fres, fbor, flent}
-use contract.BorrowLft.{meet_⊑_left}
+use base.Logic.{SProp, ex, guard, upd, upd_i, guard_i, id⊢}
+use base.Fml.{Lft, GName, Share, Incl, Incl-trans, Fml, ftrue, ffalse, fsep, fex, flft, fdead, fobs, fauth, fres, fbor, flent}
+use contract.BorrowLft.{meet_⊑_left, meet_⊑_right, ⊑_meet}
 use contract.Monad.{fact_use}
-use types.Logic.{Logic}
+use ghost.Rules.{Toks, span}
+use types.Logic.{Logic, lfts}
 use types.Kit.{‵, raw, ◌⊛◌, some, given, later, ◌$◌, ◌∵◌, !, qed, by, move, keep, drop, use0, use1, use2, use3, split}
-use types.Kit.{split3, join, fsplit, fsplit3, fjoin, fjoin3, fpick, fpack, pick, learn, check, show, frame, assume}
+use types.Kit.{split3, group, join, fsplit, fsplit3, fjoin, fjoin3, fpick, fpack, pick, learn, check, show, frame, assume}
 use types.Kit.{suffices, settle, await, updating, now, rewrite, done}
-use types.Tokens.{name_new, name_agree, lft_new, lft_end, bor_new, lent_back}
+use types.Tokens.{name_new, name_agree, res_dup, res_agree, lft_new, lft_end, bor_new, lent_back}
 use denote.RattleType.{RattleType}
+use denote.Param.Laws.{Laws}
 use denote.RawPtr.{Ptr, block_ptr, null_ptr, block_of, count_of, InBlock, Testable}
 use denote.Steps.{nothing}
 use Rattle.std.specs.Sync.RawAtomic.Pointer.{cell, alike, compares}
@@ -29,15 +33,20 @@ use Rattle.std.specs.declared.alloc.Global.{Global}
 use Rattle.std.specs.contracts.impls.GlobalAllocator.TheImpl.{ghosts}
 use Rattle.std.proofs.GlobalToken.{dealloc_token-Testable}
 use Rattle.thread_local_ids.specs.Rights.{right_owns}
+use Rattle.thread_local_ids.proofs.RightElements.{right_once}
+use Rattle.thread_local_judged.specs.Judged.{Judged}
 use Rattle.thread_local_base.specs.Bits.{is_set_in}
 use Rattle.thread_local_bucket_pointers.specs.Slots.{each, chunks, AreFlags, flags_at, block_ty, value_offset, content_at, slot}
 use Rattle.thread_local_bucket_pointers.specs.Slots.{flags, back, block_owns, empty_slots, slot_value, heap_token, Fits}
-use Rattle.thread_local_shared_buckets.specs.Shared.{BucketView, Turn, StandingBlock, Who, free, early, block_code}
-use Rattle.thread_local_shared_buckets.specs.Shared.{value_code, tracked_value, age, holds, lies_with_slot, shared_slot_as}
+use Rattle.thread_local_shared_buckets.specs.Shared.{BucketView, Turn, StandingBlock, Who, free, claimed, early, block_code}
+use Rattle.thread_local_shared_buckets.specs.Shared.{value_code, pinned, opened, tracked_value, age, holds, lies_with_slot, shared_slot_as}
+use Rattle.thread_local_shared_buckets.specs.Shared.{by as lent_by}
 use Rattle.thread_local_shared_buckets.specs.Shared.{numbered_slot, AreFlagWords, slots_under, slots_stand, block_stands}
 use Rattle.thread_local_shared_buckets.specs.Shared.{slots_side, all_unborn, Sized, len, first, standing, beside_pointer, grown}
 use Rattle.thread_local_shared_buckets.specs.Shared.{bucket_invariant}
-use Rattle.thread_local_ids.specs.Told.{untold_in}
+use Rattle.thread_local_ids.specs.Told.{untold_in, tells}
+use Rattle.thread_local_ids.proofs.ToldElements.{told_dup, tells_it}
+use Rattle.thread_local_shared_buckets.proofs.Rested.{publishes}
 use Rattle.thread_local_base.proofs.Pointers.{Compared, opened_to_compare, alike_null}
 use Rattle.thread_local_shared_buckets.proofs.Loads.{part, glimpse, parted}
 use Rattle.thread_local_base.proofs.Signs.{signs}
@@ -52,14 +61,68 @@ none_at zero i = get_or_past [] i None (omega arith)
 none_at (suc n) zero = refl
 none_at (suc n) (suc i) = none_at n i
 
-module _ (R : RattleType) (n : ℕ) (ns : List ℕ) (are : AreFlags ns (empty_slots {X = R.Denot} n)) where
-  none_set : (i : ℕ) → is_set_in ns i ≡ false
-  none_set i = are.flags i ∙ ap is_some (none_at {X = R.Denot} n i)
+-- n slots of which the one at an index holds a value
+abbrev pub with_first : {X : Type 0} → ℕ → X → ℕ → List (Option X)
+with_first at x rest = empty_slots at ++ (Some x ∷ empty_slots rest)
 
-  clear_words : length ns + 0 ≡ chunks (length (empty_slots {X = R.Denot} n)) → AreFlagWords R n ns
-  clear_words long =
-      let x : Option R.Denot = None in
-      (omega arith ∙ long ∙ ap chunks (length-replicate n x), are.words, λ i _. none_set i)
+module _ {X : Type 0} (x : X) where
+  abbrev tail_of : List (Option X) → List (Option X)
+  tail_of [] = []
+  tail_of (c ∷ cs) = cs
+
+  abbrev head_of : List (Option X) → Option X
+  head_of [] = None
+  head_of (c ∷ cs) = c
+
+  -- slots are such if the one at the index is filled and they are empty without it
+  pub parted_slots : (cs : List (Option X)) (at n rest : ℕ) → at < length cs → n ≡ at + suc rest
+      → slice_set cs at None ≡ empty_slots n → slot_value cs at ≡ Some x → cs ≡ with_first at x rest
+  parted_slots [] at n rest low many none here = absurd (omega arith)
+  parted_slots (c ∷ cs) zero n rest low many none here =
+      let n_is : n ≡ suc rest = omega (arith, many) in
+      let all : ◌≡◌ {A = List (Option X)} (None ∷ cs) (empty_slots (suc rest)) = none ∙ ap (λ (m : ℕ). empty_slots {X = X} m) n_is in
+      λ k. here k ∷ tail_of (all k)
+  parted_slots (c ∷ cs) (suc at) n rest low many none here =
+      let n_is : n ≡ suc (at + suc rest) = omega (arith, many) in
+      let all : c ∷ slice_set cs at None ≡ empty_slots (suc (at + suc rest)) = none ∙ ap (λ (m : ℕ). empty_slots {X = X} m) n_is in
+      λ k. head_of (all k) ∷ parted_slots cs at (at + suc rest) rest (omega (arith, low)) refl (ap tail_of all) here k
+
+  first_long : (at rest : ℕ) → length (with_first at x rest) ≡ at + suc rest
+  first_long zero rest = let none : Option X = None in let many : length (empty_slots {X = X} rest) ≡ rest = length-replicate rest none in omega (arith, many)
+  first_long (suc at) rest = let many : length (with_first at x rest) ≡ at + suc rest = first_long at rest in omega (arith, many)
+
+  first_here : (at rest : ℕ) → slot_value (with_first at x rest) at ≡ Some x
+  first_here zero rest = refl
+  first_here (suc at) rest = first_here at rest
+
+  first_before : (at rest i : ℕ) → i < at → slot_value (with_first at x rest) i ≡ None
+  first_before zero rest i low = absurd (omega (arith, low))
+  first_before (suc at) rest zero low = refl
+  first_before (suc at) rest (suc i) low = first_before at rest i (omega (arith, low))
+
+  first_behind : (at rest i k : ℕ) → k ≡ i + suc at → slot_value (with_first at x rest) k ≡ None
+  first_behind zero rest i k is =
+      let at : k ≡ suc i = omega (arith, is) in ap (slot_value (with_first 0 x rest)) at ∙ none_at {X = X} rest i
+  first_behind (suc at) rest i zero is = absurd (omega (arith, is))
+  first_behind (suc at) rest i (suc k) is = first_behind at rest i k (omega (arith, is))
+
+module _ (R : RattleType) (x : R.Denot) (at rest : ℕ) (ns : List ℕ) (are : AreFlags ns (with_first at x rest)) where
+  here_set : is_set_in ns at ≡ true
+  here_set = are.flags at ∙ ap is_some (first_here x at rest)
+
+  before_clear : (i : ℕ) → i < at → is_set_in ns i ≡ false
+  before_clear i low = are.flags i ∙ ap is_some (first_before x at rest i low)
+
+  behind_clear : (i k : ℕ) → k ≡ i + suc at → is_set_in ns k ≡ false
+  behind_clear i k is = are.flags k ∙ ap is_some (first_behind x at rest i k is)
+
+  flag_words : (n : ℕ) → n ≡ at + suc rest → length ns + 0 ≡ chunks (length (with_first at x rest)) → AreFlagWords R n ns
+  flag_words n many long =
+      let few : length (with_first at x rest) ≡ n = first_long x at rest ∙ sym many in (
+        omega arith ∙ long ∙ ap chunks few,
+        are.words,
+        λ i past. are.flags i ∙ ap is_some (get_or_past (with_first at x rest) i None (omega (arith, past, few))),
+      )
 
 module _ {M : Type 1} {𝓤 : Ura M} (𝓛 : Logic 𝓤) (R : RattleType) (t : Turn) where
   open 𝓛 use {H, A}
@@ -139,16 +202,25 @@ module _ {M : Type 1} {𝓤 : Ura M} (𝓛 : Logic 𝓤) (R : RattleType) (t : T
           qed 𝓛 (‵ (right_owns t.pass k) ∷ ‵ (holds R t b ν sharing k e η None) ∷ []) ∵ fjoin ! $
           done !
 
-      module _ (sharing : Option GName) (table k : ℕ) (ns : List ℕ) (clear : (i : ℕ) → is_set_in ns i ≡ false) where
+      module _ (sharing : Option GName) (table k : ℕ) (ns : List ℕ) where
+        first_clear : (i : ℕ) {m : ℕ} → ((j : ℕ) → j < suc m → is_set_in ns (j + i) ≡ false) → is_set_in ns i ≡ false
+        first_clear i clear = let at : 0 + i ≡ i = omega arith in subst (λ (k : ℕ). is_set_in ns k ≡ false) at (clear 0 (omega arith))
+
+        next_clear : (i m : ℕ) → ((j : ℕ) → j < suc m → is_set_in ns (j + i) ≡ false)
+            → (j : ℕ) → j < m → is_set_in ns (j + suc i) ≡ false
+        next_clear i m clear j near =
+            let at : suc j + i ≡ j + suc i = omega arith in
+            subst (λ (k : ℕ). is_set_in ns k ≡ false) at (clear (suc j) (omega (arith, near)))
+
         -- what stays with an empty slot
         abbrev Unborn : ℕ → Fml
         Unborn j = fsep (right_owns t.filled j) (untold_in sharing j)
 
-        born_one : (i : ℕ) (η : GName) (w : Bool)
+        born_one : (i : ℕ) (η : GName) (w : Bool) → is_set_in ns i ≡ false
             → ⟦ right_owns t.vacant (i + k) ⟧ ∗ ⟦ Unborn (i + k) ⟧
             ∗ ⟦ slots_side R w table t.pass (i + k) ⟧ ∗ ⟦ bare_slot η i ⟧
             ⊢ ⟦ numbered_slot R t b ν sharing table k o ns η i ⟧
-        born_one i η w =
+        born_one i η w clear =
             let j : ℕ = i + k in
             let e : ℕ = value_offset R o i in
             let set : Bool = is_set_in ns i in
@@ -161,137 +233,361 @@ module _ {M : Type 1} {𝓤 : Ura M} (𝓛 : Logic 𝓤) (R : RattleType) (t : T
             use2 𝓛 (‵ (lies_with_slot R t b ν sharing table j e η None (who w)))
             (waited sharing table j e η w) $
             move ! (2 ∷ 0 ∷ []) $ fjoin ! $
-            nothing ! $ fpack ! (set ≡ is_some v) (λ _. ftrue) (clear i) $ fjoin ! $
+            nothing ! $ fpack ! (set ≡ is_some v) (λ _. ftrue) clear $ fjoin ! $
             fpack ! (Option R.Denot × Who) (shared_slot_as R t b ν sharing table set j e η)
             (None, who w) $
             move ! (1 ∷ 0 ∷ []) $ fjoin ! $ done !
 
-        born_all : (names : List ℕ) (i : ℕ)
+        born_all : (names : List ℕ) (i : ℕ) → ((j : ℕ) → j < length names → is_set_in ns (j + i) ≡ false)
             → ⟦ all_unborn R sharing table t (length names) (i + k) ⟧ ∗ ⟦ each bare_slot names i ⟧
             ⊢ ⟦ each (numbered_slot R t b ν sharing table k o ns) names i ⟧
-        born_all [] i = qed 𝓛 (‵ ftrue ∷ ‵ ftrue ∷ []) ∵ drop ! $ done !
-        born_all (η ∷ names) i = let j : ℕ = i + k in let next : suc (i + k) ≡ suc i + k = omega arith in
+        born_all [] i clear = qed 𝓛 (‵ ftrue ∷ ‵ ftrue ∷ []) ∵ drop ! $ done !
+        born_all (η ∷ names) i clear = let j : ℕ = i + k in let next : suc (i + k) ≡ suc i + k = omega arith in
             qed 𝓛 (‵ (all_unborn R sharing table t (length (η ∷ names)) j)
             ∷ ‵ (each bare_slot (η ∷ names) i) ∷ []) ∵
             fsplit ! $ fsplit3 ! $ move ! (2 ∷ []) $ fpick ! (λ w. move ! (4 ∷ []) $ fsplit ! $
             -- [the slot; the other slots; what waits; vacant; filled; the others that are unborn]
-            move ! (3 ∷ 4 ∷ 2 ∷ 0 ∷ []) $ types.Kit.group ! 4 $
-            use1 𝓛 (‵ (numbered_slot R t b ν sharing table k o ns η i)) (born_one i η w) $ frame ! $
+            move ! (3 ∷ 4 ∷ 2 ∷ 0 ∷ []) $ group ! 4 $
+            use1 𝓛 (‵ (numbered_slot R t b ν sharing table k o ns η i)) (born_one i η w (first_clear i clear)) $ frame ! $
             move ! (1 ∷ []) $
-            rewrite ! 0 (λ (m : ℕ). ‵ (all_unborn R sharing table t (length names) m)) next refl $ by ! (born_all names (suc i)))
+            rewrite ! 0 (λ (m : ℕ). ‵ (all_unborn R sharing table t (length names) m)) next refl $ by ! (born_all names (suc i) (next_clear i (length names) clear)))
 
-  module _ (d : BucketView) (a : Global) where
+      -- ---- the slot that is filled before the block stands
+      module _ (L : Laws R) (x : R.Denot) where
+        -- what lies with it while nobody else sees the block
+        abbrev pub full : ℕ → GName → Fml
+        full e η = fsep (flent κ (tracked_value R b e η)) (fsep (pinned R η x) (opened R t b ν e x))
+
+        -- what its claim has of it
+        abbrev pub gained : ℕ → GName → Fml
+        gained e η = fsep (pinned R η x) (fex (Judged R) (lent_by R t b ν e η x))
+
+        abbrev Dressed : Toks → ℕ → GName → SProp 𝓤
+        Dressed ts e η = ⟦ full e η ⟧ ∗ ⟦ gained e η ⟧ ∗ lfts 𝓛 ts
+
+        lends_full : (ts : Toks) → Incl (span ts) R.lives → Incl (span ts) κ → Judged R → (e : ℕ)
+            → ⟦ content_at R (Some x) b e ⟧ ∗ lfts 𝓛 ts ⊢ H.⇛ (ex 𝓤 (Dressed ts e))
+        lends_full ts inc sp j e =
+            qed 𝓛 (‵ (content_at R (Some x) b e) ∷ raw (lfts 𝓛 ts) ∷ []) ∵ updating ! $
+            name_new ! tt (value_code R (Some x)) (λ η.
+            move ! (2 ∷ 1 ∷ []) $ fjoin ! $
+            fpack ! (Option R.Denot) (λ c. fsep (content_at R c b e) (fauth η (value_code R c))) (Some x) $
+            bor_new ! tt κ $
+            -- [the borrow; the way to its end; the name; the lifetimes]
+            move ! (2 ∷ []) $
+            use1 𝓛 (‵ (pinned R η x)) (𝓛.names.obs-res η (value_code R (Some x))) $ res_dup ! $
+            move ! (1 ∷ []) $ res_dup ! $ move ! (0 ∷ 3 ∷ []) $ join ! $ move ! (0 ∷ 4 ∷ []) $
+            use2 𝓛
+            (later (‵ (opened R t b ν e x) ⊛ ‵ (fex (Judged R) (lent_by R t b ν e η x))
+            ⊛ raw (lfts 𝓛 ts)))
+            (publishes 𝓛 t R L b ν e η ts inc sp x j) $
+            await ! tt $ split3 ! $
+            -- [opened; by; the lifetimes; pinned, twice; the way to the end]
+            move ! (3 ∷ 0 ∷ []) $ fjoin ! $ move ! (4 ∷ 0 ∷ []) $ fjoin ! $ move ! (3 ∷ 1 ∷ []) $ fjoin ! $
+            now ! $ show ! (Dressed ts e) η $ move ! (1 ∷ 0 ∷ 2 ∷ []) $ done !)
+
+        takes_full : (e : ℕ) (η : GName) → A.dead κ ∗ ⟦ full e η ⟧ ⊢ H.⇛ ⟦ content_at R (Some x) b e ⟧
+        takes_full e η =
+            qed 𝓛 (‵ (fdead κ) ∷ ‵ (full e η) ∷ []) ∵ updating ! $ move ! (1 ∷ []) $ fsplit3 ! $
+            -- [the way to its end; pinned; opened; its life is over]
+            move ! (3 ∷ 0 ∷ []) $ lent_back ! tt $ fpick ! (λ c. fsplit ! $
+            -- [what lies there; its authority; pinned; opened]
+            move ! (2 ∷ 1 ∷ []) $ res_agree ! (coded_option R.coded) {x = Some x} {y = c} (λ z. drop ! $ drop ! $
+            rewrite ! 0 (λ (u : Option R.Denot). ‵ (content_at R u b e)) (sym z) refl $ now ! $ keep ! (0 ∷ []) $ done !))
+
+        module _ (sharing : Option GName) (table k : ℕ) (ns : List ℕ) where
+          -- what the claim of the slot gets when the block is installed
+          abbrev pub won_of : ℕ → Fml
+          won_of j = fsep (right_owns t.filled j) (tells R sharing j (Some x))
+
+          -- the slot is born with its value, for the claim that has its pass
+          full_born : (i : ℕ) (η : GName) (w : Bool) → is_set_in ns i ≡ true
+              → ⟦ right_owns t.vacant (i + k) ⟧ ∗ ⟦ fsep (right_owns t.filled (i + k)) (untold_in sharing (i + k)) ⟧
+              ∗ ⟦ slots_side R w table t.pass (i + k) ⟧ ∗ ⟦ right_owns t.pass (i + k) ⟧ ∗ ⟦ full (value_offset R o i) η ⟧
+              ⊢ upd 𝓤 (⟦ numbered_slot R t b ν sharing table k o ns η i ⟧ ∗ ⟦ won_of (i + k) ⟧)
+          full_born i η false set =
+              let j : ℕ = i + k in
+              qed 𝓛 (‵ (right_owns t.vacant j) ∷ ‵ (fsep (right_owns t.filled j) (untold_in sharing j))
+              ∷ ‵ (right_owns t.pass j) ∷ ‵ (right_owns t.pass j) ∷ ‵ (full (value_offset R o i) η) ∷ []) ∵
+              keep ! (2 ∷ 3 ∷ []) $ by ! (right_once 𝓛 t.pass j _)
+          full_born i η true set =
+              let j : ℕ = i + k in
+              let e : ℕ = value_offset R o i in
+              let bit : Bool = is_set_in ns i in
+              let v : Option R.Denot = Some x in
+              let g = value_code R v in
+              let Told : Fml = tells R sharing j v in
+              let Z : SProp 𝓤 = ⟦ numbered_slot R t b ν sharing table k o ns η i ⟧ ∗ ⟦ won_of j ⟧ in
+              qed 𝓛 (‵ (right_owns t.vacant j) ∷ ‵ (fsep (right_owns t.filled j) (untold_in sharing j))
+              ∷ ‵ (right_owns table j) ∷ ‵ (right_owns t.pass j) ∷ ‵ (full e η) ∷ []) ∵
+              move ! (1 ∷ []) $ fsplit ! $ move ! (1 ∷ []) $
+              use1 𝓛 (raw (upd 𝓤 ⟦ Told ⟧)) (tells_it 𝓛 sharing j g) $ settle 𝓛 Z (‵ Told) $
+              suffices ! _ (upd_i 𝓤 Z) $ use1 𝓛 (‵ Told ⊛ ‵ Told) (told_dup 𝓛 sharing j g) $ split ! $
+              move ! (6 ∷ []) $ fsplit3 ! $
+              -- [the way to its end; pinned; opened; told, twice; filled; vacant; the right; the pass]
+              move ! (1 ∷ 3 ∷ []) $ fjoin ! $ move ! (5 ∷ 0 ∷ 2 ∷ []) $ fjoin3 ! $
+              -- [what stays; the way to its end; told; filled; the right; the pass]
+              move ! (4 ∷ 5 ∷ []) $ fjoin ! $ move ! (1 ∷ 0 ∷ []) $ fjoin ! $
+              nothing ! $ fpack ! (bit ≡ is_some v) (λ _. ftrue) set $ fjoin ! $
+              fpack ! (Option R.Denot × Who) (shared_slot_as R t b ν sharing table bit j e η) (v, claimed) $
+              move ! (1 ∷ 0 ∷ []) $ fjoin ! $ move ! (2 ∷ 1 ∷ []) $ fjoin ! $ move ! (1 ∷ 0 ∷ []) $ done !
+
+  -- ---- several slots one after another
+  each_apart : {X : Type 0} (F : X → ℕ → Fml) (xs ys : List X) (i j : ℕ) → j ≡ length xs + i
+      → ⟦ each F (xs ++ ys) i ⟧ ⊢ ⟦ each F xs i ⟧ ∗ ⟦ each F ys j ⟧
+  each_apart F [] ys i j is =
+      let at : i ≡ j = omega (arith, is) in
+      qed 𝓛 (‵ (each F ys i) ∷ []) ∵ rewrite ! 0 (λ (k : ℕ). ‵ (each F ys k)) at refl $ nothing ! $ done !
+  each_apart F (x ∷ xs) ys i j is =
+      qed 𝓛 (‵ (each F ((x ∷ xs) ++ ys) i) ∷ []) ∵ fsplit ! $ move ! (1 ∷ []) $
+      use1 𝓛 (‵ (each F xs (suc i)) ⊛ ‵ (each F ys j)) (each_apart F xs ys (suc i) j (omega (arith, is))) $ split ! $
+      move ! (2 ∷ 0 ∷ []) $ fjoin ! $ done !
+
+  each_together : {X : Type 0} (F : X → ℕ → Fml) (xs ys : List X) (i j : ℕ) → j ≡ length xs + i
+      → ⟦ each F xs i ⟧ ∗ ⟦ each F ys j ⟧ ⊢ ⟦ each F (xs ++ ys) i ⟧
+  each_together F [] ys i j is =
+      let at : j ≡ i = omega (arith, is) in
+      qed 𝓛 (‵ ftrue ∷ ‵ (each F ys j) ∷ []) ∵ drop ! $ rewrite ! 0 (λ (k : ℕ). ‵ (each F ys k)) at refl $ done !
+  each_together F (x ∷ xs) ys i j is =
+      qed 𝓛 (‵ (each F (x ∷ xs) i) ∷ ‵ (each F ys j) ∷ []) ∵ fsplit ! $ move ! (1 ∷ 2 ∷ []) $
+      use2 𝓛 (‵ (each F (xs ++ ys) (suc i))) (each_together F xs ys (suc i) j (omega (arith, is))) $
+      move ! (1 ∷ 0 ∷ []) $ fjoin ! $ done !
+
+  unborn_apart : (sharing : Option GName) (table n m r k j : ℕ) → n ≡ m + r → j ≡ m + k
+      → ⟦ all_unborn R sharing table t n k ⟧ ⊢ ⟦ all_unborn R sharing table t m k ⟧ ∗ ⟦ all_unborn R sharing table t r j ⟧
+  unborn_apart sharing table n zero r k j many is =
+      let few : n ≡ r = omega (arith, many) in
+      let at : k ≡ j = omega (arith, is) in
+      qed 𝓛 (‵ (all_unborn R sharing table t n k) ∷ []) ∵
+      rewrite ! 0 (λ (z : ℕ). ‵ (all_unborn R sharing table t z k)) few refl $
+      rewrite ! 0 (λ (z : ℕ). ‵ (all_unborn R sharing table t r z)) at refl $ nothing ! $ done !
+  unborn_apart sharing table zero (suc m) r k j many is = absurd (omega (arith, many))
+  unborn_apart sharing table (suc n) (suc m) r k j many is =
+      qed 𝓛 (‵ (all_unborn R sharing table t (suc n) k) ∷ []) ∵ fsplit ! $ move ! (1 ∷ []) $
+      use1 𝓛 (‵ (all_unborn R sharing table t m (suc k)) ⊛ ‵ (all_unborn R sharing table t r j))
+      (unborn_apart sharing table n m r (suc k) j (omega (arith, many)) (omega (arith, is))) $ split ! $
+      move ! (2 ∷ 0 ∷ []) $ fjoin ! $ done !
+
+  -- the names of a block's slots: of those before the filled one, its own, and of those behind it
+  pub record Names : Type 0 where
+    pub before : List ℕ
+    pub here : ℕ
+    pub behind : List ℕ
+
+  abbrev pub names_of : Names → List ℕ
+  names_of z = z.before ++ (z.here ∷ z.behind)
+
+  module _ (L : Laws R) (d : BucketView) (a : Global) (x : R.Denot) (at rest : ℕ) (many : len R d ≡ at + suc rest) where
     abbrev n : ℕ
     n = len R d
 
     abbrev τ : Ty
     τ = block_ty R n
 
-    abbrev pub Lies : Ptr → StandingBlock → Type 0
-    Lies p s = (s.at ≡ p) × (length s.names ≡ n) × Sized R n p
+    abbrev pub cs : List (Option R.Denot)
+    cs = with_first at x rest
 
-    -- a block whose room is lent: its flags, all unset, its slots, the way back, and the right to
-    -- free it
-    abbrev pub idle : Ptr → StandingBlock → Fml
-    idle p s =
-        fsep (flags R (block_of p) (count_of p) (empty_slots n)) (fsep
-        (each (bare_slot (block_of p) s.block_life (count_of p)) s.names 0)
+    as_many : length cs ≡ n
+    as_many = first_long x at rest ∙ sym many
+
+    -- the block with these names, whose lifetime is ν
+    abbrev pub block_as : Ptr → ℕ → Names → StandingBlock
+    block_as p ν z = record { at = p; block_life = ν; names = names_of z }
+
+    pub record Lies (p : Ptr) (z : Names) : Type 0 where
+      pub before : length z.before ≡ at
+      pub behind : length z.behind ≡ rest
+      pub sized : Sized R n p
+
+    names_long : (p : Ptr) (z : Names) → Lies p z → length (names_of z) ≡ n
+    names_long p z so =
+        let all : length (names_of z) ≡ length z.before + suc (length z.behind) = length-append z.before (z.here ∷ z.behind) in
+        omega (arith, all, so.before, so.behind, many)
+
+    -- a block whose room is lent: its flags, its slots, the way back, and the right to free it
+    abbrev pub idle : Ptr → ℕ → Names → Fml
+    idle p ν z =
+        fsep (flags R (block_of p) (count_of p) cs) (fsep
+        (fsep (each (bare_slot (block_of p) ν (count_of p)) z.before 0)
+        (fsep (full (block_of p) ν (count_of p) L x (value_offset R (count_of p) at) z.here)
+        (each (bare_slot (block_of p) ν (count_of p)) z.behind (suc at))))
         (fsep (back R (block_of p) (count_of p) n) (ghosts.dealloc_token a τ p)))
 
     -- a block that nobody else sees: the whole token of its own lifetime, and the block
-    abbrev pub private : Ptr → StandingBlock → Fml
-    private p s = fsep (flft (s.block_life ∷ []) full_share) (idle p s)
+    abbrev pub private : Ptr → ℕ → Names → Fml
+    private p ν z = fsep (flft (ν ∷ []) full_share) (idle p ν z)
 
-    abbrev Blank : Ptr → Fml
-    Blank p = block_owns R (ghosts.dealloc_token a) p (empty_slots n) 0
-
-    abbrev many : ℕ
-    many = length (empty_slots {X = R.Denot} n)
-
-    as_many : many ≡ n
-    as_many = let c : Option R.Denot = None in length-replicate n c
+    abbrev pub Blank : Ptr → Fml
+    Blank p = block_owns R (ghosts.dealloc_token a) p cs 0
 
     pub placed : (p : Ptr) → ⟦ Blank p ⟧ ⊢ guard 𝓤 (InBlock p) ⟦ Blank p ⟧
     placed p =
         qed 𝓛 (‵ (Blank p) ∷ []) ∵ fsplit ! $ fpick ! (λ so. drop ! $ check ! so.0 $ nothing ! $
-        fpack ! (InBlock p × Fits R many) (λ _. ftrue) so $ fjoin ! $ done !)
+        fpack ! (InBlock p × Fits R (length cs)) (λ _. ftrue) so $ fjoin ! $ done !)
 
-    abbrev pub Out : Ptr → StandingBlock → SProp 𝓤
-    Out p s = guard 𝓤 (Lies p s) ⟦ private p s ⟧
+    -- what the claim of the filled slot has beside the private block
+    abbrev pub Gained : Ptr → ℕ → Names → Fml
+    Gained p ν z = gained (block_of p) ν (count_of p) L x (value_offset R (count_of p) at) z.here
 
-    pub lend_out : (p : Ptr) → ⟦ Blank p ⟧ ⊢ H.⇛ (ex 𝓤 (Out p))
-    lend_out p =
+    pub lend_out : (s : Share) (υ : Lft) (r : Share) → Incl υ R.lives → Judged R → (p : Ptr)
+        → ⟦ Blank p ⟧ ∗ A.lft t.life s ∗ A.lft υ r
+        ⊢ H.⇛ (ex 𝓤 (λ (y : ℕ × Names). guard 𝓤 (Lies p y.1)
+        (⟦ private p y.0 y.1 ⟧ ∗ ⟦ Gained p y.0 y.1 ⟧ ∗ A.lft t.life s ∗ A.lft υ r)))
+    lend_out s υ r alive j p =
         let b : ℕ = block_of p in
         let o : ℕ = count_of p in
-        qed 𝓛 (‵ (Blank p) ∷ []) ∵ updating ! $ fsplit3 ! $ fpick ! (λ so. drop ! $
+        let Lent : ℕ × Names → SProp 𝓤 = λ y.
+        guard 𝓤 (Lies p y.1) (⟦ private p y.0 y.1 ⟧ ∗ ⟦ Gained p y.0 y.1 ⟧ ∗ A.lft t.life s ∗ A.lft υ r) in
+        let first_slots : List (Option R.Denot) = empty_slots at in
+        let long : length first_slots ≡ at = (let none : Option R.Denot = None in length-replicate at none) in
+        qed 𝓛 (‵ (Blank p) ∷ ‵ (flft t.life s) ∷ ‵ (flft υ r) ∷ []) ∵ updating ! $ fsplit3 ! $ fpick ! (λ so. drop ! $
         move ! (1 ∷ []) $ fsplit3 ! $
-        -- [the slots; the way back; the right to free; the words]
+        -- [the slots; the way back; the right to free; the words; the life's token; the other]
         move ! (1 ∷ []) $ rewrite ! 0 (λ (m : ℕ). ‵ (back R b o m)) as_many refl $ move ! (2 ∷ []) $
         rewrite ! 0 (λ (m : ℕ). ‵ (ghosts.dealloc_token a (block_ty R m) p)) as_many refl $
         use1 𝓛 (given (Testable p) (‵ (ghosts.dealloc_token a τ p)))
         (fact_use 𝓤 (Testable p) (dealloc_token-Testable 𝓛 a τ p)
         (guard_i 𝓤 (Testable p) ⟦ ghosts.dealloc_token a τ p ⟧)) $
         learn ! (λ test. lft_new ! tt (λ ν.
-        -- [its own token; the right to free; the way back; the slots; the words]
+        -- [its own token; the right to free; the way back; the slots; the words; the life's token; the other]
         move ! (3 ∷ []) $
+        use1 𝓛 (‵ (each (slot R b o) first_slots 0) ⊛ ‵ (each (slot R b o) (Some x ∷ empty_slots rest) at))
+        (each_apart (slot R b o) first_slots (Some x ∷ empty_slots rest) 0 at (omega (arith, long))) $ split ! $
         use1 𝓛 (later (some (λ (names : List ℕ).
-        given (length names ≡ n) (‵ (each (bare_slot b ν o) names 0)))))
-        (lends_all b ν o n 0) $
-        await ! tt $ pick ! (λ names. learn ! (λ long.
-        move ! (3 ∷ 2 ∷ []) $ fjoin ! $ move ! (3 ∷ 1 ∷ 0 ∷ []) $ fjoin3 ! $ move ! (1 ∷ 0 ∷ []) $ fjoin ! $
-        now ! $ show ! (Out p) record { at = p; block_life = ν; names = names } $
-        check ! (refl, long, (so.0, test, subst (Fits R) as_many so.1)) $ done !)))))
+        given (length names ≡ at) (‵ (each (bare_slot b ν o) names 0)))))
+        (lends_all b ν o at 0) $
+        await ! tt $ pick ! (λ before. learn ! (λ long_before. move ! (1 ∷ []) $ fsplit ! $ move ! (1 ∷ []) $
+        use1 𝓛 (later (some (λ (names : List ℕ).
+        given (length names ≡ rest) (‵ (each (bare_slot b ν o) names (suc at))))))
+        (lends_all b ν o rest (suc at)) $
+        await ! tt $ pick ! (λ behind. learn ! (λ long_behind.
+        -- [the slots behind; the filled slot; the slots before; its own token; the right to free; the way back; the words; the life's
+        -- token; the other]
+        let ts : Toks = (ν ∷ [], full_share) ∷ (t.life, s) ∷ (υ, r) ∷ [] in
+        move ! (3 ∷ 7 ∷ 8 ∷ []) $ group ! 3 $ move ! (2 ∷ 0 ∷ []) $
+        use2 𝓛 (later (some (λ (η : GName).
+        ‵ (full b ν o L x (value_offset R o at) η) ⊛ ‵ (gained b ν o L x (value_offset R o at) η) ⊛ raw (lfts 𝓛 ts))))
+        (lends_full b ν o L x ts
+        (Incl-trans (meet_⊑_right (ν ∷ []) (t.life ++ υ)) (Incl-trans (meet_⊑_right t.life υ) alive))
+        (⊑_meet ((ν ∷ []) ++ (t.life ++ υ)) (ν ∷ []) t.life (meet_⊑_left (ν ∷ []) (t.life ++ υ)) (Incl-trans (meet_⊑_right (ν ∷ []) (t.life ++ υ)) (meet_⊑_left t.life υ)))
+        j (value_offset R o at)) $
+        await ! tt $ pick ! (λ η. split3 ! $
+        move ! (2 ∷ []) $ use1 𝓛 (‵ (flft (ν ∷ []) full_share) ⊛ ‵ (flft t.life s) ⊛ ‵ (flft υ r)) (id⊢ 𝓤 _) $ split3 ! $
+        -- [its own token; the life's; the other; the filled slot; its claim's; the slots behind; the slots before; the right to free;
+        -- the way back; the words]
+        move ! (8 ∷ 7 ∷ []) $ fjoin ! $
+        -- [the ends; its own token; the life's; the other; the filled slot; its claim's; the slots behind; the slots before; the
+        -- words]
+        move ! (4 ∷ 6 ∷ []) $ fjoin ! $ move ! (6 ∷ 0 ∷ []) $ fjoin ! $
+        -- [the slots; the ends; its own token; the life's; the other; its claim's; the words]
+        move ! (6 ∷ 0 ∷ 1 ∷ []) $ fjoin3 ! $ move ! (1 ∷ 0 ∷ []) $ fjoin ! $
+        -- [the private block; the life's token; the other; its claim's]
+        move ! (0 ∷ 3 ∷ 1 ∷ 2 ∷ []) $
+        let z : Names = record { before = before; here = η; behind = behind } in
+        now ! $ show ! Lent (ν, z) $
+        check ! (record { before = long_before; behind = long_behind; sized = (so.0, test, subst (Fits R) as_many so.1) }) $
+        done !))))))))
 
     -- the whole token ends the lifetime, and the block comes back
-    pub take_back : (p : Ptr) (s : StandingBlock) → Lies p s → ⟦ private p s ⟧ ⊢ H.⇛ ⟦ Blank p ⟧
-    take_back p s so = let b : ℕ = block_of p in let o : ℕ = count_of p in let κ₀ : Lft = s.block_life ∷ t.life in
-        qed 𝓛 (‵ (private p s) ∷ []) ∵ updating ! $ fsplit3 ! $ lft_end ! tt $
-        use1 𝓛 (‵ (fdead κ₀))
-        (𝓛.lfts.dead-incl κ₀ (s.block_life ∷ []) (meet_⊑_left (s.block_life ∷ []) t.life)) $
-        move ! (2 ∷ []) $ fsplit3 ! $
-        -- [the slots; the way back; the right to free; its life is over; the words]
-        move ! (1 ∷ []) $ rewrite ! 0 (λ (m : ℕ). ‵ (back R b o m)) (sym as_many) refl $
-        move ! (2 ∷ []) $
+    pub take_back : (p : Ptr) (ν : ℕ) (z : Names) → Lies p z → ⟦ private p ν z ⟧ ⊢ H.⇛ ⟦ Blank p ⟧
+    take_back p ν z so =
+        let b : ℕ = block_of p in
+        let o : ℕ = count_of p in
+        let κ₀ : Lft = ν ∷ t.life in
+        let first_slots : List (Option R.Denot) = empty_slots at in
+        let long : length first_slots ≡ at = (let none : Option R.Denot = None in length-replicate at none) in
+        qed 𝓛 (‵ (private p ν z) ∷ []) ∵ updating ! $ fsplit3 ! $ lft_end ! tt $
+        use1 𝓛 (‵ (fdead κ₀)) (𝓛.lfts.dead-incl κ₀ (ν ∷ []) (meet_⊑_left (ν ∷ []) t.life)) $
+        use1 𝓛 (‵ (fdead κ₀) ⊛ ‵ (fdead κ₀)) (𝓛.lfts.dead_dup κ₀) $ split ! $
+        use1 𝓛 (‵ (fdead κ₀) ⊛ ‵ (fdead κ₀)) (𝓛.lfts.dead_dup κ₀) $ split ! $
+        -- [its life is over, three times; the words; the slots and the ends]
+        move ! (4 ∷ []) $ fsplit3 ! $ fsplit3 ! $
+        -- [the slots before; the filled one; those behind; the way back; the right to free; its life is over, three times; the words]
+        move ! (5 ∷ 0 ∷ []) $
+        use2 𝓛 (later (‵ (each (slot R b o) (empty_slots (length z.before)) 0))) (takes_all b ν o z.before 0) $ await ! tt $
+        rewrite ! 0 (λ (m : ℕ). ‵ (each (slot R b o) (empty_slots m) 0)) so.before refl $
+        move ! (5 ∷ 1 ∷ []) $
+        use2 𝓛 (later (‵ (content_at R (Some x) b (value_offset R o at)))) (takes_full b ν o L x (value_offset R o at) z.here) $
+        await ! tt $ move ! (5 ∷ 2 ∷ []) $
+        use2 𝓛 (later (‵ (each (slot R b o) (empty_slots (length z.behind)) (suc at)))) (takes_all b ν o z.behind (suc at)) $
+        await ! tt $ rewrite ! 0 (λ (m : ℕ). ‵ (each (slot R b o) (empty_slots m) (suc at))) so.behind refl $
+        -- [the slots behind; the filled one; those before; the way back; the right to free; the words]
+        move ! (1 ∷ 0 ∷ []) $ fjoin ! $ move ! (1 ∷ 0 ∷ []) $
+        use2 𝓛 (‵ (each (slot R b o) cs 0))
+        (each_together (slot R b o) first_slots (Some x ∷ empty_slots rest) 0 at (omega (arith, long))) $
+        -- [the slots; the way back; the right to free; the words]
+        move ! (1 ∷ []) $ rewrite ! 0 (λ (m : ℕ). ‵ (back R b o m)) (sym as_many) refl $ move ! (2 ∷ []) $
         rewrite ! 0 (λ (m : ℕ). ‵ (ghosts.dealloc_token a (block_ty R m) p)) (sym as_many) refl $
-        move ! (1 ∷ 0 ∷ []) $ fjoin ! $ move ! (2 ∷ 1 ∷ []) $
-        use2 𝓛 (later (‵ (each (slot R b o) (empty_slots (length s.names)) 0)))
-        (takes_all b s.block_life o s.names 0) $
-        await ! tt $
-        rewrite ! 0 (λ (m : ℕ). ‵ (each (slot R b o) (empty_slots m) 0)) so.1 refl $ move ! (2 ∷ 0 ∷ 1 ∷ []) $ fjoin3 ! $
-        nothing ! $
-        fpack ! (InBlock p × Fits R many) (λ _. ftrue)
-        (so.2.0, subst (Fits R) (sym as_many) so.2.2) $
+        move ! (1 ∷ 0 ∷ []) $ fjoin ! $ move ! (1 ∷ 0 ∷ []) $ fjoin ! $ move ! (1 ∷ 0 ∷ []) $ fjoin ! $ nothing ! $
+        fpack ! (InBlock p × Fits R (length cs)) (λ _. ftrue) (so.sized.0, subst (Fits R) (sym as_many) so.sized.2) $
         fjoin ! $ now ! $ done !
 
-    -- the block's slots are born under the turn
-    born_block : (p : Ptr) (s : StandingBlock) → length s.names ≡ n
-        → ⟦ all_unborn R d.sharing d.table t n (first R d) ⟧ ∗ ⟦ idle p s ⟧
-        ⊢ ⟦ fsep (block_stands R d t p s) (heap_token τ p) ⟧
-    born_block p s long =
+    -- the id of the filled slot
+    abbrev pub id : ℕ
+    id = at + first R d
+
+    -- the block's slots are born under the turn, the filled one for the claim that has its pass
+    born_block : (p : Ptr) (ν : ℕ) (z : Names) → Lies p z
+        → ⟦ all_unborn R d.sharing d.table t n (first R d) ⟧ ∗ ⟦ idle p ν z ⟧ ∗ ⟦ right_owns t.pass id ⟧
+        ⊢ upd 𝓤 (⟦ fsep (block_stands R d t p (block_as p ν z)) (heap_token τ p) ⟧
+        ∗ ⟦ fsep (right_owns t.filled id) (tells R d.sharing id (Some x)) ⟧)
+    born_block p ν z so =
         let b : ℕ = block_of p in
         let o : ℕ = count_of p in
         let k : ℕ = first R d in
-        let same : k ≡ 0 + k = omega arith in
-        qed 𝓛 (‵ (all_unborn R d.sharing d.table t n k) ∷ ‵ (idle p s) ∷ []) ∵
-        rewrite ! 0 (λ (m : ℕ). ‵ (all_unborn R d.sharing d.table t m k)) (sym long) refl $
-        rewrite ! 0 (λ (m : ℕ). ‵ (all_unborn R d.sharing d.table t (length s.names) m)) same refl $
-        move ! (1 ∷ []) $ fsplit3 ! $ fpick ! (λ ns. fsplit3 ! $ fpick ! (λ are. drop ! $ move ! (1 ∷ []) $ drop ! $
-        rewrite ! 0 (λ (m : ℕ). ‵ (each (flags_at R m b o) ns 0)) as_many refl $
-        -- [the words; the slots; the way back and the right to free; what waits]
-        move ! (3 ∷ 1 ∷ []) $
+        let s : StandingBlock = block_as p ν z in
+        let Won : Fml = fsep (right_owns t.filled id) (tells R d.sharing id (Some x)) in
+        let Z : SProp 𝓤 = ⟦ fsep (block_stands R d t p s) (heap_token τ p) ⟧ ∗ ⟦ Won ⟧ in
+        let Rest : ℕ → Fml = λ m. all_unborn R d.sharing d.table t rest m in
+        let Unborn : ℕ → ℕ → Fml = λ m j. all_unborn R d.sharing d.table t m j in
+        let from_first : k ≡ 0 + k = omega arith in
+        let next : suc id ≡ suc at + k = omega arith in
+        qed 𝓛 (‵ (Unborn n k) ∷ ‵ (idle p ν z) ∷ ‵ (right_owns t.pass id) ∷ []) ∵
+        use1 𝓛 (‵ (Unborn at k) ⊛ ‵ (Unborn (suc rest) id)) (unborn_apart d.sharing d.table n at (suc rest) k id many refl) $ split ! $
+        move ! (1 ∷ []) $ fsplit ! $
+        -- [the filled slot, unborn; the slots behind, unborn; the slots before, unborn; the block; the pass]
+        fsplit3 ! $ move ! (2 ∷ []) $ fpick ! (λ w. move ! (5 ∷ []) $ fsplit3 ! $ fpick ! (λ ns. fsplit3 ! $ fpick ! (λ are. drop ! $
+        -- [the words; nothing; the slots; the ends; what waits; vacant; filled; the slots behind, unborn; before, unborn; the pass]
+        move ! (1 ∷ []) $ drop ! $ move ! (1 ∷ []) $ fsplit3 ! $
+        -- [the slots before; the filled one; those behind; the words; the ends; what waits; vacant; filled; the slots behind, unborn;
+        -- before, unborn; the pass]
+        let N : GName → ℕ → Fml = numbered_slot R t b ν d.sharing d.table k o ns in
+        move ! (6 ∷ 7 ∷ 5 ∷ 10 ∷ 1 ∷ []) $ group ! 5 $
+        use1 𝓛 (raw (upd 𝓤 (⟦ N z.here at ⟧ ∗ ⟦ Won ⟧)))
+        (full_born b ν o L x d.sharing d.table k ns at z.here w (here_set R x at rest ns are.1)) $
+        settle 𝓛 Z (‵ (N z.here at) ⊛ ‵ Won) $ suffices ! _ (upd_i 𝓤 Z) $ split ! $
+        -- [the filled slot; what its claim gets; the slots before; behind; the words; the ends; behind, unborn; before, unborn]
+        move ! (7 ∷ []) $ rewrite ! 0 (λ (m : ℕ). ‵ (Unborn at m)) from_first refl $
+        rewrite ! 0 (λ (m : ℕ). ‵ (Unborn m (0 + k))) (sym so.before) refl $ move ! (0 ∷ 3 ∷ []) $
+        use2 𝓛 (‵ (each N z.before 0))
+        (born_all b ν o d.sharing d.table k ns z.before 0 (λ j near.
+        let is : j ≡ j + 0 = omega arith in
+        subst (λ (i : ℕ). is_set_in ns i ≡ false) is
+        (before_clear R x at rest ns are.1 j (omega (arith, near, so.before))))) $
+        -- [the slots before; the filled slot; what its claim gets; behind; the words; the ends; behind, unborn]
+        move ! (6 ∷ []) $ rewrite ! 0 (λ (m : ℕ). ‵ (Rest m)) next refl $
+        rewrite ! 0 (λ (m : ℕ). ‵ (Unborn m (suc at + k))) (sym so.behind) refl $ move ! (0 ∷ 4 ∷ []) $
+        use2 𝓛 (‵ (each N z.behind (suc at)))
+        (born_all b ν o d.sharing d.table k ns z.behind (suc at) (λ j near.
+        behind_clear R x at rest ns are.1 j (j + suc at) refl)) $
+        -- [the slots behind; before; the filled slot; what its claim gets; the words; the ends]
+        move ! (2 ∷ 0 ∷ []) $ fjoin ! $ move ! (1 ∷ 0 ∷ []) $
         use2 𝓛 (‵ (slots_stand R d t p s ns))
-        (born_all b s.block_life o d.sharing d.table k ns (none_set R n ns are.1) s.names 0) $
-        move ! (1 ∷ 0 ∷ []) $ fjoin ! $
-        nothing ! $ fpack ! (AreFlagWords R n ns) (λ _. ftrue) (clear_words R n ns are.1 are.0) $
+        (each_together N z.before (z.here ∷ z.behind) 0 at (omega (arith, so.before))) $
+        -- [the slots; what its claim gets; the words; the ends]
+        move ! (2 ∷ []) $ rewrite ! 0 (λ (m : ℕ). ‵ (each (flags_at R m b o) ns 0)) as_many refl $ move ! (0 ∷ 1 ∷ []) $
+        fjoin ! $ nothing ! $ fpack ! (AreFlagWords R n ns) (λ _. ftrue) (flag_words R x at rest ns are.1 n many are.0) $
         fjoin ! $ fpack ! (List ℕ) (slots_under R n b o (slots_stand R d t p s)) ns $
-        move ! (1 ∷ []) $ fsplit ! $ move ! (2 ∷ 0 ∷ []) $ fjoin ! $ move ! (1 ∷ []) $
-        fpack ! Global (λ z. ghosts.dealloc_token z τ p) a $ move ! (1 ∷ 0 ∷ []) $ fjoin ! $
-        done !))
+        move ! (2 ∷ []) $ fsplit ! $ move ! (2 ∷ 0 ∷ []) $ fjoin ! $ move ! (1 ∷ []) $
+        fpack ! Global (λ y. ghosts.dealloc_token y τ p) a $ move ! (1 ∷ 0 ∷ []) $ fjoin ! $ done !)))
 
     -- the exchange of null for the block
-    module _ (b o : ℕ) (q : Share) (nb no : ℕ) (s : StandingBlock) (so : Lies (block_ptr nb no) s) where
+    module _ (b o : ℕ) (q : Share) (nb no : ℕ) (ν : ℕ) (z : Names) (so : Lies (block_ptr nb no) z) where
       abbrev new : Ptr
       new = block_ptr nb no
+
+      abbrev s : StandingBlock
+      s = block_as new ν z
 
       abbrev J : Fml
       J = bucket_invariant R d t b o
@@ -299,52 +595,70 @@ module _ {M : Type 1} {𝓤 : Ura M} (𝓛 : Logic 𝓤) (R : RattleType) (t : T
       abbrev Held : Ptr → Fml
       Held p = fsep (cell b o p) (beside_pointer R d t p)
 
+      abbrev Pass : Fml
+      Pass = right_owns t.pass id
+
+      abbrev pub Won : Fml
+      Won = fsep (right_owns t.filled id) (tells R d.sharing id (Some x))
+
       abbrev pub won : Ptr → Fml
-      won p = part 𝓛 R d t new (s, right full_share)
+      won p = fsep (part 𝓛 R d t new (s, right full_share)) Won
 
       abbrev pub lost : Ptr → Fml
-      lost p = fsep (private new s) (glimpse 𝓛 R d t ffalse ftrue p)
+      lost p = fsep (fsep (private new ν z) (glimpse 𝓛 R d t ffalse ftrue p)) Pass
 
       abbrev F : Ptr × Bool → SProp 𝓤
       F = Compared 𝓛 t.life q J b o null_ptr new won lost
 
-      found : (p : Ptr) → ⟦ cell b o p ⟧ ∗ ⟦ beside_pointer R d t p ⟧ ∗ ⟦ private new s ⟧ ∗ ⟦ grown d ⟧ ⊢ ex 𝓤 F
+      abbrev IsAs : Type 0
+      IsAs = (s.at ≡ new) × (length s.names ≡ n) × Sized R n new
+
+      is_as : IsAs
+      is_as = (refl, names_long new z so, so.sized)
+
+      found : (p : Ptr) → ⟦ cell b o p ⟧ ∗ ⟦ beside_pointer R d t p ⟧ ∗ ⟦ private new ν z ⟧ ∗ ⟦ grown d ⟧ ∗ ⟦ Pass ⟧ ⊢ ex 𝓤 F
       found null_ptr = let m = block_code s in let γ : GName = t.which in let G : SProp 𝓤 = ⟦ J ⟧ ∗ ⟦ won null_ptr ⟧ in
           qed 𝓛
-          (‵ (cell b o null_ptr) ∷ ‵ (beside_pointer R d t null_ptr) ∷ ‵ (private new s) ∷ ‵ (grown d) ∷ []) ∵
+          (‵ (cell b o null_ptr) ∷ ‵ (beside_pointer R d t null_ptr) ∷ ‵ (private new ν z) ∷ ‵ (grown d) ∷ ‵ Pass ∷ []) ∵
           show ! F (null_ptr, true) $ frame ! $
           use0 𝓛 (‵ (alike null_ptr null_ptr true)) (alike_null 𝓛 null_ptr (lit< tt)) $ frame ! $
           assume ! (‵ (cell b o new)) $ move ! (1 ∷ []) $ fsplit3 ! $ drop ! $
           use1 𝓛 (raw (upd 𝓤 (A.obs γ m ∗ A.auth γ m))) (𝓛.names.name_set_upd γ gnil gnil m) $
-          settle 𝓛 G (‵ (fobs γ m) ⊛ ‵ (fauth γ m)) $ suffices ! _ (upd_i 𝓤 G) $ split ! $
+          settle 𝓛 G (‵ (fobs γ m) ⊛ ‵ (fauth γ m)) $ split ! $
+          -- [what the name says now; its authority; what waits; the pointer; the private block; what it shows; the pass]
           use1 𝓛 (‵ (fres γ m)) (𝓛.names.obs-res γ m) $ move ! (1 ∷ 0 ∷ 5 ∷ []) $ fjoin3 ! $ move ! (3 ∷ []) $ fsplit ! $
-          -- [its own token; the block; settled; what waits; the pointer]
-          move ! (3 ∷ 1 ∷ []) $ use2 𝓛 (‵ (fsep (block_stands R d t new s) (heap_token τ new))) (born_block new s so.1) $
-          move ! (2 ∷ 1 ∷ 0 ∷ []) $ fjoin3 ! $ nothing ! $ fpack ! (Lies new s) (λ _. ftrue) so $ fjoin ! $
+          -- [its own token; the block; settled; what waits; the pointer; the pass]
+          move ! (3 ∷ 1 ∷ 5 ∷ []) $
+          use3 𝓛 (raw (upd 𝓤 (⟦ fsep (block_stands R d t new s) (heap_token τ new) ⟧ ∗ ⟦ Won ⟧))) (born_block new ν z so) $
+          settle 𝓛 G (‵ (fsep (block_stands R d t new s) (heap_token τ new)) ⊛ ‵ Won) $
+          suffices ! _ (upd_i 𝓤 G) $ split ! $
+          -- [the block; what the claim gets; its own token; settled; the pointer]
+          move ! (3 ∷ 2 ∷ 0 ∷ []) $ fjoin3 ! $ nothing ! $ fpack ! IsAs (λ _. ftrue) is_as $ fjoin ! $
           use1 𝓛 (‵ (standing R d t new (s, left full_share))
           ⊛ ‵ (part 𝓛 R d t new (s, right full_share)))
           (parted 𝓛 R d t new (s, full_share)) $
           split ! $
           fpack ! (StandingBlock × Share) (standing R d t new) (s, left full_share) $
-          move ! (2 ∷ 0 ∷ []) $ fjoin ! $ fpack ! Ptr Held new $ done !
+          -- [beside the pointer; the part; what the claim gets; the pointer]
+          move ! (1 ∷ 2 ∷ []) $ fjoin ! $ move ! (2 ∷ 1 ∷ []) $ fjoin ! $ fpack ! Ptr Held new $ done !
       found (block_ptr pb po) =
           let p : Ptr = block_ptr pb po in
-          qed 𝓛 (‵ (cell b o p) ∷ ‵ (beside_pointer R d t p) ∷ ‵ (private new s) ∷ ‵ (grown d) ∷ []) ∵
-          keep ! (0 ∷ 1 ∷ 2 ∷ []) $ show ! F (p, false) $ frame ! $ fpick ! (λ z. fsplit ! $ fpick ! (λ h. drop ! $
-          nothing ! $ fpack ! (Lies p z.0) (λ _. ftrue) h $ fjoin ! $
-          use1 𝓛 (‵ (standing R d t p (z.0, left z.1)) ⊛ ‵ (part 𝓛 R d t p (z.0, right z.1)))
-          (parted 𝓛 R d t p z) $
-          split ! $ fpack ! (StandingBlock × Share) (standing R d t p) (z.0, left z.1) $
+          qed 𝓛 (‵ (cell b o p) ∷ ‵ (beside_pointer R d t p) ∷ ‵ (private new ν z) ∷ ‵ (grown d) ∷ ‵ Pass ∷ []) ∵
+          keep ! (0 ∷ 1 ∷ 2 ∷ 4 ∷ []) $ show ! F (p, false) $ frame ! $ fpick ! (λ y. fsplit ! $ fpick ! (λ h. drop ! $
+          nothing ! $ fpack ! ((y.0.at ≡ p) × (length y.0.names ≡ n) × Sized R n p) (λ _. ftrue) h $ fjoin ! $
+          use1 𝓛 (‵ (standing R d t p (y.0, left y.1)) ⊛ ‵ (part 𝓛 R d t p (y.0, right y.1)))
+          (parted 𝓛 R d t p y) $
+          split ! $ fpack ! (StandingBlock × Share) (standing R d t p) (y.0, left y.1) $
           use0 𝓛 (‵ (alike p null_ptr false)) (alike_null 𝓛 p h.2.1) $ frame ! $
           assume ! (‵ (cell b o p)) $ suffices ! _ (upd_i 𝓤 (⟦ J ⟧ ∗ ⟦ lost p ⟧)) $ fjoin ! $
           fpack ! Ptr Held p $ frame ! $
-          fpack ! (StandingBlock × Share) (part 𝓛 R d t p) (z.0, right z.1) $ nothing ! $
-          move ! (1 ∷ 0 ∷ []) $ fjoin ! $ move ! (1 ∷ 0 ∷ []) $ fjoin ! $ done !))
+          fpack ! (StandingBlock × Share) (part 𝓛 R d t p) (y.0, right y.1) $ nothing ! $
+          move ! (1 ∷ 0 ∷ []) $ fjoin ! $ move ! (1 ∷ 0 ∷ []) $ fjoin ! $ fjoin ! $ done !))
 
-      pub offers : A.inv (fbor t.life J) ∗ (A.lft t.life q ∗ (⟦ private new s ⟧ ∗ ⟦ grown d ⟧))
+      pub offers : A.inv (fbor t.life J) ∗ (A.lft t.life q ∗ (⟦ private new ν z ⟧ ∗ ⟦ grown d ⟧ ∗ ⟦ Pass ⟧))
           ⊢ compares 𝓛 (block_ptr b o) null_ptr new (λ p. fsep (flft t.life q) (won p))
           (λ p. fsep (flft t.life q) (lost p))
       offers =
-          opened_to_compare 𝓛 t.life q J b o null_ptr new won lost (⟦ private new s ⟧ ∗ ⟦ grown d ⟧)
-          (qed 𝓛 (‵ J ∷ ‵ (private new s) ∷ ‵ (grown d) ∷ []) ∵ suffices ! _ (upd_i 𝓤 (ex 𝓤 F)) $ fpick ! (λ p.
+          opened_to_compare 𝓛 t.life q J b o null_ptr new won lost (⟦ private new ν z ⟧ ∗ ⟦ grown d ⟧ ∗ ⟦ Pass ⟧)
+          (qed 𝓛 (‵ J ∷ ‵ (private new ν z) ∷ ‵ (grown d) ∷ ‵ Pass ∷ []) ∵ suffices ! _ (upd_i 𝓤 (ex 𝓤 F)) $ fpick ! (λ p.
           fsplit ! $ by ! (found p)))

@@ -51,15 +51,6 @@ looked_in_vain Standing = false
 looked_in_vain Vacant = false
 looked_in_vain (Holding v) = false
 
--- what a claim has learnt that has looked, once its bucket stands: where it was missing, that the
--- slot is vacant
-abbrev pub with_bucket : {V : Type 0} → Learnt V → Learnt V
-with_bucket Unknown = Unknown
-with_bucket Missing = Vacant
-with_bucket Standing = Standing
-with_bucket Vacant = Vacant
-with_bucket (Holding v) = Holding v
-
 -- the value that the slot is known to hold, if any
 abbrev pub value_held : {V : Type 0} → Learnt V → Option V
 value_held Unknown = None

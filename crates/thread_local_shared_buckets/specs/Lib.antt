@@ -10,6 +10,7 @@ pub mod Positions
 pub mod AtHand
 pub mod Claims
 pub mod Known
+pub mod Room
 pub mod Views
 pub mod Announcing
 pub mod Shared

@@ -1,11 +1,12 @@
 //! A claim of a slot, in three states: its bucket was missing, the slot is vacant, the slot holds a
 //! value. It begins in any of them, and goes on from one to the next.
-ghost use Rattle.std.specs.Prelude.{◌≡◌, ◌≢◌, ◌/◌, ◌^◌, ◌<◌, ◌⊎◌, true, Some, IsSome, is_some, OnOk, OnErr, MatchBool, MatchOption};
-ghost use Rattle.thread_local_base.specs.Learnt.{Unknown, Missing, Vacant, Holding, Finds, learnt_by_install, learnt_by_publish};
+ghost use Rattle.std.specs.Prelude.{◌≡◌, ◌≢◌, ◌/◌, ◌^◌, ◌<◌, ◌⊎◌, true, Some, None, IsSome, is_some, IfOk, OnErr, MatchBool, MatchOption, slice_set};
+ghost use Rattle.thread_local_base.specs.Learnt.{Unknown, Missing, Vacant, Holding, Finds, learnt_by_publish};
 ghost use Rattle.thread_local_base.specs.Place.{IsPlaceOf};
-ghost use Rattle.thread_local_bucket_pointers.specs.Slots.{empty_slots, flag_word_at};
+ghost use Rattle.thread_local_bucket_pointers.specs.Slots.{empty_slots, slot_value, flag_word_at};
 ghost use Rattle.thread_local_shared_buckets.specs.Announcing.{BeginsWithFirst};
-ghost use Rattle.thread_local_shared_buckets.specs.Known.{HasLooked, value_held, with_bucket};
+ghost use Rattle.thread_local_shared_buckets.specs.Known.{HasLooked, value_held};
+ghost use Rattle.thread_local_shared_buckets.specs.Room.{HasRoom};
 
 use crate::claimed::{ClaimedSlot, HOLDING, MISSING};
 use crate::replaced::replace_with;
@@ -13,7 +14,7 @@ use crate::{Announcements, SharedBucket};
 use std::alloc::{AllocError, Global};
 use std::marker::Model;
 use thread_local_base::{Thread, bucket_size};
-use thread_local_bucket_pointers::{Block, flag_word_at};
+use thread_local_bucket_pointers::{Block, BucketPointer, flag_word_at};
 use thread_local_ids::{HeldId, Reached, Right, Token};
 
 /// The slot of an id, for the holder of the id, whose right lies with the slot meanwhile. Contracts
@@ -21,8 +22,8 @@ use thread_local_ids::{HeldId, Reached, Right, Token};
 /// the slot: that the bucket was missing, that the slot is vacant, or the value that the slot
 /// holds.
 ///
-/// No call waits, and only `find_bucket` takes memory. Only `look`, `look_again`, `find_bucket`,
-/// `install` and `publish` make atomic steps. These ask for the place of the id, which the caller
+/// No call waits, and only `room` takes memory. Only `look`, `look_again`, `room`, `install`,
+/// `publish_in` and `publish` make atomic steps. These ask for the place of the id, which the caller
 /// computes once.
 pub struct Claim<'a, T> {
     slot: ClaimedSlot<'a, T>,
@@ -112,15 +113,93 @@ impl<'a, T> Claim<'a, T> {
         })
     }
 
-    /// Announces the claim's bucket, which was missing, and installs a block for it by one compare and
-    /// exchange. Where another block was installed first, that one stays, and this one is freed.
-    /// Either way the slot is vacant from then on. All ids up to this one were held at once.
+    /// Makes room for a value in a slot that is empty. It looks again for a bucket that was missing, and
+    /// where it is missing still, makes a block for it: the one request for memory. Where it answers no
+    /// block, the slot is vacant.
+    #[inline]
+    pub fn room(
+        &mut self,
+        alloc: &Global,
+        thread: Thread,
+    ) -> Result<Option<Block<T, Global>>, AllocError>
+        requires empty { (self.old.learnt ≡ Missing) ⊎ (self.old.learnt ≡ Vacant) }
+        requires place { IsPlaceOf thread.bucket thread.index self.old.id }
+        ensures same_slot { (self.new.table ≡ self.old.table)
+            × (self.new.sharing ≡ self.old.sharing)
+            × (self.new.id ≡ self.old.id) }
+        ensures ok { IfOk result (HasRoom alloc.now thread.bucket self.new.learnt) }
+        ensures err { OnErr result ((self.old.learnt ≡ Missing) × (self.new.learnt ≡ Missing)) }
+        ensures vacant { self.old.learnt ≡ Vacant → self.new.learnt ≡ Vacant }
+        ensures reserved { self.new.reserved ≡ self.old.reserved }
+    {
+        if self.is_missing() {
+            return self.make_room(alloc, thread);
+        }
+        Ok(None)
+    }
+
+    /// `room` where the bucket was missing.
+    #[cold]
+    #[inline(never)]
+    fn make_room(
+        &mut self,
+        alloc: &Global,
+        thread: Thread,
+    ) -> Result<Option<Block<T, Global>>, AllocError>
+        requires missing { self.old.learnt ≡ Missing }
+        requires place { IsPlaceOf thread.bucket thread.index self.old.id }
+        ensures same_slot { (self.new.table ≡ self.old.table)
+            × (self.new.sharing ≡ self.old.sharing)
+            × (self.new.id ≡ self.old.id) }
+        ensures ok { IfOk result (HasRoom alloc.now thread.bucket self.new.learnt) }
+        ensures err { OnErr result (self.new.learnt ≡ Missing) }
+        ensures reserved { self.new.reserved ≡ self.old.reserved }
+    {
+        self.look_again(thread);
+        if !self.is_missing() {
+            return Ok(None);
+        }
+        Ok(Some(Block::new(alloc, bucket_size(thread.bucket))?))
+    }
+
+    /// Publishes a value where there is room for it: in the block that was made, or in the bucket that
+    /// stands. All ids up to this one were held at once.
+    #[inline]
+    pub fn publish_in(
+        &mut self,
+        alloc: &Global,
+        thread: Thread,
+        block: Option<Block<T, Global>>,
+        value: T,
+        reached: Reached,
+    )
+        requires room { HasRoom alloc.now thread.bucket self.old.learnt block }
+        requires place { IsPlaceOf thread.bucket thread.index self.old.id }
+        requires reached { (reached.table ≡ self.old.table) × (self.old.id < reached.ids) }
+        ensures same_slot { (self.new.table ≡ self.old.table)
+            × (self.new.sharing ≡ self.old.sharing)
+            × (self.new.id ≡ self.old.id) }
+        ensures learnt { self.new.learnt ≡ Holding value }
+        ensures reserved { self.new.reserved ≡ self.old.reserved }
+    {
+        match block {
+            Some(block) => self.install(alloc, thread, block, value, reached),
+            None => self.publish(thread, value),
+        }
+    }
+
+    /// Puts a value into a block, announces the claim's bucket, which was missing, and installs the
+    /// block by one compare and exchange, which publishes the value, too. Where another block was
+    /// installed first, that one stays, the value is published there, and this block is freed.
+    #[cold]
+    #[inline(never)]
     pub fn install(
         &mut self,
+        alloc: &Global,
         thread: Thread,
         block: Block<T, Global>,
+        value: T,
         reached: Reached,
-        alloc: &Global,
     )
         requires missing { self.old.learnt ≡ Missing }
         requires place { IsPlaceOf thread.bucket thread.index self.old.id }
@@ -131,9 +210,10 @@ impl<'a, T> Claim<'a, T> {
         ensures same_slot { (self.new.table ≡ self.old.table)
             × (self.new.sharing ≡ self.old.sharing)
             × (self.new.id ≡ self.old.id) }
-        ensures learnt { learnt_by_install self.old.learnt ≡ Some self.new.learnt }
+        ensures learnt { self.new.learnt ≡ Holding value }
         ensures reserved { self.new.reserved ≡ self.old.reserved }
     {
+        let block = filled(block, alloc, thread, value);
         let announced = self.announcements.announce(thread.bucket);
         let given = (thread.index, block, reached, announced);
         let back = replace_with(
@@ -144,60 +224,10 @@ impl<'a, T> Claim<'a, T> {
             },
         );
         if let Some(block) = back {
+            let (value, block) = emptied(block, alloc, thread);
             block.release(alloc, bucket_size(thread.bucket));
+            self.publish(thread, value);
         }
-    }
-
-    /// Finds the bucket or makes it, where it was missing. It is refused only where it has to make
-    /// one and memory is out. All ids up to this one were held at once.
-    #[inline]
-    pub fn find_bucket(
-        &mut self,
-        alloc: &Global,
-        thread: Thread,
-        reached: Reached,
-    ) -> Result<(), AllocError>
-        requires place { IsPlaceOf thread.bucket thread.index self.old.id }
-        requires reached { (reached.table ≡ self.old.table) × (self.old.id < reached.ids) }
-        ensures same_slot { (self.new.table ≡ self.old.table)
-            × (self.new.sharing ≡ self.old.sharing)
-            × (self.new.id ≡ self.old.id) }
-        ensures ok { OnOk result (self.new.learnt ≡ with_bucket self.old.learnt) }
-        ensures err { OnErr result ((self.old.learnt ≡ Missing) × (self.new.learnt ≡ Missing)) }
-        ensures reserved { self.new.reserved ≡ self.old.reserved }
-    {
-        if self.is_missing() {
-            return self.make_bucket(alloc, thread, reached);
-        }
-        Ok(())
-    }
-
-    /// `find_bucket` where it was missing: looks again, and installs a block where there still is
-    /// none.
-    #[cold]
-    #[inline(never)]
-    fn make_bucket(
-        &mut self,
-        alloc: &Global,
-        thread: Thread,
-        reached: Reached,
-    ) -> Result<(), AllocError>
-        requires missing { self.old.learnt ≡ Missing }
-        requires place { IsPlaceOf thread.bucket thread.index self.old.id }
-        requires reached { (reached.table ≡ self.old.table) × (self.old.id < reached.ids) }
-        ensures same_slot { (self.new.table ≡ self.old.table)
-            × (self.new.sharing ≡ self.old.sharing)
-            × (self.new.id ≡ self.old.id) }
-        ensures ok { OnOk result (self.new.learnt ≡ Vacant) }
-        ensures err { OnErr result (self.new.learnt ≡ Missing) }
-        ensures reserved { self.new.reserved ≡ self.old.reserved }
-    {
-        self.look_again(thread);
-        if self.is_missing() {
-            let block = Block::new(alloc, bucket_size(thread.bucket))?;
-            self.install(thread, block, reached, alloc);
-        }
-        Ok(())
     }
 
     /// Publishes a value in a vacant slot: the value is written, and then the flag is set, by one
@@ -339,4 +369,35 @@ fn flag_word_of<T>(thread: Thread) -> usize
     ensures { result ≡ flag_word_at T.row (2 ^ thread.bucket) (thread.index / 64) }
 {
     flag_word_at::<T>(bucket_size(thread.bucket), thread.index / 64)
+}
+
+/// A block that nobody else sees, with a value in the slot of a place.
+#[inline]
+fn filled<T>(block: Block<T, Global>, alloc: &Global, thread: Thread, value: T) -> Block<T, Global>
+    requires block { (block.slots ≡ empty_slots (2 ^ thread.bucket)) × (block.left ≡ 0) }
+    ensures block { (result.heap ≡ alloc.now) × (result.left ≡ 0) }
+    ensures others { slice_set result.slots thread.index None ≡ empty_slots (2 ^ thread.bucket) }
+    ensures value { slot_value result.slots thread.index ≡ Some value }
+{
+    let mut pointer = BucketPointer::default();
+    pointer.lay(block);
+    pointer.publish(thread.index, flag_word_of::<T>(thread), value);
+    pointer.lift(alloc)
+}
+
+/// Moves the value of a place's slot out of such a block.
+#[inline]
+fn emptied<T>(block: Block<T, Global>, alloc: &Global, thread: Thread) -> (T, Block<T, Global>)
+    requires left { block.left ≡ 0 }
+    requires others { slice_set block.slots thread.index None ≡ empty_slots (2 ^ thread.bucket) }
+    requires published { IsSome (slot_value block.slots thread.index) }
+    ensures value { slot_value block.slots thread.index ≡ Some result.0 }
+    ensures block { (result.1.heap ≡ alloc.now)
+        × (result.1.slots ≡ empty_slots (2 ^ thread.bucket))
+        × (result.1.left ≡ 0) }
+{
+    let mut pointer = BucketPointer::default();
+    pointer.lay(block);
+    let value = pointer.take(thread.index, flag_word_of::<T>(thread));
+    (value, pointer.lift(alloc))
 }

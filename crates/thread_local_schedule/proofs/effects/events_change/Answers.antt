@@ -11,6 +11,24 @@ returns-clause-gives_back g c = laws.gives_back
 pub returns-clause-publishes : goal.returns-clause-publishes
 returns-clause-publishes g c = laws.publishes
 
+pub returns-clause-installs_value : goal.returns-clause-installs_value
+returns-clause-installs_value g c = laws.installs_value
+
+pub returns-clause-installs_beside : goal.returns-clause-installs_beside
+returns-clause-installs_beside g c = laws.beside_stays
+
+pub returns-clause-writes_beside : goal.returns-clause-writes_beside
+returns-clause-writes_beside g c = laws.beside_writes
+
+pub returns-clause-fills : goal.returns-clause-fills
+returns-clause-fills g c = laws.fills
+
+pub returns-clause-fill_stays : goal.returns-clause-fill_stays
+returns-clause-fill_stays g c = laws.fill_stays
+
+pub returns-clause-beside : goal.returns-clause-beside
+returns-clause-beside g c = laws.beside
+
 pub returns-clause-rewrites : goal.returns-clause-rewrites
 returns-clause-rewrites g c = laws.rewrites
 
@@ -19,9 +37,10 @@ returns-clause-sheet_stays g c = λ core event r other. laws.sheet_stays core ev
   take = it.0;
   give = it.1;
   publish = it.2;
-  rewrite = it.3;
-  drain = it.4;
-  clear = it.5;
+  install = it.3;
+  rewrite = it.4;
+  drain = it.5;
+  clear = it.6;
 })
 
 pub returns-clause-shows : goal.returns-clause-shows

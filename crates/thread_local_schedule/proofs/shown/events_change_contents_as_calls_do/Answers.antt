@@ -4,6 +4,9 @@ use Rattle.thread_local_schedule.proofs.shown.events_change_contents_as_calls_do
 pub returns-clause-installed : goal.returns-clause-installed
 returns-clause-installed g c = laws.shown-with_fresh_bucket
 
+pub returns-clause-filled : goal.returns-clause-filled
+returns-clause-filled g c = laws.shown-with_filled_bucket
+
 pub returns-clause-published : goal.returns-clause-published
 returns-clause-published g c = laws.shown-with_flag
 

@@ -23,6 +23,9 @@ returns-clause-announces g c = needs.announces
 pub returns-clause-installs : goal.returns-clause-installs
 returns-clause-installs g c = λ core n local r. needs.installs core n local (clause.fits core r)
 
+pub returns-clause-fills : goal.returns-clause-fills
+returns-clause-fills g c = needs.fills
+
 pub returns-clause-writes : goal.returns-clause-writes
 returns-clause-writes g c = needs.writes
 

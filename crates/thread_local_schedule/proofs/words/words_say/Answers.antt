@@ -52,6 +52,24 @@ returns-clause-give_moves g c = moves.give_moves
 pub returns-clause-publish_moves : goal.returns-clause-publish_moves
 returns-clause-publish_moves g c = moves.publish_moves
 
+pub returns-clause-install_moves : goal.returns-clause-install_moves
+returns-clause-install_moves g c = moves.install_moves
+
+pub returns-clause-beside_moves : goal.returns-clause-beside_moves
+returns-clause-beside_moves g c = moves.beside_moves
+
+pub returns-clause-own_filled : goal.returns-clause-own_filled
+returns-clause-own_filled g c = λ v number announced. refl
+
+pub returns-clause-filled_slots : goal.returns-clause-filled_slots
+returns-clause-filled_slots g c = λ id number v announced. refl
+
+pub returns-clause-fills : goal.returns-clause-fills
+returns-clause-fills g c = says.fills
+
+pub returns-clause-install_goes : goal.returns-clause-install_goes
+returns-clause-install_goes g c = says.installs
+
 pub returns-clause-rewrite_moves : goal.returns-clause-rewrite_moves
 returns-clause-rewrite_moves g c = moves.rewrite_moves
 
@@ -66,9 +84,10 @@ returns-clause-no_moves g c = λ core event other. moves.no_moves core event (λ
   take = it.0;
   give = it.1;
   publish = it.2;
-  rewrite = it.3;
-  drain = it.4;
-  clear = it.5;
+  install = it.3;
+  rewrite = it.4;
+  drain = it.5;
+  clear = it.6;
 })
 
 pub returns-clause-no_id_moves : goal.returns-clause-no_id_moves

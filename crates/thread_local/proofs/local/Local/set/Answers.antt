@@ -1,7 +1,7 @@
-use Rattle.std.proofs.Common.{◌∙◌, rules, sym, ap, subst, refl}
+use Rattle.std.proofs.Common.{◌∙◌, ℕ, rules, sym, subst, refl}
 use Rattle.thread_local_base.specs.Place.{IsPlaceOf}
-use Rattle.thread_local.specs.Locals.{LocalView, knows, knowing, holding}
-use Rattle.thread_local.proofs.Filled.{none_of}
+use Rattle.thread_local.specs.Locals.{holding}
+use Rattle.thread_local.proofs.Filled.{none_of, same_knowing}
 use Rattle.thread_local.proofs.Told.{ok_not_err, occupied_not_memory, memory_not_occupied, same_occupied, same_memory}
 use Rattle.thread_local.proofs.local.Local.set.Goals as goal
 
@@ -12,25 +12,25 @@ returns-then-is_published-clause-occupied g c = λ given told. (sym c.is_publish
 pub returns-then-is_published-clause-memory : goal.returns-then-is_published-clause-memory
 returns-then-is_published-clause-memory g c = λ given told. absurd (occupied_not_memory told)
 
-pub find_bucket-requires-clause-empty : goal.find_bucket-requires-clause-empty
-find_bucket-requires-clause-empty g c = none_of c.args.self.now.value (search rules)
+pub room-requires-clause-empty : goal.room-requires-clause-empty
+room-requires-clause-empty g c = none_of c.args.self.now.value (search rules)
 
-pub find_bucket-requires-clause-place : goal.find_bucket-requires-clause-place
-find_bucket-requires-clause-place g c = c.place-thread.ensures
+pub room-requires-clause-place : goal.room-requires-clause-place
+room-requires-clause-place g c = c.place-thread.ensures
 
-pub publish_at-requires-clause-vacant : goal.publish_at-requires-clause-vacant
-publish_at-requires-clause-vacant g c = ap (λ (view : LocalView g.row.T.Denot). knows view) c.in-Ok.ensures.ok
+pub publish_in-requires-clause-room : goal.publish_in-requires-clause-room
+publish_in-requires-clause-room g c = c.in-Ok.ensures.ok
 
-pub publish_at-requires-clause-place : goal.publish_at-requires-clause-place
-publish_at-requires-clause-place g c =
-    subst (λ (view : LocalView g.row.T.Denot). IsPlaceOf c.place-thread.result.bucket c.place-thread.result.index view.id)
-    (sym c.in-Ok.ensures.ok)
+pub publish_in-requires-clause-place : goal.publish_in-requires-clause-place
+publish_in-requires-clause-place g c =
+    subst (λ (id : ℕ). IsPlaceOf c.place-thread.result.bucket c.place-thread.result.index id)
+    (sym c.in-Ok.ensures.leaves.same.id)
     c.place-thread.ensures
 
 pub returns-in-Ok-clause-ok : goal.returns-in-Ok-clause-ok
 returns-in-Ok-clause-ok g c = (
   none_of c.args.self.now.value (search rules),
-  c.publish_at.ensures ∙ ap (λ (view : LocalView g.row.T.Denot). knowing view (holding c.args.value)) c.in-Ok.ensures.ok,
+  c.publish_in.ensures ∙ same_knowing c.args.self.now c.room.new.self (holding c.args.value) c.in-Ok.ensures.leaves,
 )
 
 pub returns-in-Ok-clause-occupied : goal.returns-in-Ok-clause-occupied

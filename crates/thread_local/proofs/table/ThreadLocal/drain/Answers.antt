@@ -1,5 +1,5 @@
 -- Which buckets stand is the same once all values are gone, so the loan leaves the same view.
-use Rattle.std.proofs.Common.{◌≡◌, ◌∙◌, ℕ, Bool, true, false, None, sym, ap, refl, if◌then◌else◌, ◌==◌}
+use Rattle.std.proofs.Common.{◌≡◌, ◌∙◌, ℕ, Bool, true, false, None, sym, ap, if◌then◌else◌, ◌==◌}
 use Rattle.thread_local_base.specs.Buckets.{stands}
 use Rattle.thread_local_base.specs.Owned.{Owned}
 use Rattle.thread_local_buckets.specs.Drain.{drain_leaves}
@@ -34,7 +34,7 @@ returns g c = (
         (same_lent c.self.inside.buckets c.owner.result.now (drain_leaves c.drain.result) w
         (sym (ap (λ (o : Owned g.row.T.Denot). o.reserved) leaves))
         (λ bucket. sym (ap (λ (o : Owned g.row.T.Denot). stands o.contents bucket) leaves ∙ c.drain.ensures.would_stand bucket)))
-        ∙ ap (λ (s : ThreadLocalView). view_with s (drain_leaves c.drain.result) w) c.self.view_is
+        ∙ ap (λ (s : ThreadLocalView). view_with s (drain_leaves c.drain.result) w) c.self.view_is,
   ),
   record {
     writes_back = tt;

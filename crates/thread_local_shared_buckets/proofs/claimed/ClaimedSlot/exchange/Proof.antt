@@ -1,11 +1,12 @@
 -- `exchange` lends the block for a lifetime of its own, and ends that lifetime if another block was
--- installed first. Either way the claim finds its slot empty.
+-- installed first. Then the claim finds its slot empty, and else it holds the block's value.
 use Rattle.thread_local_base.proofs.Names.{fpack, vint, w64, usize, uint_vals, uint_Tells, yes, ◌≡◌, ℕ, ◌+◌, ◌^◌}
 use Rattle.thread_local_base.proofs.Names.{false, sem, List, [], ◌∷◌, refl, sym, ap, ◌∙◌, lit<, Option, None, Some}
 use Rattle.thread_local_base.proofs.Names.{Body, a_type, Val, vptr, vcons, vnil, inst_fn, dnil, SProp, wand, emp, via}
 use Rattle.thread_local_base.proofs.Names.{apply∗, Lft, Share, Fml, ftrue, fsep, flft, fbor, ‵, raw, ◌⊛◌, some, given}
 use Rattle.thread_local_base.proofs.Names.{later, mean, at_ret, any_q, ◌$◌, ◌∵◌, !, qed, by, move, keep, drop, split}
 use Rattle.thread_local_base.proofs.Names.{join, fsplit, fsplit3, fjoin, fpick, pick, learn, rewrite, use0, use1}
+use types.Kit.{split3}
 use Rattle.thread_local_base.proofs.Names.{use2, use3, await, group, stop, fld, addr, lit, of_opd, no_more, and_then}
 use Rattle.thread_local_base.proofs.Names.{first, blocks, exec, switches_on, returns, enter, alloc_all, pass_all}
 use Rattle.thread_local_base.proofs.Names.{free_all, look_at, get, get_in, get_tag, through, sets, sets_last}
@@ -14,7 +15,8 @@ use Rattle.thread_local_base.proofs.Names.{fact_i, no, RattleType, owns, types_a
 use Rattle.thread_local_base.proofs.Names.{block_of, count_of, at_block, InBlock, ptr_val, nothing, heard, param}
 use Rattle.thread_local_base.proofs.Names.{layout, Stays, stay_dropped, walk_of, Goes-dropped, proved, leaves, fm}
 use Rattle.thread_local_base.proofs.Names.{after, u64}
-use Rattle.std.proofs.Common.{IfSome, length, ◌*◌, ◌<◌, ◌≤◌, subst}
+use Rattle.std.proofs.Common.{zero, suc, ◌++◌, ◌-◌, arith, IfSome, IsSome, length, length-set, ◌*◌, ◌<◌, ◌≤◌, subst}
+use Rattle.std.specs.Prelude.{MatchOption, slice_set}
 use Rattle.std.proofs.lemmas.List.{length-replicate}
 use seplogic.Ra.Ura.{Ura}
 use mir.Syntax.{Ty}
@@ -22,9 +24,9 @@ use base.Logic.{ent, guard}
 use types.Logic.{Logic}
 use types.Kit.{check, done}
 use types.Run.{bin, size_word}
-use mir.Val.{vnull}
+use mir.Val.{vnull, vstruct}
 use base.Logic.{snd∗, never}
-use base.Fml.{finv, ffalse}
+use base.Fml.{Incl, finv, ffalse}
 use base.Before.{before}
 use prog.Wp.{Wp, after_seq, at_return}
 use types.Na.{before_dup}
@@ -33,6 +35,7 @@ use contract.Shared.{Lends-one}
 use denote.Signature.{named_lft}
 use denote.RawPtr.{RawPtr, in_a_block}
 use denote.Param.{bounded}
+use denote.Param.Laws.{Laws, param_laws}
 use denote.Struct.Tuple.{Tuple}
 use Rattle.std.proofs.ResultValues.{and_tt}
 use Rattle.std.proofs.option.Made.{Some-of, none_of}
@@ -47,12 +50,13 @@ use Rattle.std.specs.contracts.alloc.Global as heap
 use Rattle.std.specs.contracts.impls.GlobalAllocator.TheImpl.{ghosts}
 use Rattle.thread_local_base.specs.Place.{bucket_of}
 use Rattle.thread_local_base.proofs.PlaceLaws.{place-id_at}
-use Rattle.thread_local_bucket_pointers.specs.Slots.{block_owns, empty_slots, stride, Fits}
+use Rattle.thread_local_bucket_pointers.specs.Slots.{block_owns, empty_slots, slot_value, stride, Fits}
 use Rattle.thread_local_bucket_pointers.proofs.Flags.{value_near}
 use Rattle.thread_local_base.specs.Fact.{fact as said_fact}
 use Rattle.thread_local_bucket_pointers.specs.contracts.block.Block as block
 use Rattle.thread_local_bucket_pointers.proofs.Fields as fields
-use Rattle.thread_local_ids.specs.Rights.{reached_owns}
+use Rattle.thread_local_ids.specs.Rights.{right_owns, reached_owns}
+use Rattle.thread_local_ids.specs.Told.{tells}
 use Rattle.thread_local_ids.specs.contracts.reached.Reached as Reached
 use Rattle.thread_local_ids.proofs.ReachedElements.{reached_less}
 use Rattle.thread_local_ids.proofs.Markers.{token}
@@ -60,38 +64,51 @@ use Rattle.thread_local_ids.proofs.Markers.{told as token_told}
 use Rattle.thread_local_shared_buckets.specs.Announcing.{Announcing, announced}
 use Rattle.thread_local_shared_buckets.specs.contracts.announcements.Announced as Announced
 use Rattle.thread_local_shared_buckets.proofs.GrownLaws.{shown_reached}
-use Rattle.thread_local_shared_buckets.specs.Shared.{BucketView, Turn, StandingBlock, len, bucket_invariant, shown_by}
+use Rattle.thread_local_shared_buckets.specs.Shared.{name_at, BucketView, Turn, len, bucket_invariant, shown_by}
+use Rattle.thread_local_shared_buckets.specs.Known.{found_as}
 use Rattle.thread_local_shared_buckets.proofs.Loads.{glimpse}
 use Rattle.thread_local_shared_buckets.proofs.Offers as offers
+use Rattle.thread_local_shared_buckets.proofs.Offers.{with_first, parted_slots}
 use Rattle.thread_local_shared_buckets.proofs.RowFields.{word_laws}
 use Rattle.thread_local_base.proofs.Pairs.{both, pair_in}
-use Rattle.thread_local_base.specs.Learnt.{Learnt, Missing, Vacant}
+use Rattle.thread_local_base.specs.Learnt.{Learnt, Missing, Vacant, Holding}
 use Rattle.thread_local_shared_buckets.specs.Claims.{ClaimFields, claim_fields, IsOf, value_at, has, claim_owns}
 use Rattle.thread_local_shared_buckets.specs.contracts.claimed.ClaimedSlot as claim
 use Rattle.thread_local_shared_buckets.specs.contracts.claimed.ClaimedSlot.exchange.{ended, clauses}
 use Rattle.thread_local_shared_buckets.specs.contracts.claimed.ClaimedSlot.exchange.Key.{name as #self}
-use Rattle.thread_local_shared_buckets.proofs.Installs.{installs}
+use Rattle.thread_local_shared_buckets.proofs.Installs.{installs, installs_filled}
 use Rattle.thread_local_shared_buckets.proofs.ClaimedFields.{Kept, kept_of, value_of, FieldsType, fields_of, told, in_word, made, typed}
 use Rattle.thread_local_shared_buckets.proofs.ClaimedFields.{lies_at, spaced, spaced_is}
 use Rattle.thread_local_shared_buckets.proofs.claimed.ClaimedSlot.exchange.Statement.{statement}
 use Rattle.thread_local_shared_buckets.proofs.claimed.ClaimedSlot.exchange.Code as code
 
--- a block whose slots are all empty fits in memory
+-- a block of n slots fits in memory
 fits_so : {M : Type 1} {𝓤 : Ura M} (𝓛 : Logic 𝓤) (R : RattleType) (token : Ty → Ptr → Fml) (p : Ptr)
-    (n : ℕ)
-    → ent 𝓤 (sem 𝓛 (block_owns R token p (empty_slots n) 0))
-    (guard 𝓤 (Fits R n) (sem 𝓛 (block_owns R token p (empty_slots n) 0)))
-fits_so 𝓛 R token p n =
-    let none : Option R.Denot = None in
-    qed 𝓛 (‵ (block_owns R token p (empty_slots n) 0) ∷ []) ∵ fsplit ! $ fpick ! (λ so. drop ! $
-    check ! (subst (Fits R) (length-replicate n none) so.1) $
-    nothing ! $ fpack ! (InBlock p × Fits R (length (empty_slots n))) (λ _. ftrue) so $ fjoin ! $ done !)
+    (cs : List (Option R.Denot)) (n : ℕ) → length cs ≡ n
+    → ent 𝓤 (sem 𝓛 (block_owns R token p cs 0)) (guard 𝓤 (Fits R n) (sem 𝓛 (block_owns R token p cs 0)))
+fits_so 𝓛 R token p cs n long =
+    qed 𝓛 (‵ (block_owns R token p cs 0) ∷ []) ∵ fsplit ! $ fpick ! (λ so. drop ! $
+    check ! (subst (Fits R) long so.1) $
+    nothing ! $ fpack ! (InBlock p × Fits R (length cs)) (λ _. ftrue) so $ fjoin ! $ done !)
+
+-- the value of an option that has one
+some_in : {X : Type 0} (v : Option X) → IsSome v → (x : X) × (v ≡ Some x)
+some_in None has = cc
+some_in (Some x) has = (x, refl)
+
+-- the name of the slot behind these
+name_behind : (before : List ℕ) (η : ℕ) (behind : List ℕ) (i : ℕ) → length before ≡ i → name_at (before ++ (η ∷ behind)) i ≡ η
+name_behind [] η behind zero long = refl
+name_behind [] η behind (suc i) long = absurd (omega (arith, long))
+name_behind (μ ∷ before) η behind zero long = absurd (omega (arith, long))
+name_behind (μ ∷ before) η behind (suc i) long = name_behind before η behind i (omega (arith, long))
 
 pub exchange_spec : {M : Type 1} → statement M
 exchange_spec 𝓤 𝓛 𝓜 𝓡 wired X L =
     let H = 𝓛.H in
     let 𝓣 = tables 𝓤 H 𝓜 𝓡 𝓡.env in
     let R : RattleType = param 0 X in
+    let LR : Laws R = param_laws 0 X L in
     let En = ended X in
     let c = clauses X 𝓛 𝓜.mem 𝓡.returns in
     let inst = bounded (a_type ∷ []) (X, tt) dnil in
@@ -145,18 +162,23 @@ exchange_spec 𝓤 𝓛 𝓜 𝓡 wired X L =
     let bv : Val = fields.block_val p in
     let Res : Type 0 = G.Denot × Back.Denot in
     let Out : RattleType = Tuple (G ∷ Back ∷ []) in
-    let Pair : RattleType = Tuple (RawPtr ∷ Back ∷ []) in
+    let Triple : RattleType = Tuple (RawPtr ∷ u64 ∷ Back ∷ []) in
     let F₁ : Res → Type 0 = λ r.
     (r.0.table ≡ h.table) × (◌≡◌ {A = Option ℕ} r.0.sharing h.sharing) × (r.0.word ≡ h.word) × (r.0.id ≡ h.id)
     × (r.0.index ≡ h.index) in
-    let F₂ : Res → Type 0 = λ r. (r.0.learnt ≡ Vacant) × (r.0.reserved ≡ h.reserved) in
+    let F₂ : Res → Type 0 = λ r. r.0.reserved ≡ h.reserved in
+    let F₄ : Res → Type 0 = λ r.
+    MatchOption r.1 (r.0.learnt ≡ found_as (slot_value x.slots h.index)) (λ _. r.0.learnt ≡ Vacant) in
     let F₃ : Res → Type 0 =
     λ r. IfSome r.1 (λ back. (back.heap ≡ x.heap) × (back.slots ≡ x.slots) × (back.left ≡ 0)) in
     let had = a.1.1.1.0 in
     let Had : Type 0 = (had.table ≡ h.table) × (h.id < had.ids) in
     let says = a.1.1.1.1.0 in
     let Says : Type 0 = (says.by ≡ h.word) × (says.bucket ≡ bucket_of h.id) in
-    let Made : Type 0 = (x.slots ≡ empty_slots (2 ^ bucket_of h.id)) × (x.left ≡ 0) in let none : Option X.Denot = None in
+    let υ : Lft = κs.1.0 in
+    let r : Share = qs.1.0 in
+    let Made : Type 0 = (x.left ≡ 0) × (slice_set x.slots h.index None ≡ empty_slots (2 ^ bucket_of h.id))
+    × IsSome (slot_value x.slots h.index) in
     let w : Ptr = h.bucket in
     let wb : ℕ = block_of w in
     let wo : ℕ = count_of w in
@@ -166,9 +188,9 @@ exchange_spec 𝓤 𝓛 𝓜 𝓡 wired X L =
     ((κs, qs, bounds, a, (u₀ ∷ [], (vint w64 ix ∷ [], (bv ∷ [], (token ∷ [], (token ∷ [], tt)))))), gh) in
     let Post : Val → SProp 𝓤 = (walk_of 𝓛 En hs c).post y in
     qed 𝓛 (((‵ (flft β q) ⊛ ‵ others) ⊛ ‵ (owns (types_at En.signature.params κs) a y.0.4))
-    ∷ raw (fact 𝓤 _) ∷ raw (fact 𝓤 (h.learnt ≡ Missing)) ∷ raw (fact 𝓤 (ix ≡ i))
+    ∷ raw (fact 𝓤 (Incl υ X.lives)) ∷ raw (fact 𝓤 (h.learnt ≡ Missing)) ∷ raw (fact 𝓤 (ix ≡ i))
     ∷ raw (fact 𝓤 Made) ∷ raw (fact 𝓤 Had) ∷ raw (fact 𝓤 Says) ∷ []) ∵
-    keep ! (2 ∷ 3 ∷ 4 ∷ 5 ∷ 6 ∷ 0 ∷ []) $ heard ! (h.learnt ≡ Missing) (λ gone.
+    move ! (1 ∷ 2 ∷ 3 ∷ 4 ∷ 5 ∷ 6 ∷ 0 ∷ []) $ heard ! (Incl υ X.lives) (λ alive. heard ! (h.learnt ≡ Missing) (λ gone.
     heard ! (ix ≡ i) (λ is_index. heard ! Made (λ blank. heard ! Had (λ evident. heard ! Says (λ told_so. split ! $ split ! $ move ! (2 ∷ []) $
     fsplit3 ! $ fsplit ! $ move ! (3 ∷ []) $ fsplit ! $ fsplit ! $ move ! (2 ∷ []) $ fsplit ! $ fsplit ! $
     move ! (2 ∷ []) $ fsplit ! $ fsplit ! $
@@ -188,12 +210,16 @@ exchange_spec 𝓤 𝓛 𝓜 𝓡 wired X L =
     let at : w ≡ block_ptr wb wo = at_block w of.0 in
     rewrite ! 0 (λ (k : Learnt X.Denot). ‵ (has R d t β pl k)) gone refl $ fsplit ! $ fpick ! (λ leads. drop ! $
     let J : Fml = fbor t.life (bucket_invariant R d t wb (wo + 0)) in
-    let Blank : Ptr → Fml =
-    λ u. block_owns R (ghosts.dealloc_token x.heap) u (empty_slots (len R d)) 0 in
-    let Owned : ℕ → ℕ → Fml = λ pb o.
+    let found_value = some_in (slot_value x.slots h.index) blank.2 in
+    let xv : X.Denot = found_value.0 in
+    let rest : ℕ = len R d - suc i in
+    let many : len R d ≡ i + suc rest = omega (arith, of.4) in
+    let cs : List (Option X.Denot) = with_first i xv rest in
+    let Blank : Ptr → Fml = λ u. block_owns R (ghosts.dealloc_token x.heap) u cs 0 in
+    let Owned : Learnt X.Denot → ℕ → ℕ → ℕ → Fml = λ knows_of state pb o.
     claim_owns R β h.table
     (claim_fields h.id i (block_ptr wb wo) (value_at R (block_ptr pb o) i) h.sharing h.word h.reserved)
-    Vacant 1 in
+    knows_of state in
     let is_of : (u : Ptr)
     → IsOf R h.table (claim_fields h.id i (block_ptr wb wo) u h.sharing h.word h.reserved) d =
     λ u. (tt, of.1, of.2, of.3, of.4, of.5, of.6, of.7) in
@@ -210,25 +236,40 @@ exchange_spec 𝓤 𝓛 𝓜 𝓡 wired X L =
     move ! (3 ∷ []) $ use1 𝓛 (‵ (finv J) ⊛ ‵ (finv J)) (𝓛.invs.inv_dup J) $ split ! $ move ! (4 ∷ 1 ∷ []) $ fjoin ! $
     -- [the sharing lasts; the invariant; the life's token; the way back; the pass; the other
     -- tokens; the block]
-    move ! (6 ∷ []) $ rewrite ! 0 (λ (m : ℕ). ‵ (block_owns R (ghosts.dealloc_token x.heap) p x.slots m)) blank.1 refl $
+    let empty_but : slice_set x.slots i None ≡ empty_slots (len R d) =
+    blank.1 ∙ ap (λ (n : ℕ). empty_slots {X = X.Denot} (2 ^ n)) same in
+    let none : Option X.Denot = None in
+    let all_long : length x.slots ≡ len R d =
+    sym (length-set x.slots i none) ∙ ap length empty_but ∙ length-replicate (len R d) none in
+    let slots_are : x.slots ≡ cs =
+    parted_slots xv x.slots i (len R d) rest (omega (arith, of.4, all_long)) many empty_but found_value.1 in
+    move ! (6 ∷ []) $ rewrite ! 0 (λ (m : ℕ). ‵ (block_owns R (ghosts.dealloc_token x.heap) p x.slots m)) blank.0 refl $
     rewrite ! 0
-    (λ (cs : List (Option X.Denot)). ‵ (block_owns R (ghosts.dealloc_token x.heap) p cs 0))
-    (blank.0 ∙ ap (λ (n : ℕ). empty_slots (2 ^ n)) same) refl $
+    (λ (ys : List (Option X.Denot)). ‵ (block_owns R (ghosts.dealloc_token x.heap) p ys 0))
+    slots_are refl $
     use1 𝓛 (given (Fits R (len R d)) (‵ (Blank p)))
-    (fits_so 𝓛 R (ghosts.dealloc_token x.heap) p (len R d)) $
+    (fits_so 𝓛 R (ghosts.dealloc_token x.heap) p cs (len R d) (sym (ap length slots_are) ∙ all_long)) $
     learn ! (λ fits.
     let close : i * stride R < 2 ^ 64 = value_near R (len R d) i fits of.4 in
     let close_at : ix * stride R < 2 ^ 64 =
     subst (λ (n : ℕ). n * stride R < 2 ^ 64) (sym is_index) close in
-    use1 𝓛 (given (InBlock p) (‵ (Blank p))) (offers.placed 𝓛 R t d x.heap p) $ learn ! (λ lies.
+    use1 𝓛 (given (InBlock p) (‵ (Blank p))) (offers.placed 𝓛 R t LR d x.heap xv i rest many p) $ learn ! (λ lies.
     let e : p ≡ new = at_block p lies in
     rewrite ! 0 (λ (u : Ptr). ‵ (Blank u)) e refl $
-    use1 𝓛 (later (some (λ (zn : StandingBlock).
-    given (offers.Lies 𝓛 R t d x.heap new zn) (‵ (offers.private 𝓛 R t d x.heap new zn)))))
-    (offers.lend_out 𝓛 R t d x.heap new) $
-    await ! tt $ pick ! (λ zn. learn ! (λ so.
-    let won₀ : Ptr → Fml = offers.won 𝓛 R t d x.heap wb (wo + 0) s nb no' zn so in
-    let lost₀ : Ptr → Fml = offers.lost 𝓛 R t d x.heap wb (wo + 0) s nb no' zn so in
+    -- [the block; the sharing lasts; the invariant; the life's token; the way back; the pass; the other tokens; how many ids were
+    -- held; the bucket is announced]
+    move ! (6 ∷ []) $ fsplit ! $ move ! (2 ∷ 5 ∷ 0 ∷ []) $
+    use3 𝓛 (later (some (λ (y : ℕ × offers.Names 𝓛 R t).
+    given (offers.Lies 𝓛 R t LR d x.heap xv i rest many new y.1)
+    (‵ (offers.private 𝓛 R t LR d x.heap xv i rest many new y.0 y.1)
+    ⊛ ‵ (offers.Gained 𝓛 R t LR d x.heap xv i rest many new y.0 y.1) ⊛ ‵ (flft t.life s) ⊛ ‵ (flft υ r)))))
+    (offers.lend_out 𝓛 R t LR d x.heap xv i rest many s υ r alive of.1 new) $
+    await ! tt $ pick ! (λ zn. learn ! (λ so. split3 ! $ move ! (2 ∷ []) $ split ! $
+    -- [the life's token; the other; the private block; what its claim has; nothing; the sharing lasts; the invariant; the way back;
+    -- the pass; how many ids were held; the bucket is announced]
+    move ! (1 ∷ 4 ∷ []) $ fjoin ! $ move ! (2 ∷ 4 ∷ 5 ∷ 1 ∷ 6 ∷ 7 ∷ 0 ∷ 8 ∷ 9 ∷ 3 ∷ []) $
+    let won₀ : Ptr → Fml = offers.won 𝓛 R t LR d x.heap xv i rest many wb (wo + 0) s nb no' zn.0 zn.1 so in
+    let lost₀ : Ptr → Fml = offers.lost 𝓛 R t LR d x.heap xv i rest many wb (wo + 0) s nb no' zn.0 zn.1 so in
     let won : Ptr → Fml = λ u. fsep (flft t.life s) (won₀ u) in
     let lost : Ptr → Fml = λ u. fsep (flft t.life s) (lost₀ u) in
     -- [the private block; the sharing lasts; the invariant; the life's token; the way back; the
@@ -241,7 +282,9 @@ exchange_spec 𝓤 𝓛 𝓜 𝓡 wired X L =
     rewrite ! 1 (λ (m : Announcing). ‵ (announced m says.bucket)) (told_so.0 ∙ sym of.7) refl $
     rewrite ! 1 (λ (k : ℕ). ‵ (announced d.word k)) (told_so.1 ∙ same) refl $
     fjoin ! $
-    move ! (1 ∷ 0 ∷ []) $ join ! $
+    -- [what the block shows; the private block; the sharing lasts; the invariant; the life's token; the way back; the pass; the other
+    -- tokens; what its claim has]
+    move ! (6 ∷ []) $ rewrite ! 0 (λ (k : ℕ). ‵ (right_owns t.pass k)) of.3 refl $ move ! (2 ∷ 1 ∷ 0 ∷ []) $ group ! 3 $
     sets ! (is ! (of_opd ! (get_in ! (fld ! refl (stop !)) (sub ! 0 refl (whole !))))
     (ap ptr_val (leads ∙ at)))
     refl (tt, tt) $
@@ -254,7 +297,7 @@ exchange_spec 𝓤 𝓛 𝓜 𝓡 wired X L =
     use3 𝓛
     (raw (𝓣.C _ (vptr wb (wo + 0) ∷ vnull ∷ vptr nb no' ∷ seq_cst ∷ seq_cst ∷ [])
     (λ u. mean 𝓛 (calls.answered 𝓛 won lost u))))
-    (via 𝓤 _ (offers.offers 𝓛 R t d x.heap wb (wo + 0) s nb no' zn so)
+    (via 𝓤 _ (offers.offers 𝓛 R t LR d x.heap xv i rest many wb (wo + 0) s nb no' zn.0 zn.1 so)
     (calls.exchanges 𝓛 𝓜 𝓡 (code.calls-std::sync::atomic::raw::ptr::compare_exchange 𝓡.env wired)
     u64 word_laws (block_ptr wb (wo + 0)) null_ptr new won lost)) $
     let arms : Body = head (after 5 fn.body) in
@@ -269,38 +312,43 @@ exchange_spec 𝓤 𝓛 𝓜 𝓡 wired X L =
     (λ u₁. lands_last ! refl (calls.answer_good (Ok u₁)) $
     exec ! 𝓣.C 𝓣.Λ Ev (after 4 fn.body) (at_ret Ev Post) $
     sets ! (of_opd ! (get ! refl)) refl (calls.answer_good (Ok u₁)) $ fsplit ! $
-    -- [the life's token; the part; the sharing lasts; the way back; the pass; the other tokens]
-    let pb : ℕ = nb in let o : ℕ = no' in move ! (1 ∷ 2 ∷ 0 ∷ 4 ∷ []) $ group ! 4 $
-    use1 𝓛 (later (‵ (flft t.life s) ⊛ ‵ (Owned pb o)))
-    (installs 𝓛 R d t β wb wo pb o h.id i h.sharing h.word h.reserved h.table s (zn, _)
-    (is_of (value_at R new i))) $
-    await ! tt $ split ! $
-    -- [the life's token; the claim; the way back; the other tokens]
-    move ! (0 ∷ 2 ∷ []) $
+    -- [the life's token; what was won; the sharing lasts; the way back; the other tokens; what the claim had]
+    let pb : ℕ = nb in let o : ℕ = no' in move ! (1 ∷ []) $ fsplit ! $ move ! (1 ∷ []) $
+    rewrite ! 0 (λ (k : ℕ). ‵ (fsep (right_owns t.filled k) (tells R d.sharing k (Some xv)))) (sym of.3) refl $
+    -- [what the claim gets; the part; the life's token; the sharing lasts; the way back; the other tokens; what the claim had]
+    move ! (1 ∷ 3 ∷ 0 ∷ 6 ∷ []) $ group ! 4 $
+    use1 𝓛 (later (‵ (Owned (Holding xv) 2 pb o)))
+    (installs_filled 𝓛 R d t β wb wo pb o h.id i h.sharing h.word h.reserved h.table xv zn.1.here
+    (offers.block_as 𝓛 R t LR d x.heap xv i rest many new zn.0 zn.1, _) (is_of (value_at R new i)) refl
+    (name_behind zn.1.before zn.1.here zn.1.behind i so.before)) $
+    await ! tt $
+    -- [the claim; the life's token; the way back; the other tokens]
+    move ! (1 ∷ 2 ∷ []) $
     use2 𝓛 (later (‵ (flft β q))) (apply∗ 𝓤 (𝓛.A.lft t.life s) (H.⇛ (𝓛.A.lft β q))) $ await ! tt $
     first ! $ switches_on ! (get_tag ! (vrt ! refl (fld ! refl (stop !))) (whole !)) $ exec ! 𝓣.C 𝓣.Λ Ev (arm_body 0 arms) Then $
     let nothing_good : Good (layout Back) (live 0 vnil) = (tt, (record { fits = lit< tt }, tt)) in
-    let pair_good : Good (layout Pair) (both (vptr pb o) (live 0 vnil)) =
-    (tt, (tt, (nothing_good.1, tt))) in
+    let three : Val = vstruct (vcons (vptr pb o) (vcons (vint w64 2) (vcons (live 0 vnil) vnil))) in
+    let triple_good : Good (layout Triple) three = (tt, (tt, (record { fits = lit< tt }, (nothing_good.1, tt)))) in
     sets ! (of_opd ! (get ! refl)) refl (tt, tt) $
     sets ! (agg ! (and_then ! (lit ! tt) (no_more !))) refl nothing_good $
-    sets_last ! (agg ! (and_then ! (get ! refl) (and_then ! (get ! refl) (no_more !)))) refl
-    pair_good $
+    sets_last ! (agg ! (and_then ! (get ! refl) (and_then ! (lit ! tt) (and_then ! (get ! refl) (no_more !))))) refl
+    triple_good $
     exec ! 𝓣.C 𝓣.Λ Ev (after 6 fn.body) (at_ret Ev Post) $
-    sets ! (of_opd ! (get ! refl)) refl pair_good $
+    sets ! (of_opd ! (get ! refl)) refl triple_good $
     sets ! (of_opd ! (get_in ! (fld ! refl (stop !)) (sub ! 0 refl (whole !)))) refl (tt, tt) $
-    sets ! (of_opd ! (get_in ! (fld ! refl (stop !)) (sub ! 1 refl (whole !)))) refl nothing_good $
+    sets ! (of_opd ! (get_in ! (fld ! refl (stop !)) (sub ! 1 refl (whole !)))) refl (tt, record { fits = lit< tt }) $
+    sets ! (of_opd ! (get_in ! (fld ! refl (stop !)) (sub ! 2 refl (whole !)))) refl nothing_good $
     first ! $ blocks ! $ sets ! (of_opd ! (get ! refl)) refl (tt, tt) $
     sets !
     (is ! (bin ! (get ! refl) (size_word !) (record { fits = spaced ix (stride R) close_at }))
     (spaced_is ix (stride R) close_at ∙ ap (λ (n : ℕ). vint w64 (n * stride R)) is_index))
     refl (tt, record { fits = close }) $
     sets_last ! (bin ! (get ! refl) (get ! refl) tt) refl (tt, tt) $
-    exec ! 𝓣.C 𝓣.Λ Ev (after 10 fn.body) (at_ret Ev Post) $
+    exec ! 𝓣.C 𝓣.Λ Ev (after 11 fn.body) (at_ret Ev Post) $
     sets ! (of_opd ! (get ! refl)) refl (tt, tt) $ sets ! (of_opd ! (get ! refl)) refl (tt, tt) $
-    let m : Kept = record { at = value_at R (block_ptr pb o) i; state = 1 } in let kept_good = typed m (lit< tt) in
+    let m : Kept = record { at = value_at R (block_ptr pb o) i; state = 2 } in let kept_good = typed m (lit< tt) in
     sets ! (agg ! (no_more !)) refl (tt, tt) $
-    sets ! (agg ! (and_then ! (get ! refl) (and_then ! (lit ! tt) (and_then ! (get ! refl) (no_more !))))) refl kept_good $
+    sets ! (agg ! (and_then ! (get ! refl) (and_then ! (get ! refl) (and_then ! (get ! refl) (no_more !))))) refl kept_good $
     sets ! (of_opd ! (get ! refl)) refl kept_good $ sets ! (of_opd ! (get ! refl)) refl nothing_good $
     let v : Val = both (value_of m) (live 0 vnil) in let good : Good (layout Out) v = (tt, (kept_good.1, (nothing_good.1, tt))) in
     sets ! (agg ! (and_then ! (get ! refl) (and_then ! (get ! refl) (no_more !)))) refl good $
@@ -309,7 +357,7 @@ exchange_spec 𝓤 𝓛 𝓜 𝓡 wired X L =
     use0 𝓛 (‵ ((FieldsType ℓ R).own_val (fields_of ℓ R m) (value_of m ∷ []))) (made ℓ R 𝓛 m (lit< tt)) $ fjoin ! $
     let r : G.Denot = record {
       at = value_at R (block_ptr pb o) i;
-      state = 1;
+      state = 2;
       marker = record {};
       bucket = block_ptr wb wo;
       table = h.table;
@@ -318,13 +366,14 @@ exchange_spec 𝓤 𝓛 𝓜 𝓡 wired X L =
       id = h.id;
       index = i;
       reserved = h.reserved;
-      learnt = Vacant;
+      learnt = Holding xv;
     } in
     use0 𝓛 (‵ (Back.own_val None (live 0 vnil ∷ []))) (none_of 𝓛 Bl) $ move ! (1 ∷ 0 ∷ []) $
     pair_in G Back ! r None (value_of m) (live 0 vnil) $ move ! (1 ∷ 2 ∷ []) $ join ! $
     move ! (1 ∷ []) $
     use0 𝓛 (raw (fact 𝓤 (F₃ (r, None)))) (fact_i 𝓤 (F₃ (r, None)) (emp 𝓤) tt) $
-    use0 𝓛 (raw (fact 𝓤 (F₂ (r, None)))) (fact_i 𝓤 (F₂ (r, None)) (emp 𝓤) (refl, refl)) $ join ! $
+    use0 𝓛 (raw (fact 𝓤 (F₄ (r, None)))) (fact_i 𝓤 (F₄ (r, None)) (emp 𝓤) (sym (ap found_as found_value.1))) $ join ! $
+    use0 𝓛 (raw (fact 𝓤 (F₂ (r, None)))) (fact_i 𝓤 (F₂ (r, None)) (emp 𝓤) refl) $ join ! $
     use0 𝓛 (raw (fact 𝓤 (F₁ (r, None))))
     (fact_i 𝓤 (F₁ (r, None)) (emp 𝓤) (refl, refl, refl, refl, refl)) $
     join ! $
@@ -334,10 +383,12 @@ exchange_spec 𝓤 𝓛 𝓜 𝓡 wired X L =
     (λ u₁. lands_last ! refl (calls.answer_good (Err u₁)) $
     exec ! 𝓣.C 𝓣.Λ Ev (after 4 fn.body) (at_ret Ev Post) $
     sets ! (of_opd ! (get ! refl)) refl (calls.answer_good (Err u₁)) $ fsplit ! $
-    -- [the life's token; what came back; the sharing lasts; the way back; the pass; the other
-    -- tokens]
-    move ! (1 ∷ []) $ fsplit ! $
-    use1 𝓛 (later (‵ (Blank new))) (offers.take_back 𝓛 R t d x.heap new zn so) $ await ! tt $
+    -- [the life's token; what came back; the sharing lasts; the way back; the other tokens; what the claim had]
+    move ! (1 ∷ []) $ fsplit ! $ fsplit ! $ move ! (2 ∷ []) $
+    rewrite ! 0 (λ (k : ℕ). ‵ (right_owns t.pass k)) (sym of.3) refl $
+    -- [the pass; the private block; what was seen; the life's token; the sharing lasts; the way back; the other tokens; ..]
+    move ! (7 ∷ []) $ drop ! $ move ! (1 ∷ 2 ∷ 3 ∷ 4 ∷ 5 ∷ 0 ∷ []) $
+    use1 𝓛 (later (‵ (Blank new))) (offers.take_back 𝓛 R t LR d x.heap xv i rest many new zn.0 zn.1 so) $ await ! tt $
     move ! (1 ∷ []) $
     in_a_block ! u₁ (glimpse 𝓛 R d t ffalse ftrue)
     (snd∗ 𝓤 (sem 𝓛 (said_fact (d.reserved ≡ false))) (never 𝓤)) (λ pb o found.
@@ -346,7 +397,7 @@ exchange_spec 𝓤 𝓛 𝓜 𝓡 wired X L =
     -- [the part; nothing; the block; the life's token; the sharing lasts; the way back; the pass;
     -- the other tokens]
     move ! (0 ∷ 4 ∷ 3 ∷ 6 ∷ []) $ group ! 4 $
-    use1 𝓛 (later (‵ (flft t.life s) ⊛ ‵ (Owned pb o)))
+    use1 𝓛 (later (‵ (flft t.life s) ⊛ ‵ (Owned Vacant 1 pb o)))
     (installs 𝓛 R d t β wb wo pb o h.id i h.sharing h.word h.reserved h.table s zz
     (is_of (value_at R first_at i))) $
     await ! tt $ split ! $
@@ -365,26 +416,28 @@ exchange_spec 𝓤 𝓛 𝓜 𝓡 wired X L =
     (get_in ! (vrt ! refl (fld ! refl (stop !))) (in_variant ! 1 0 refl refl (whole !))))
     (ap ptr_val found))
     refl (tt, tt) $
-    let pair_good : Good (layout Pair) (both (vptr pb o) back) = (and_tt _ held.0, (tt, (held.1, tt))) in
+    let three : Val = vstruct (vcons (vptr pb o) (vcons (vint w64 1) (vcons back vnil))) in
+    let triple_good : Good (layout Triple) three = (and_tt _ held.0, (tt, (record { fits = lit< tt }, (held.1, tt)))) in
     sets ! (of_opd ! (get ! refl)) refl (tt, tt) $ sets ! (of_opd ! (get ! refl)) refl block_good $
     sets ! (agg ! (and_then ! (lit ! tt) (and_then ! (get ! refl) (no_more !)))) refl held $
-    sets_last ! (agg ! (and_then ! (get ! refl) (and_then ! (get ! refl) (no_more !)))) refl
-    pair_good $
+    sets_last ! (agg ! (and_then ! (get ! refl) (and_then ! (lit ! tt) (and_then ! (get ! refl) (no_more !))))) refl
+    triple_good $
     exec ! 𝓣.C 𝓣.Λ Ev (after 6 fn.body) (at_ret Ev Post) $
-    sets ! (of_opd ! (get ! refl)) refl pair_good $
+    sets ! (of_opd ! (get ! refl)) refl triple_good $
     sets ! (of_opd ! (get_in ! (fld ! refl (stop !)) (sub ! 0 refl (whole !)))) refl (tt, tt) $
-    sets ! (of_opd ! (get_in ! (fld ! refl (stop !)) (sub ! 1 refl (whole !)))) refl held $
+    sets ! (of_opd ! (get_in ! (fld ! refl (stop !)) (sub ! 1 refl (whole !)))) refl (tt, record { fits = lit< tt }) $
+    sets ! (of_opd ! (get_in ! (fld ! refl (stop !)) (sub ! 2 refl (whole !)))) refl held $
     first ! $ blocks ! $ sets ! (of_opd ! (get ! refl)) refl (tt, tt) $
     sets !
     (is ! (bin ! (get ! refl) (size_word !) (record { fits = spaced ix (stride R) close_at }))
     (spaced_is ix (stride R) close_at ∙ ap (λ (n : ℕ). vint w64 (n * stride R)) is_index))
     refl (tt, record { fits = close }) $
     sets_last ! (bin ! (get ! refl) (get ! refl) tt) refl (tt, tt) $
-    exec ! 𝓣.C 𝓣.Λ Ev (after 10 fn.body) (at_ret Ev Post) $
+    exec ! 𝓣.C 𝓣.Λ Ev (after 11 fn.body) (at_ret Ev Post) $
     sets ! (of_opd ! (get ! refl)) refl (tt, tt) $ sets ! (of_opd ! (get ! refl)) refl (tt, tt) $
     let m : Kept = record { at = value_at R (block_ptr pb o) i; state = 1 } in let kept_good = typed m (lit< tt) in
     sets ! (agg ! (no_more !)) refl (tt, tt) $
-    sets ! (agg ! (and_then ! (get ! refl) (and_then ! (lit ! tt) (and_then ! (get ! refl) (no_more !))))) refl kept_good $
+    sets ! (agg ! (and_then ! (get ! refl) (and_then ! (get ! refl) (and_then ! (get ! refl) (no_more !))))) refl kept_good $
     sets ! (of_opd ! (get ! refl)) refl kept_good $ sets ! (of_opd ! (get ! refl)) refl held $
     let v : Val = both (value_of m) back in let good : Good (layout Out) v = (and_tt _ held.0, (kept_good.1, (held.1, tt))) in
     sets ! (agg ! (and_then ! (get ! refl) (and_then ! (get ! refl) (no_more !)))) refl good $
@@ -407,17 +460,18 @@ exchange_spec 𝓤 𝓛 𝓜 𝓡 wired X L =
     -- [the claim; the token; the other tokens; the block; nothing]
     move ! (3 ∷ []) $ rewrite ! 0 (λ (u₂ : Ptr). ‵ (Blank u₂)) (sym e) refl $
     rewrite ! 0
-    (λ (cs : List (Option X.Denot)). ‵ (block_owns R (ghosts.dealloc_token x.heap) p cs 0))
-    (sym (blank.0 ∙ ap (λ (n : ℕ). empty_slots (2 ^ n)) same)) refl $
-    rewrite ! 0 (λ (n : ℕ). ‵ (block_owns R (ghosts.dealloc_token x.heap) p x.slots n)) (sym blank.1) refl $
+    (λ (ys : List (Option X.Denot)). ‵ (block_owns R (ghosts.dealloc_token x.heap) p ys 0))
+    (sym slots_are) refl $
+    rewrite ! 0 (λ (n : ℕ). ‵ (block_owns R (ghosts.dealloc_token x.heap) p x.slots n)) (sym blank.0) refl $
     use0 𝓛 (‵ ((fields.FieldsType R Z ghosts).own_val (p, (record {}, tt)) (bv ∷ [])))
     (fields.made R Z ghosts 𝓛 p) $
     fjoin ! $ use1 𝓛 (‵ (Back.own_val (Some x) (back ∷ []))) (Some-of 𝓛 Bl x bv) $
     move ! (1 ∷ 0 ∷ []) $
     pair_in G Back ! r (Some x) (value_of m) back $ move ! (1 ∷ 2 ∷ []) $ join ! $ move ! (1 ∷ []) $
     use0 𝓛 (raw (fact 𝓤 (F₃ (r, Some x))))
-    (fact_i 𝓤 (F₃ (r, Some x)) (emp 𝓤) (refl, refl, blank.1)) $
-    use0 𝓛 (raw (fact 𝓤 (F₂ (r, Some x)))) (fact_i 𝓤 (F₂ (r, Some x)) (emp 𝓤) (refl, refl)) $
+    (fact_i 𝓤 (F₃ (r, Some x)) (emp 𝓤) (refl, refl, blank.0)) $
+    use0 𝓛 (raw (fact 𝓤 (F₄ (r, Some x)))) (fact_i 𝓤 (F₄ (r, Some x)) (emp 𝓤) refl) $ join ! $
+    use0 𝓛 (raw (fact 𝓤 (F₂ (r, Some x)))) (fact_i 𝓤 (F₂ (r, Some x)) (emp 𝓤) refl) $
     join ! $
     use0 𝓛 (raw (fact 𝓤 (F₁ (r, Some x))))
     (fact_i 𝓤 (F₁ (r, Some x)) (emp 𝓤) (refl, refl, refl, refl, refl)) $
@@ -425,4 +479,4 @@ exchange_spec 𝓤 𝓛 𝓜 𝓡 wired X L =
     nothing ! $ nothing ! $ fjoin ! $ nothing ! $ fjoin ! $ nothing ! $ fjoin ! $ nothing ! $ fjoin ! $ nothing ! $ fjoin ! $
     returns ! (look_at ! 0 refl) $ free_all ! refl $ keep ! (3 ∷ 0 ∷ 2 ∷ 1 ∷ []) $
     by !
-    (leaves 𝓛 En hs c y v (r, Some x) (tt, (tt, (tt, (tt, (tt, tt))))) (tt, (tt, (tt, (tt, (tt, tt)))))))))))))))))))))))))
+    (leaves 𝓛 En hs c y v (r, Some x) (tt, (tt, (tt, (tt, (tt, tt))))) (tt, (tt, (tt, (tt, (tt, tt))))))))))))))))))))))))))
