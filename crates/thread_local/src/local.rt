@@ -32,8 +32,8 @@ mod lends;
 /// What one thread has in a table: an id, its own until the drop, and what is known of the id's
 /// slot.
 ///
-/// Dropping it keeps the value and gives the id back, under the table's lock: that may wait, and
-/// takes no memory. A forgotten one keeps its id until the table is cleared.
+/// Dropping it keeps the value and gives the id back, from 58 on under the table's lock: that may
+/// wait, and takes no memory. A forgotten one keeps its id until the table is cleared.
 ///
 /// No call but `give_back` takes a lock. Only `set`, `publish` and the `get_or` family (`get_or`,
 /// `get_or_default`, `get_or_try`, `get_or_try_lasting`, `try_fill`) take memory, for a bucket. The
@@ -177,7 +177,7 @@ impl<'a, T, R: Wait> Local<'a, T, R> {
             tenure,
         } = self;
         let (held, right) = claim.give_up();
-        table.ids.lock(rt).give(held, right, tenure)
+        table.ids.give(rt, held, right, tenure)
     }
 
     /// Whether the slot is one of the table's reserved slots. If so, the `get_or` family is never

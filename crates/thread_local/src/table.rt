@@ -1,6 +1,6 @@
-//! The object that keeps a value for each thread: the buckets that threads share, and the ids,
-//! under a lock. What the type of its values has to show, and tokens that say what its slots were
-//! published with, have their names here too.
+//! The object that keeps a value for each thread: the buckets and the ids that threads share. What
+//! the type of its values has to show, and tokens that say what its slots were published with, have
+//! their names here too.
 ghost use Rattle.std.specs.Prelude.{◌≡◌, ◌≢◌, ◌≤◌, ◌<◌, ◌-◌, ◌*◌, ◌^◌, ℕ, max, length};
 ghost use Rattle.std.specs.Prelude.{Option, true, false, None, Some, Err, alloc_error, IfOk, IsSome, map, []};
 ghost use Rattle.std.specs.List.Sorted.{IsStrictlyIncreasing};
@@ -22,7 +22,7 @@ use thread_local_base::LocalError;
 use thread_local_base::walk::walk_lists_the_map;
 pub use thread_local_buckets::CapacityError;
 use thread_local_buckets::{Buckets, EntriesMut, IntoEntries, IntoIter, IterMut};
-use thread_local_ids::{Ids, Lock, Right, Room};
+use thread_local_ids::{Ids, Right, Room, SharedIds};
 pub use thread_local_ids::{Book, Page, Token, Told};
 pub use thread_local_judged::{Judge, judge_sync, judge_value};
 use thread_local_shared_buckets::{Entries, Iter, Shared, Tokens, replace_with};
@@ -38,8 +38,9 @@ mod lends;
 /// `Sync`, every thread may, while others publish more. Threads share a table through a `&`, and it
 /// can be sent to another thread. One can be made of every `T: Send` that is judged, as `new` says.
 ///
-/// Only `local`, `local_after`, `slots_and_peak`, `give_back` and the drop of a `Local` take the
-/// table's lock, so no other call here waits; only `local`, `local_after` and `with_capacity` take memory. But
+/// Only `local`, `local_after`, `slots_and_peak`, `give_back` and the drop of a `Local` may take the
+/// table's lock, so no other call here waits. An id below 58 is taken without it, unless other threads
+/// take and return ids at the same time, and always returned without it. Only `local`, `local_after` and `with_capacity` take memory. But
 /// `clear` drops values, as the drop of a table, of a walk by value or of a `Drain` does, and a
 /// value's drop may wait and may take memory: a value may hold a `Local` of another table.
 ///
@@ -56,12 +57,12 @@ mod lends;
 /// cleared or renewed, and lasts until an owner's call lends or takes the values. While it lasts,
 /// tokens (`Token`) say which values slots hold.
 ///
-/// What was done with the table's ids, in the order of its lock, is their history. A `Page` is a
+/// What was done with the table's ids, in the order of its steps, is their history. A `Page` is a
 /// beginning of it, which has no bytes. Each `Local` has the page that ends with its take, and
 /// returns have theirs, so callers tell which id was taken or given back before which.
 pub struct ThreadLocal<T> {
     pub(crate) buckets: Shared<T>,
-    pub(crate) ids: Lock<Ids>,
+    pub(crate) ids: SharedIds,
     table_right: Right,
     first: Page,
     room: Room,
@@ -78,10 +79,10 @@ impl<T> Model for ThreadLocal<T> {
 
     ghost view = { λ table. thread_local_view table.buckets table.room.ids };
 
-    // The ids under the lock are those of the table whose buckets these are, and so are the table's
+    // The ids are those of the table whose buckets these are, and so are the table's
     // right, its room, and the first page, which tells of no move.
     ghost invariant = { λ table.
-        (table.ids.tag ≡ table.buckets.table)
+        (table.ids.table ≡ table.buckets.table)
         × (table.table_right.table ≡ table.buckets.table)
         × (table.table_right.id ≡ 2 ^ 63 - 1)
         × (table.first.table ≡ table.buckets.table)
@@ -131,7 +132,7 @@ impl<T> ThreadLocal<T> {
         let room = ids.room();
         ThreadLocal {
             buckets: Shared::new(buckets, &table_right),
-            ids: Lock::new(ids),
+            ids: ids.into_shared(),
             table_right,
             first,
             room,
@@ -164,11 +165,11 @@ impl<T> ThreadLocal<T> {
 
     /// A `Local` with the least id that isn't held after what was done with the ids before: the
     /// `Local` knows that, and `local_after` also says how it extends what the caller knew. It
-    /// takes the table's lock, so it may wait, and looks once whether the id's slot holds a value,
+    /// may take the table's lock, so it may wait, and looks once whether the id's slot holds a value,
     /// so that `get` needs no look.
     ///
-    /// It asks for memory only where as many ids are held as ever were at once and there is no room
-    /// for one more, and not for the first 64: `Memory` means out of memory. `Exhausted` means that
+    /// It asks for memory only where all ids are held that there is room for, and not for the first
+    /// 64: `Memory` means out of memory. `Exhausted` means that
     /// all 2^63 - 1 ids are held. Rust's crate finds the running thread by itself.
     #[inline(always)]
     pub fn local<'a, R: Wait>(&'a self, rt: &'a R) -> Result<Local<'a, T, R>, LocalError>
@@ -179,7 +180,8 @@ impl<T> ThreadLocal<T> {
         ensures in_range { IfOk result (λ local. local.id < 2 ^ 63 - 1) }
         ensures least { IfOk result (λ local. local.id ≡ least (held_after local.before)) }
     {
-        let (held, right, tenure) = self.ids.lock(rt).take()?;
+        let mut page = self.page();
+        let (held, right, tenure) = self.ids.take(rt, &mut page, &self.room)?;
         Ok(Local::new(rt, self, held, right, tenure))
     }
 
@@ -220,7 +222,7 @@ impl<T> ThreadLocal<T> {
         ensures exhausted { result ≡ Err LocalError.Exhausted
             → HoldsAllBelow (2 ^ 63 - 1) (held_after page.new.moves) }
     {
-        let (held, right, tenure) = self.ids.lock(rt).take_after(page, &self.room)?;
+        let (held, right, tenure) = self.ids.take(rt, page, &self.room)?;
         Ok(Local::new(rt, self, held, right, tenure))
     }
 
@@ -244,9 +246,8 @@ impl<T> ThreadLocal<T> {
         ensures peak { (result.2.table ≡ self.now.table) × (result.1 ≡ length (held_after result.2.moves)) }
     {
         let (slots, reached) = self.buckets.slots_reached();
-        let mut ids = self.ids.lock(rt);
-        ids.has_reached(reached);
-        (slots, ids.peak(), ids.page())
+        let (peak, page) = self.ids.peak(rt, reached, &self.first);
+        (slots, peak, page)
     }
 
     /// The values by ascending id, each lent as `&mut`. It is the walk `iter_mut` of the buckets
@@ -339,20 +340,19 @@ impl<T> ThreadLocal<T> {
     }
 }
 
-/// What `clear` makes of the ids under their lock: those of another table, with its right, its first
+/// What `clear` makes of the ids: those of another table, with its right, its first
 /// page and its room.
-fn begun_anew(ids: Lock<Ids>, _: ()) -> (Lock<Ids>, (Right, Page, Room))
-    ensures tag { result.0.tag ≡ result.1.0.table }
+fn begun_anew(ids: SharedIds, _: ()) -> (SharedIds, (Right, Page, Room))
+    ensures table { result.0.table ≡ result.1.0.table }
     ensures right { result.1.0.id ≡ 2 ^ 63 - 1 }
     ensures first { (result.1.1.table ≡ result.1.0.table) × (result.1.1.moves ≡ []) }
     ensures room { result.1.2.table ≡ result.1.0.table }
 {
-    let mut ids = ids.into_inner();
-    ids.clear();
+    let mut ids = Ids::begun_anew(ids);
     let right = ids.table_right();
     let first = ids.page();
     let room = ids.room();
-    (Lock::new(ids), (right, first, room))
+    (ids.into_shared(), (right, first, room))
 }
 
 // By hand, since a derived drop is proved anew in each program that drops a table.

@@ -20,6 +20,9 @@ mod OutLaws
 pub mod RightElements
 pub mod Rows
 pub mod ToldElements
+pub mod FirstLaws
+pub mod FirstElements
+mod FurtherLaws
 pub mod Twice
 mod TwoLent
 mod Whole

@@ -8,7 +8,7 @@ use mathlib.Mathlib.Data.Part.{◌∈◌}
 use seplogic.Ra.Pcs.{OpDef, FpUpd₁}
 use seplogic.Ra.Ura.{Ura}
 use seplogic.Ra.Constructions.Opt
-use base.Fraction.{full_share}
+use base.Fraction.{full_share, left}
 use base.FractionLaws.{not-OpDef-full_share}
 use base.Share
 use base.Growing.{Order, Sum, prefixes, grows}
@@ -17,7 +17,7 @@ use base.Graph.{sum_in}
 use base.Fml.{GName, Share}
 use types.Logic.{Logic}
 use types.Keyed.{keyed}
-use types.Owned.{own_sum, own_step}
+use types.Owned.{own_sum, own_step, own_join}
 use Rattle.thread_local_base.specs.IdMoves.{IdMove, move_coded}
 use Rattle.thread_local_ids.specs.Rights.{telling, Element, at_if, element_at}
 use Rattle.thread_local_ids.proofs.RightElements.{Row, at_key, at_each_key}
@@ -49,6 +49,17 @@ raised : (a b : List IdMove) → O.le a b → (o : Option Share) (c : List IdMov
     → OpDef telling.op (some full_share, b) (o, c)
 raised a b h none c d = ((some full_share, b), under full_share b c (O.trans c a b (O.trans c d.0.1 a d.1.1.0.1 (d.1.1.1.0 tt)) h))
 raised a b h (some q) c d = absurd (not-OpDef-full_share q d.1.0.0)
+
+-- two halves of one log are the whole
+abbrev pub half : List IdMove → Element
+half a = (some (left full_share), a)
+
+halves : (a : List IdMove) → Sum O (half a) (half a) (some full_share, a)
+halves a =
+    let q : Share = left full_share in (
+      (Opt.some-mem-op-some_iff Share.op {a = q} {b = q} {c = full_share}).1 (Share.halves full_share),
+      ((O.same a, O.same a, λ e x _. x), ((λ _. O.same a), λ _. O.same a)),
+    )
 
 module _ {M : Type 1} {𝓤 : Ura M} (𝓛 : Logic 𝓤) (key : ℕ) where
   open signs 𝓛 use {⟦◌⟧, ◌⊢◌, ◌∗◌}
@@ -88,3 +99,22 @@ module _ {M : Type 1} {𝓤 : Ura M} (𝓛 : Logic 𝓤) (key : ℕ) where
       own_step 𝓛 (keyed telling) γ (row (some full_share, moves)) (row (some full_share, more)) (λ g d. λ j.
       step_at (key == j) (some full_share, moves) (some full_share, more) (g j)
       (λ f. raised moves more le f.0 f.1) (d j))
+
+  pub halved : (γ : GName) (a : List IdMove)
+      → ⟦ element_at key γ (some full_share, a) ⟧ ⊢ ⟦ element_at key γ (half a) ⟧ ∗ ⟦ element_at key γ (half a) ⟧
+  halved γ a = cut γ (half a) (half a) (some full_share, a) (sum_in (grows O) (half a) (half a) (some full_share, a) (halves a))
+
+  pub joined : (γ : GName) (a : List IdMove)
+      → ⟦ element_at key γ (half a) ⟧ ∗ ⟦ element_at key γ (half a) ⟧ ⊢ ⟦ element_at key γ (some full_share, a) ⟧
+  joined γ a =
+      own_join 𝓛 (keyed telling) γ (row (half a)) (row (half a)) (row (some full_share, a))
+      (at_each_key (row (half a)) (row (half a)) (row (some full_share, a))
+      (λ j. sum_at (key == j) (half a) (half a) (some full_share, a) (sum_in (grows O) (half a) (half a) (some full_share, a) (halves a))))
+
+  -- two halves agree
+  pub agree : (γ : GName) (a b : List IdMove)
+      → ⟦ element_at key γ (half a) ⟧ ∗ ⟦ element_at key γ (half b) ⟧
+      ⊢ guard 𝓤 (a ≡ b) (⟦ element_at key γ (half a) ⟧ ∗ ⟦ element_at key γ (half b) ⟧)
+  agree γ a b =
+      shows γ (half a) (half b) (a ≡ b)
+      (λ d. O.anti a b (O.trans a d.0.1 b d.1.1.0.0 (d.1.1.1.1 tt)) (O.trans b d.0.1 a d.1.1.0.1 (d.1.1.1.0 tt)))

@@ -3,11 +3,11 @@
 use Rattle.std.proofs.Common.{ℕ, ◌+◌, ◌≤◌, Bool, true, false, List, [], ◌∷◌, length, sym, subst, arith}
 use seplogic.Ra.Ura.{Ura}
 use mathlib.Core.List.{IsPrefix}
-use base.Logic.{guard, emp, id⊢}
+use base.Logic.{SProp, ex, guard, emp, id⊢}
 use base.Fml.{ftrue}
 use base.Shift.{Keyless}
 use types.Logic.{Logic}
-use types.Kit.{‵, given, ◌⊛◌, ◌$◌, ◌∵◌, !, qed, move, keep, drop, split, fsplit, fjoin, fpick, fpack, learn, check, use1, use2, done}
+use types.Kit.{‵, given, ◌⊛◌, ◌$◌, ◌∵◌, !, qed, by, show, move, keep, drop, split, fsplit, fjoin, fpick, fpack, learn, check, use1, use2, done}
 use denote.Steps.{nothing}
 use Rattle.thread_local_base.specs.Held.{least, with_least}
 use Rattle.thread_local_base.specs.IdMoves.{IdMove, Take, held_after, noted}
@@ -108,3 +108,23 @@ module _ {M : Type 1} {𝓤 : Ura M} (𝓛 : Logic 𝓤) where
       fsplit ! $ fpick ! (λ so. drop ! $ move ! (1 ∷ 0 ∷ []) $
       use2 𝓛 (given (IsBelow seen moves) (‵ (history_owns table moves))) (early_if table moves seen) $
       learn ! (λ below. let all : n ≤ length (held_after moves) = omega (arith, so, below) in check ! all $ done !)))
+
+  -- the page by which so many were held at once
+  pub reached_page : (table n : ℕ)
+      → ⟦ reached_owns table n ⟧ ∗ ⟦ page_owns table [] ⟧
+      ⊢ ex 𝓤 (λ (moves : List IdMove). guard 𝓤 (n ≤ length (held_after moves)) ⟦ page_owns table moves ⟧)
+  unfolding reached_owns
+  reached_page table n =
+      let F : List IdMove → SProp 𝓤 = λ moves. guard 𝓤 (n ≤ length (held_after moves)) ⟦ page_owns table moves ⟧ in
+      qed 𝓛 (‵ (reached_owns table n) ∷ ‵ (page_owns table []) ∷ []) ∵ fpick ! (λ seen. fsplit ! $ fpick ! (λ so. drop ! $
+      by ! (page_at table n seen so)))
+    where
+      page_at : (table n : ℕ) (seen : List IdMove) → n ≤ length (held_after seen)
+          → ⟦ page_if table seen ⟧ ∗ ⟦ page_owns table [] ⟧
+          ⊢ ex 𝓤 (λ (moves : List IdMove). guard 𝓤 (n ≤ length (held_after moves)) ⟦ page_owns table moves ⟧)
+      page_at table n [] so =
+          qed 𝓛 (‵ ftrue ∷ ‵ (page_owns table []) ∷ []) ∵ drop ! $
+          show ! (λ (moves : List IdMove). guard 𝓤 (n ≤ length (held_after moves)) ⟦ page_owns table moves ⟧) [] $ check ! so $ done !
+      page_at table n (move ∷ moves) so =
+          qed 𝓛 (‵ (page_owns table (move ∷ moves)) ∷ ‵ (page_owns table []) ∷ []) ∵ keep ! (0 ∷ []) $
+          show ! (λ (m : List IdMove). guard 𝓤 (n ≤ length (held_after m)) ⟦ page_owns table m ⟧) (move ∷ moves) $ check ! so $ done !

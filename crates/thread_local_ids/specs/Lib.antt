@@ -6,3 +6,7 @@ pub mod Told
 pub mod Views
 pub mod Rights
 pub mod TokenLists
+pub mod FirstIds
+pub mod FurtherIds
+pub mod SharedIds
+pub mod Filled

@@ -1,5 +1,5 @@
 -- What a contract sees of a table's ids, and how the held ids are tied to the rights that are out.
-use Rattle.std.specs.Prelude.{◌≡◌, ℕ, ◌+◌, ◌-◌, ◌^◌, ◌<◌, ◌≤◌, Bool, List}
+use Rattle.std.specs.Prelude.{◌≡◌, ℕ, ◌+◌, ◌-◌, ◌^◌, ◌<◌, ◌≤◌, Bool, true, List, []}
 use Rattle.thread_local_base.specs.Held.{Manager, is_held}
 use Rattle.thread_local_ids.specs.Rights.{is_out}
 use Rattle.thread_local_base.specs.IdMoves.{IdMove, held_after}
@@ -39,3 +39,4 @@ pub record IsTied (i : Inside) : Type 0 where
   pub table : i.history.table ≡ i.rights.table
   pub room : i.room.ids ≤ i.manager.room
   pub room_table : i.room.table ≡ i.rights.table
+  pub log : (i.log.table ≡ i.rights.table) × (i.log.moves ≡ []) × (i.log.whole ≡ true)

@@ -6,8 +6,10 @@ ghost use Rattle.thread_local_ids.specs.Rights.{is_out, taken_id};
 ghost use Rattle.std.specs.Prelude.{alloc_error};
 ghost use Rattle.thread_local_base.specs.Held.{is_held, HoldsAllBelow, Takes, Gives, NeedsMemory, IsExhausted};
 
-use crate::lock::Fits;
-use crate::{HeldId, History, Page, Reached, Right, Rights, Room, Tenure};
+use crate::lock::{Fits, Lock};
+use crate::{
+    FirstIds, Further, HeldId, History, Log, Page, Reached, Right, Rights, Room, SharedIds, Tenure,
+};
 use std::alloc::{AllocError, Global};
 use std::marker::Model;
 use thread_local_base::manager::IDS;
@@ -30,6 +32,7 @@ pub struct Ids {
     rights: Rights,
     history: History,
     room: Room,
+    log: Log,
 }
 
 impl Model for Ids {
@@ -62,12 +65,13 @@ impl Ids {
         ensures moves { result.moves ≡ [] }
     {
         let manager = ThreadIdManager::new(alloc);
-        let (rights, history, room) = begun(&manager);
+        let (rights, history, room, log) = begun(&manager);
         Ids {
             manager,
             rights,
             history,
             room,
+            log,
         }
     }
 
@@ -85,12 +89,13 @@ impl Ids {
         ensures no_ids { ids ≡ 0 → IsOk result }
     {
         let manager = ThreadIdManager::with_room(alloc, ids)?;
-        let (rights, history, room) = begun(&manager);
+        let (rights, history, room, log) = begun(&manager);
         Ok(Ids {
             manager,
             rights,
             history,
             room,
+            log,
         })
     }
 
@@ -200,11 +205,12 @@ impl Ids {
         ensures made_room { self.old.room ≤ self.new.room }
     {
         self.manager.clear();
-        let (mut rights, history, room) = begun(&self.manager);
+        let (mut rights, history, room, log) = begun(&self.manager);
         self.rights.apart(&mut rights);
         self.rights = rights;
         self.history = history;
         self.room = room;
+        self.log = log;
     }
 
     /// Hands out the table's right, to the number that lies between the ids and their marks.
@@ -245,17 +251,63 @@ impl Ids {
     }
 }
 
+impl Ids {
+    /// The same ids for threads to share. None of them was taken yet.
+    pub fn into_shared(self) -> SharedIds
+        requires { self.moves ≡ [] }
+        ensures table { result.table ≡ self.table }
+    {
+        let Self {
+            manager,
+            rights,
+            history,
+            room,
+            mut log,
+        } = self;
+        let first = FirstIds::new(rights, history, &mut log);
+        SharedIds {
+            first,
+            further: Lock::new(Further {
+                manager,
+                log,
+                room,
+                reached: 0,
+            }),
+        }
+    }
+
+    /// The ids of another table, none of them held, in the memory of a table's.
+    pub fn begun_anew(ids: SharedIds) -> Ids
+        ensures table_right { result.table_right_is_out ≡ false }
+        ensures held { result.manager.held ≡ [] }
+        ensures moves { result.moves ≡ [] }
+    {
+        let mut manager = ids.into_manager();
+        manager.clear();
+        let (rights, history, room, log) = begun(&manager);
+        Ids {
+            manager,
+            rights,
+            history,
+            room,
+            log,
+        }
+    }
+}
+
 /// The rights of a new table whose ids the manager gives out, its history, and its room.
 #[inline]
-fn begun(manager: &ThreadIdManager) -> (Rights, History, Room)
+fn begun(manager: &ThreadIdManager) -> (Rights, History, Room, Log)
     ensures out { (j : ℕ) → j < 2 ^ 64 - 1 → is_out result.0.out j ≡ false }
     ensures history { (result.1.table ≡ result.0.table) × (result.1.moves ≡ []) }
     ensures room { (result.2.table ≡ result.0.table) × (result.2.ids ≡ manager.now.room) }
+    ensures log { (result.3.table ≡ result.0.table) × (result.3.moves ≡ []) × (result.3.whole ≡ true) }
 {
     let mut rights = Rights::new();
     let history = rights.take(HISTORY).into_history();
     let room = rights.note_room(manager);
-    (rights, history, room)
+    let log = rights.note_log();
+    (rights, history, room, log)
 }
 
 // By hand, since a derived drop is proved anew in each program that drops a table.
@@ -267,6 +319,7 @@ impl Drop for Ids {
             rights: _,
             history: _,
             room: _,
+            log: _,
         } = self;
         drop(manager);
     }

@@ -3,6 +3,8 @@
 #![tactic(auto)]
 
 pub mod book;
+pub mod first;
+pub mod further;
 pub mod held;
 pub mod ids;
 pub mod lock;
@@ -10,6 +12,7 @@ pub mod page;
 pub mod reached;
 pub mod right;
 pub mod room;
+pub mod shared_ids;
 pub mod token;
 pub mod token_list;
 pub mod told_list;
@@ -17,6 +20,8 @@ pub mod witness;
 pub mod word;
 
 pub use book::Book;
+pub use first::{FirstIds, Log, Taken};
+pub use further::Further;
 pub use held::HeldId;
 pub use ids::Ids;
 pub use lock::{Fits, Lock, LockGuard};
@@ -24,6 +29,7 @@ pub use page::{History, Page, Tenure};
 pub use reached::Reached;
 pub use right::{Right, Rights};
 pub use room::Room;
+pub use shared_ids::SharedIds;
 pub use token::Token;
 pub use token_list::TokenList;
 pub use told_list::Told;

@@ -1,9 +1,9 @@
 //! How many ids of a table were held at once. No call does anything at run time.
-ghost use Rattle.std.specs.Prelude.{◌≡◌, ◌+◌, ◌≤◌, ℕ, length};
+ghost use Rattle.std.specs.Prelude.{◌≡◌, ◌+◌, ◌≤◌, ℕ, length, []};
 ghost use Rattle.thread_local_base.specs.IdMoves.{held_after};
 ghost use Rattle.thread_local_ids.specs.Rights.{reached_owns, taken_id};
 
-use crate::{History, Tenure};
+use crate::{History, Page, Tenure};
 use std::marker::{Model, PhantomData};
 
 /// So many ids of a table were held at once, since it was made or cleared. It has no bytes.
@@ -36,6 +36,22 @@ impl History {
         ensures peak { reached.ids ≤ length (held_after self.old.moves) }
         ensures same { self.new ≡ self.old }
     {}
+}
+
+impl Reached {
+    /// The page by which so many ids were held at once. It needs the page from before any was taken.
+    pub fn into_page(self, start: &Page) -> Page
+        requires table { self.table ≡ start.now.table }
+        requires start { start.now.moves ≡ [] }
+        ensures table { result.table ≡ self.table }
+        ensures peak { self.ids ≤ length (held_after result.moves) }
+    {
+        let Self { marker: _ } = self;
+        let _ = start;
+        Page {
+            marker: PhantomData,
+        }
+    }
 }
 
 unsafe impl Send for Reached {}

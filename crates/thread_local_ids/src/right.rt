@@ -15,7 +15,7 @@ use thread_local_base::ThreadIdManager;
 /// One that is dropped or forgotten is lost for good, and its id stays out.
 #[derive(Drop)]
 pub struct Right {
-    marker: PhantomData<()>,
+    pub(crate) marker: PhantomData<()>,
     pub ghost table: { ℕ },
     pub ghost id: { ℕ },
 }
@@ -27,7 +27,7 @@ impl Model for Right {
 /// A table's rights to all ids but those that are out, which were taken and not put back.
 #[derive(Drop)]
 pub struct Rights {
-    marker: PhantomData<()>,
+    pub(crate) marker: PhantomData<()>,
     pub ghost table: { ℕ },
     pub ghost out: { List ℕ },
 }

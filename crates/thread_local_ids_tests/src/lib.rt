@@ -20,4 +20,6 @@ mod rights;
 #[cfg(test)]
 mod same;
 #[cfg(test)]
+mod shared_ids;
+#[cfg(test)]
 mod without_memory;

@@ -10,34 +10,27 @@ use Rattle.thread_local.proofs.local.Local.give_back.Goals as goal
 pub give-requires : goal.give-requires
 give-requires g c =
     let given = c.give_up-held.ensures in
-    let table : c.deref_mut.result.now.table ≡ c.self.inside.claim.table =
-    rw c.deref_mut.ensures.value
-    (c.lock.ensures.tag.1
-    ∙ c.table.invariant.0
+    let table : c.table.inside.ids.table ≡ c.self.inside.claim.table =
+    c.table.invariant.0
     ∙ ap (λ (t : ThreadLocalView). t.table) c.table.view_is
-    ∙ sym c.self.invariant.table)
+    ∙ sym c.self.invariant.table
     in
     record {
       table = (given.table.0 ∙ sym table, given.table.1 ∙ sym table, c.self.invariant.of_table ∙ sym c.self.invariant.table ∙ sym table);
       id = (given.id.1 ∙ sym given.id.0, given.id.0 ∙ c.self.invariant.least);
     }
 
-pub drop-lock-requires-clause-tag : goal.drop-lock-requires-clause-tag
-drop-lock-requires-clause-tag g c =
-    c.give.ensures.table.0 ∙ rw c.deref_mut.ensures.value (c.lock.ensures.tag.1 ∙ sym c.lock.ensures.tag.0)
-
 pub returns-clause-moves : goal.returns-clause-moves
 returns-clause-moves g c =
-    let moves : List IdMove = c.deref_mut.result.now.moves in
+    let moves : List IdMove = c.give.ensures.moves.since in
     record {
       before = moves;
       given =
-          c.give.ensures.page.1
-          ∙ c.give.ensures.moves
+          c.give.ensures.moves.given
           ∙ ap (λ (id : ℕ). noted moves (Give id))
           (c.give_up-held.ensures.id.0 ∙ ap (λ (view : LocalView g.row.T.Denot). view.id) c.self.view_is);
       early =
           subst (λ (before : List IdMove). IsPrefix (noted before Take) moves)
           (ap (λ (view : LocalView g.row.T.Denot). view.before) c.self.view_is)
-          c.give.ensures.early;
+          c.give.ensures.moves.early;
     }

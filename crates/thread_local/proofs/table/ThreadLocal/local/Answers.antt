@@ -6,21 +6,12 @@ use Rattle.thread_local_base.specs.IdMoves.{IdMove, held_after}
 use Rattle.thread_local.proofs.table.ThreadLocal.local.Goals as goal
 
 -- The search for these takes a second.
-pub drop-lock-requires-clause-tag : goal.drop-lock-requires-clause-tag
-drop-lock-requires-clause-tag g c =
-    c.take.ensures.table.0 ∙ rw c.deref_mut.ensures.value (c.lock.ensures.tag.1 ∙ sym c.lock.ensures.tag.0)
-
-pub drop-lock-requires-2-clause-tag : goal.drop-lock-requires-2-clause-tag
-drop-lock-requires-2-clause-tag g c =
-    c.take.ensures.table.0 ∙ rw c.deref_mut.ensures.value (c.lock.ensures.tag.1 ∙ sym c.lock.ensures.tag.0)
-
 pub new-requires : goal.new-requires
 new-requires g c =
     let taken = c.in_ok-held.ensures in
-    let table : c.deref_mut.result.now.table ≡ c.args.self.now.table =
-    rw c.deref_mut.ensures.value
-    (c.lock.ensures.tag.1 ∙ c.self.invariant.0 ∙ ap (λ (t : ThreadLocalView). t.table) c.self.view_is)
-    in (lit< tt, ((taken.right.0 ∙ table, taken.mark ∙ table, taken.tenure.0 ∙ table), (taken.right.1, taken.least)))
+    let table : c.self.inside.ids.table ≡ c.args.self.now.table =
+    c.self.invariant.0 ∙ ap (λ (t : ThreadLocalView). t.table) c.self.view_is
+    in (lit< tt, ((taken.right.0 ∙ table, taken.mark ∙ table, taken.tenure ∙ table), (taken.right.1, taken.least)))
 
 pub returns-clause-in_range : goal.returns-clause-in_range
 returns-clause-in_range g c =

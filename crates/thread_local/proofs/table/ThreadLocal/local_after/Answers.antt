@@ -7,21 +7,12 @@ use Rattle.thread_local.proofs.Counted.{all_below_count}
 use Rattle.thread_local.proofs.table.ThreadLocal.local_after.Goals as goal
 
 -- The search for these takes a second.
-pub drop-lock-requires-clause-tag : goal.drop-lock-requires-clause-tag
-drop-lock-requires-clause-tag g c =
-    c.take_after.ensures.table.0 ∙ rw c.deref_mut.ensures.value (c.lock.ensures.tag.1 ∙ sym c.lock.ensures.tag.0)
-
-pub drop-lock-requires-2-clause-tag : goal.drop-lock-requires-2-clause-tag
-drop-lock-requires-2-clause-tag g c =
-    c.take_after.ensures.table.0 ∙ rw c.deref_mut.ensures.value (c.lock.ensures.tag.1 ∙ sym c.lock.ensures.tag.0)
-
 pub new-requires : goal.new-requires
 new-requires g c =
     let taken = c.in_ok-held.ensures in
-    let table : c.deref_mut.result.now.table ≡ c.args.self.now.table =
-    rw c.deref_mut.ensures.value
-    (c.lock.ensures.tag.1 ∙ c.self.invariant.0 ∙ ap (λ (t : ThreadLocalView). t.table) c.self.view_is)
-    in (lit< tt, ((taken.right.0 ∙ table, taken.mark ∙ table, taken.tenure.0 ∙ table), (taken.right.1, taken.least)))
+    let table : c.self.inside.ids.table ≡ c.args.self.now.table =
+    c.self.invariant.0 ∙ ap (λ (t : ThreadLocalView). t.table) c.self.view_is
+    in (lit< tt, ((taken.right.0 ∙ table, taken.mark ∙ table, taken.tenure ∙ table), (taken.right.1, taken.least)))
 
 pub returns-clause-least : goal.returns-clause-least
 returns-clause-least g c =
@@ -33,7 +24,7 @@ returns-clause-least g c =
 -- where as many ids are held as there was room for, no fewer are
 pub returns-in_err-held-clause-granted : goal.returns-in_err-held-clause-granted
 returns-in_err-held-clause-granted g c = λ few refused.
-    let held : List Bool = held_after c.take_after.new.page.moves in
+    let held : List Bool = held_after c.take.new.page.moves in
     let full : HoldsAllBelow c.args.self.now.room held = search (rules, refused) in
     let many : c.args.self.now.room ≤ held_count held = all_below_count c.args.self.now.room held full in
     omega (arith, few, many)

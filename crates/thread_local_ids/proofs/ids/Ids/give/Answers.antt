@@ -27,6 +27,11 @@ invariant_of-self c =
           ∙ sym (c.put_back-2.ensures.table ∙ c.put_back.ensures.table);
       room = subst (λ (n : ℕ). c.self.inside.room.ids ≤ n) (sym c.free.ensures.room) c.self.invariant.room;
       room_table = c.self.invariant.room_table ∙ sym (c.put_back-2.ensures.table ∙ c.put_back.ensures.table);
+      log = (
+        c.self.invariant.log.0 ∙ sym (c.put_back-2.ensures.table ∙ c.put_back.ensures.table),
+        c.self.invariant.log.1,
+        c.self.invariant.log.2,
+      );
     }
 
 pub returns-clause-given : goal.returns-clause-given

@@ -48,6 +48,11 @@ invariant_of-self-2 c = record {
       ∙ sym (c.take-mark.ensures.table ∙ c.take-right.ensures.table);
   room = omega (arith, c.self.invariant.room, c.in_ok-id.ensures.ok.room);
   room_table = c.self.invariant.room_table ∙ sym (c.take-mark.ensures.table ∙ c.take-right.ensures.table);
+  log = (
+    c.self.invariant.log.0 ∙ sym (c.take-mark.ensures.table ∙ c.take-right.ensures.table),
+    c.self.invariant.log.1,
+    c.self.invariant.log.2,
+  );
 }
 
 pub returns-clause-tenure : goal.returns-clause-tenure

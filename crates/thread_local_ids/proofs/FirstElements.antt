@@ -1,0 +1,467 @@
+-- What lies with the word of the first ids: how each step on the word changes it. Assumes `Logic`.
+use Rattle.std.proofs.Common.{◌≡◌, ℕ, ◌+◌, ◌-◌, ◌*◌, ◌/◌, ◌%◌, ◌^◌, ◌<◌, ◌≤◌, ◌==◌, ◌&&◌, Bool, true, false, List, [], ◌∷◌, length}
+use Rattle.std.proofs.Common.{if◌then◌else◌, refl, sym, ap, subst, ◌∙◌, arith, min, eqb}
+use Rattle.std.proofs.lemmas.Bool.{ne_eqb, eqb-true}
+use mathlib.Core.List.{IsPrefix}
+use seplogic.Ra.Ura.{Ura}
+use base.Logic.{SProp, ex, upd, upd_i, guard}
+use base.Fml.{GName, Lft, Share, Fml, ftrue, fsep, fex, flft, fbor}
+use base.Shift.{Keyless}
+use prog.Atomic.{either}
+use types.Logic.{Logic}
+use types.Kit.{‵, raw, ◌⊛◌, given, settle, show, frame, assume, check, suffices, ◌$◌, ◌∵◌, !, qed, move, drop, split, split3, fsplit}
+use types.Kit.{fsplit3, fjoin, fpick, fpack, learn, rewrite, use1, use2, use3, done}
+use denote.RawPtr.{block_ptr}
+use denote.Steps.{nothing}
+use Rattle.std.specs.Sync.RawAtomic.{word, asks, always}
+use Rattle.thread_local_base.specs.Bits.{IsLowestUnset}
+use Rattle.thread_local_base.specs.Fact.{fact}
+use Rattle.thread_local_base.specs.Held.{is_held, least, with_least, without, HoldsAllBelow}
+use Rattle.thread_local_base.specs.IdMoves.{IdMove, Take, Give, held_after, noted}
+use Rattle.thread_local_base.proofs.HeldLaws.{least_free, is_held-without, length-without}
+use Rattle.thread_local_base.proofs.IdMoveLaws.{after_take, after_give}
+use Rattle.thread_local_base.proofs.Opened.{Lies, opened}
+use Rattle.thread_local_base.proofs.Signs.{signs}
+use Rattle.thread_local_ids.specs.Rights.{is_out, less, right_owns, rights_own, history_owns, page_owns, tenure_of, taken_id}
+use Rattle.thread_local_ids.specs.FirstIds.{IsWordOf, IsSameBeyond, IsGivenBeyond, HasFurther, AreOutOf, IsTiedTo, IsReturn, Kept, is_full, word_with}
+use Rattle.thread_local_ids.specs.Returns.{gives as times_given}
+use Rattle.thread_local_ids.specs.FirstIds.{log_key, log_owns, kept_with, lies_with, first_invariant, tried_owns}
+use Rattle.thread_local_ids.proofs.FirstLaws as laws
+use Rattle.thread_local_ids.proofs.Logs.{O, halved, joined, agree, grown}
+use Rattle.thread_local_ids.proofs.MoveElements.{note_take, note_give, page_of, page_is_early, history_keyless, page_keyless, held_keyless}
+use Rattle.thread_local_ids.proofs.RightElements.{rights_cut, rights_join, right_keyless, rights_keyless}
+
+module _ {M : Type 1} {𝓤 : Ura M} (𝓛 : Logic 𝓤) where
+  open 𝓛 use {A}
+  open signs 𝓛 use {⟦◌⟧, ◌⊢◌, ◌∗◌}
+
+  infix 26 ◌⊢◌
+  infixr 35 ◌∗◌
+  -- ---- the log
+  pub log_begins : (γ : GName) (out : List ℕ) → is_out out log_key ≡ false
+      → ⟦ rights_own γ out ⟧ ⊢ ⟦ log_owns γ true [] ⟧ ∗ ⟦ rights_own γ (log_key ∷ out) ⟧
+  unfolding right_owns log_owns
+  log_begins γ out free = rights_cut 𝓛 γ out log_key free
+
+  pub log_halved : (γ : GName) (log : List IdMove) → ⟦ log_owns γ true log ⟧ ⊢ ⟦ log_owns γ false log ⟧ ∗ ⟦ log_owns γ false log ⟧
+  unfolding log_owns
+  log_halved γ log = halved 𝓛 log_key γ log
+
+  log_agrees : (γ : GName) (a b : List IdMove)
+      → ⟦ log_owns γ false a ⟧ ∗ ⟦ log_owns γ false b ⟧ ⊢ guard 𝓤 (a ≡ b) (⟦ log_owns γ false a ⟧ ∗ ⟦ log_owns γ false b ⟧)
+  unfolding log_owns
+  log_agrees γ a b = agree 𝓛 log_key γ a b
+
+  log_joined : (γ : GName) (a : List IdMove) → ⟦ log_owns γ false a ⟧ ∗ ⟦ log_owns γ false a ⟧ ⊢ ⟦ log_owns γ true a ⟧
+  unfolding log_owns
+  log_joined γ a = joined 𝓛 log_key γ a
+
+  log_whole_grows : (γ : GName) (a b : List IdMove) → IsPrefix a b → ⟦ log_owns γ true a ⟧ ⊢ upd 𝓤 ⟦ log_owns γ true b ⟧
+  unfolding log_owns
+  log_whole_grows γ a b early = grown 𝓛 log_key γ a b early
+
+  log_grows : (γ : GName) (a b : List IdMove) → IsPrefix a b
+      → ⟦ log_owns γ false a ⟧ ∗ ⟦ log_owns γ false a ⟧ ⊢ upd 𝓤 (⟦ log_owns γ false b ⟧ ∗ ⟦ log_owns γ false b ⟧)
+  log_grows γ a b early =
+      let Z = ⟦ log_owns γ false b ⟧ ∗ ⟦ log_owns γ false b ⟧ in
+      qed 𝓛 (‵ (log_owns γ false a) ∷ ‵ (log_owns γ false a) ∷ []) ∵
+      use2 𝓛 (‵ (log_owns γ true a)) (log_joined γ a) $
+      use1 𝓛 (raw (upd 𝓤 ⟦ log_owns γ true b ⟧)) (log_whole_grows γ a b early) $
+      settle 𝓛 Z (‵ (log_owns γ true b)) $
+      use1 𝓛 (‵ (log_owns γ false b) ⊛ ‵ (log_owns γ false b)) (log_halved γ b) $ suffices ! _ (upd_i 𝓤 Z) $ split ! $ done !
+
+  -- ---- taking and giving back
+  -- the rights of the least id go out, and its take is noted
+  taken : (γ : GName) (moves : List IdMove) (out : List ℕ) → AreOutOf out (held_after moves) → taken_id moves < 2 ^ 63 - 1
+      → ⟦ history_owns γ moves ⟧ ∗ ⟦ rights_own γ out ⟧
+      ⊢ upd 𝓤 (⟦ tried_owns γ moves true ⟧ ∗ ⟦ history_owns γ (noted moves Take) ⟧
+      ∗ ⟦ rights_own γ ((taken_id moves + 2 ^ 63) ∷ taken_id moves ∷ out) ⟧)
+  taken γ moves out are low =
+      let id : ℕ = taken_id moves in
+      let mark : ℕ = id + 2 ^ 63 in
+      let more : List IdMove = noted moves Take in
+      let free : is_out out id ≡ false = (are id low).0 ∙ least_free (held_after moves) in
+      let mark_free : is_out (id ∷ out) mark ≡ false =
+      rw (ne_eqb id mark (λ e. absurd (omega (arith, e)))) ((are id low).1 ∙ least_free (held_after moves)) in
+      let Z = ⟦ tried_owns γ moves true ⟧ ∗ ⟦ history_owns γ more ⟧ ∗ ⟦ rights_own γ (mark ∷ id ∷ out) ⟧ in
+      qed 𝓛 (‵ (history_owns γ moves) ∷ ‵ (rights_own γ out) ∷ []) ∵
+      use1 𝓛 (raw (upd 𝓤 (⟦ tenure_of γ moves ⟧ ∗ ⟦ history_owns γ more ⟧))) (note_take 𝓛 γ moves) $
+      settle 𝓛 Z (‵ (tenure_of γ moves) ⊛ ‵ (history_owns γ more)) $ suffices ! _ (upd_i 𝓤 Z) $ split ! $
+      -- [the tenure; the history; the rights]
+      move ! (2 ∷ []) $ use1 𝓛 (‵ (right_owns γ id) ⊛ ‵ (rights_own γ (id ∷ out))) (rights_cut 𝓛 γ out id free) $ split ! $
+      move ! (1 ∷ []) $ use1 𝓛 (‵ (right_owns γ mark) ⊛ ‵ (rights_own γ (mark ∷ id ∷ out))) (rights_cut 𝓛 γ (id ∷ out) mark mark_free) $
+      split ! $
+      -- [the mark; the rights; the right; the tenure; the history]
+      move ! (2 ∷ 0 ∷ []) $ fjoin ! $ move ! (0 ∷ 2 ∷ []) $ fjoin ! $ frame ! $ move ! (1 ∷ 0 ∷ []) $ done !
+
+  -- the rights to an id that was taken come back, and its return is noted
+  given_back : (γ : GName) (moves before : List IdMove) (out : List ℕ) (id mark : ℕ) → AreOutOf out (held_after moves) → id < 2 ^ 63 - 1
+      → id ≡ taken_id before → mark ≡ id + 2 ^ 63
+      → ⟦ history_owns γ moves ⟧ ∗ ⟦ rights_own γ out ⟧ ∗ ⟦ right_owns γ id ⟧ ∗ ⟦ right_owns γ mark ⟧ ∗ ⟦ tenure_of γ before ⟧
+      ⊢ guard 𝓤 ((is_held (held_after moves) id ≡ true) × IsPrefix (noted before Take) moves)
+      (upd 𝓤 (⟦ page_owns γ (noted moves (Give id)) ⟧ ∗ ⟦ history_owns γ (noted moves (Give id)) ⟧
+      ∗ ⟦ rights_own γ (less (less out id) (id + 2 ^ 63)) ⟧))
+  given_back γ moves before out id mark are low is mark_is =
+      let own : ℕ = id + 2 ^ 63 in
+      let more : List IdMove = noted moves (Give id) in
+      let early : Type 0 = IsPrefix (noted before Take) moves in
+      let Z = ⟦ page_owns γ more ⟧ ∗ ⟦ history_owns γ more ⟧ ∗ ⟦ rights_own γ (less (less out id) own) ⟧ in
+      qed 𝓛 (‵ (history_owns γ moves) ∷ ‵ (rights_own γ out) ∷ ‵ (right_owns γ id) ∷ ‵ (right_owns γ mark)
+      ∷ ‵ (tenure_of γ before) ∷ []) ∵
+      move ! (2 ∷ 1 ∷ []) $ use2 𝓛 (given (is_out out id ≡ true) (‵ (rights_own γ (less out id)))) (rights_join 𝓛 γ out id) $ learn ! (λ gone.
+      -- [the rights; the history; the mark; the tenure]
+      move ! (2 ∷ []) $ rewrite ! 0 (λ (k : ℕ). ‵ (right_owns γ k)) mark_is refl $ move ! (0 ∷ 1 ∷ []) $
+      use2 𝓛 (given (is_out (less out id) own ≡ true) (‵ (rights_own γ (less (less out id) own)))) (rights_join 𝓛 γ (less out id) own) $ learn ! (λ _.
+      let held : is_held (held_after moves) id ≡ true = sym (are id low).0 ∙ gone in
+      -- [the rights; the history; the tenure]
+      move ! (2 ∷ []) $ fsplit ! $ move ! (3 ∷ 0 ∷ []) $
+      use2 𝓛 (given early (‵ (history_owns γ moves) ⊛ ‵ (page_owns γ (noted before Take)))) (page_is_early 𝓛 γ moves (noted before Take)) $
+      learn ! (λ so. split ! $ check ! (held, so) $ move ! (1 ∷ 2 ∷ []) $ fjoin ! $ move ! (1 ∷ 0 ∷ []) $
+      -- [the history; the tenure; the rights]
+      use2 𝓛 (raw (upd 𝓤 (⟦ page_owns γ more ⟧ ∗ ⟦ history_owns γ more ⟧))) (note_give 𝓛 γ moves before id is held) $
+      settle 𝓛 Z (‵ (page_owns γ more) ⊛ ‵ (history_owns γ more)) $ suffices ! _ (upd_i 𝓤 Z) $ split ! $ frame ! $ done !)))
+
+  -- ---- what a step on the word changes
+  abbrev pub took : GName → ℕ → List IdMove → Fml
+  took γ id seen =
+      fex (List IdMove) (λ before. fsep (fact (IsPrefix seen before × (id ≡ taken_id before))) (tried_owns γ before true))
+
+  -- the least id is taken, which is a first one
+  pub takes_first : (γ : GName) (n id : ℕ) (seen : List IdMove) → IsLowestUnset (n / 64) id → id < 58
+      → ⟦ lies_with γ n ⟧ ∗ ⟦ page_owns γ seen ⟧ ⊢ upd 𝓤 (⟦ lies_with γ (word_with n id) ⟧ ∗ ⟦ took γ id seen ⟧)
+  takes_first γ n id seen low first =
+      let Z = ⟦ lies_with γ (word_with n id) ⟧ ∗ ⟦ took γ id seen ⟧ in
+      qed 𝓛 (‵ (lies_with γ n) ∷ ‵ (page_owns γ seen) ∷ []) ∵ fpick ! (λ s. fsplit3 ! $ move ! (2 ∷ []) $ fsplit ! $ move ! (1 ∷ []) $
+      let moves : List IdMove = s.0 in
+      let out : List ℕ = s.1.0 in
+      let log : List IdMove = s.1.1 in
+      fpick ! (λ tied. drop ! $
+      let more : List IdMove = noted moves Take in
+      let is : id ≡ taken_id moves = laws.lowest_is_least n id (held_after moves) tied.word low first in
+      let least_low : taken_id moves < 58 = subst (λ (k : ℕ). k < 58) is first in
+      let range : taken_id moves < 2 ^ 63 - 1 = omega (arith, least_low) in
+      let now : held_after more ≡ with_least (held_after moves) = after_take moves in
+      let out' : List ℕ = (taken_id moves + 2 ^ 63) ∷ taken_id moves ∷ out in
+      let tied' : IsTiedTo (word_with n id) more out' log = record {
+        word = subst (IsWordOf (word_with n id)) (sym now) (laws.word_taken n id (held_after moves) tied.word low first);
+        rights = subst (AreOutOf out') (sym now) (laws.out_taken out (held_after moves) (taken_id moves) tied.rights refl range);
+        beyond = subst (IsSameBeyond (held_after log)) (sym now) (laws.beyond_taken (held_after log) (held_after moves) tied.beyond least_low);
+        peak = tied.peak ∙ sym (ap (λ (h : List Bool). length h - 58) now ∙ laws.peak_taken (held_after moves) least_low);
+        early = O.trans log moves more tied.early (Take ∷ [], refl);
+      } in
+      -- [the log; the history; the rights; the page]
+      move ! (1 ∷ 3 ∷ []) $
+      use2 𝓛 (given (IsPrefix seen moves) (‵ (history_owns γ moves) ⊛ ‵ (page_owns γ seen))) (page_is_early 𝓛 γ moves seen) $
+      learn ! (λ so. split ! $ move ! (1 ∷ []) $ drop ! $ move ! (0 ∷ 2 ∷ []) $
+      use2 𝓛 (raw (upd 𝓤 (⟦ tried_owns γ moves true ⟧ ∗ ⟦ history_owns γ more ⟧ ∗ ⟦ rights_own γ out' ⟧))) (taken γ moves out tied.rights range) $
+      settle 𝓛 Z (‵ (tried_owns γ moves true) ⊛ ‵ (history_owns γ more) ⊛ ‵ (rights_own γ out')) $ suffices ! _ (upd_i 𝓤 Z) $ split3 ! $
+      -- [what the take leaves; the history; the rights; the log]
+      nothing ! $ fpack ! (IsPrefix seen moves × (id ≡ taken_id moves)) (λ _. ftrue) (so, is) $ move ! (0 ∷ 1 ∷ []) $ fjoin ! $
+      fpack ! (List IdMove) (λ before. fsep (fact (IsPrefix seen before × (id ≡ taken_id before))) (tried_owns γ before true)) moves $
+      nothing ! $ fpack ! (IsTiedTo (word_with n id) more out' log) (λ _. ftrue) tied' $ move ! (4 ∷ 0 ∷ []) $ fjoin ! $
+      move ! (3 ∷ 0 ∷ []) $ fjoin ! $ move ! (2 ∷ 0 ∷ []) $ fjoin ! $ fpack ! Kept (kept_with γ (word_with n id)) (more, (out', log)) $
+      frame ! $ done !)))
+
+  -- a compare and exchange takes the least id where it writes, and sees the moves where it doesn't
+  abbrev pub tried : GName → ℕ → List IdMove → Bool → Fml
+  tried γ id seen t =
+      fex (List IdMove) (λ before. fsep (fact (IsPrefix seen before × (t ≡ true → id ≡ taken_id before))) (tried_owns γ before t))
+
+  tries_if : (γ : GName) (n old id : ℕ) (seen : List IdMove) (t : Bool) → (n == old) ≡ t → IsLowestUnset (old / 64) id → id < 58
+      → ⟦ lies_with γ n ⟧ ∗ ⟦ page_owns γ seen ⟧ ⊢ upd 𝓤 (⟦ lies_with γ (either t (word_with old id) n) ⟧ ∗ ⟦ tried γ id seen t ⟧)
+  tries_if γ n old id seen true e low first =
+      let same : n ≡ old = eqb-true n old e in
+      let Z = ⟦ lies_with γ (word_with old id) ⟧ ∗ ⟦ tried γ id seen true ⟧ in
+      qed 𝓛 (‵ (lies_with γ n) ∷ ‵ (page_owns γ seen) ∷ []) ∵ rewrite ! 0 (λ (k : ℕ). ‵ (lies_with γ k)) same refl $
+      use2 𝓛 (raw (upd 𝓤 (⟦ lies_with γ (word_with old id) ⟧ ∗ ⟦ took γ id seen ⟧))) (takes_first γ old id seen low first) $
+      settle 𝓛 Z (‵ (lies_with γ (word_with old id)) ⊛ ‵ (took γ id seen)) $ suffices ! _ (upd_i 𝓤 Z) $ split ! $ frame ! $
+      fpick ! (λ before. fsplit ! $ fpick ! (λ so. drop ! $
+      nothing ! $ fpack ! (IsPrefix seen before × (true ≡ true → id ≡ taken_id before)) (λ _. ftrue) (so.0, λ _. so.1) $ fjoin ! $
+      fpack ! (List IdMove) (λ m. fsep (fact (IsPrefix seen m × (true ≡ true → id ≡ taken_id m))) (tried_owns γ m true)) before $ done !))
+  tries_if γ n old id seen false e low first =
+      let Z = ⟦ lies_with γ n ⟧ ∗ ⟦ tried γ id seen false ⟧ in
+      qed 𝓛 (‵ (lies_with γ n) ∷ ‵ (page_owns γ seen) ∷ []) ∵ suffices ! _ (upd_i 𝓤 Z) $ fpick ! (λ s. fsplit ! $ move ! (0 ∷ 2 ∷ []) $
+      use2 𝓛 (given (IsPrefix seen s.0) (‵ (history_owns γ s.0) ⊛ ‵ (page_owns γ seen))) (page_is_early 𝓛 γ s.0 seen) $
+      learn ! (λ so. split ! $ move ! (1 ∷ []) $ drop ! $
+      use1 𝓛 (‵ (page_owns γ s.0) ⊛ ‵ (history_owns γ s.0)) (page_of 𝓛 γ s.0) $ split ! $
+      -- [the page; the history; the rest]
+      move ! (1 ∷ 2 ∷ []) $ fjoin ! $ fpack ! Kept (kept_with γ n) s $ frame ! $
+      nothing ! $ fpack ! (IsPrefix seen s.0 × (false ≡ true → id ≡ taken_id s.0)) (λ _. ftrue) (so, λ no. cc) $ fjoin ! $
+      fpack ! (List IdMove) (λ m. fsep (fact (IsPrefix seen m × (false ≡ true → id ≡ taken_id m))) (tried_owns γ m false)) s.0 $ done !))
+
+  -- a load sees the moves, or takes the least id, which is a further one
+  pub record Looked (n : ℕ) (seen log before : List IdMove) : Type 0 where
+    pub early : IsPrefix seen before
+    pub word : IsWordOf n (held_after before)
+    pub beyond : IsSameBeyond (held_after log) (held_after before)
+    pub peak : length (held_after log) - 58 ≡ length (held_after before) - 58
+
+  abbrev pub looked : GName → ℕ → List IdMove → List IdMove → Bool → Fml
+  looked γ n seen log t =
+      fex (List IdMove) (λ before. fsep (fact (Looked n seen log before))
+      (fsep (tried_owns γ before t) (log_owns γ false (if t then noted before Take else log))))
+
+  looks_if : (γ : GName) (n : ℕ) (seen log : List IdMove) (t : Bool) → (t ≡ true → is_full n ≡ true × HasFurther (held_after log))
+      → ⟦ lies_with γ n ⟧ ∗ ⟦ fsep (page_owns γ seen) (log_owns γ false log) ⟧ ⊢ upd 𝓤 (⟦ lies_with γ n ⟧ ∗ ⟦ looked γ n seen log t ⟧)
+  looks_if γ n seen log true may =
+      let Z = ⟦ lies_with γ n ⟧ ∗ ⟦ looked γ n seen log true ⟧ in
+      qed 𝓛 (‵ (lies_with γ n) ∷ ‵ (fsep (page_owns γ seen) (log_owns γ false log)) ∷ []) ∵
+      fpick ! (λ s. fsplit3 ! $ move ! (2 ∷ []) $ fsplit ! $ move ! (1 ∷ []) $
+      let moves : List IdMove = s.0 in
+      let out : List ℕ = s.1.0 in
+      -- [the fact; the log; the history; the rights; the page and the log]
+      fpick ! (λ tied. drop ! $ move ! (3 ∷ []) $ fsplit ! $ move ! (2 ∷ 1 ∷ []) $
+      -- [the log; the other log; the page; the history; the rights]
+      use2 𝓛 (given (s.1.1 ≡ log) (‵ (log_owns γ false s.1.1) ⊛ ‵ (log_owns γ false log))) (log_agrees γ s.1.1 log) $
+      learn ! (λ same. split ! $ rewrite ! 0 (λ (l : List IdMove). ‵ (log_owns γ false l)) same refl $
+      let more : List IdMove = noted moves Take in
+      let held : List Bool = held_after moves in
+      let now : held_after more ≡ with_least held = after_take moves in
+      let beyond : IsSameBeyond (held_after log) held = subst (λ (l : List IdMove). IsSameBeyond (held_after l) held) same tied.beyond in
+      let full : HoldsAllBelow 58 held = laws.full_holds n held tied.word (may refl).0 in
+      let high : 58 ≤ least held = laws.full_least held full in
+      let range : taken_id moves < 2 ^ 63 - 1 = laws.least_in_range (held_after log) held beyond (may refl).1 in
+      let out' : List ℕ = (taken_id moves + 2 ^ 63) ∷ taken_id moves ∷ out in
+      let seen_so : (early : IsPrefix seen moves) → Looked n seen log moves = λ early. record {
+        early = early;
+        word = tied.word;
+        beyond = beyond;
+        peak = subst (λ (l : List IdMove). length (held_after l) - 58 ≡ length held - 58) same tied.peak;
+      } in
+      let tied' : IsTiedTo n more out' more = record {
+        word = subst (IsWordOf n) (sym now) (laws.word_stays n held (with_least held) tied.word (laws.low_taken held high) (laws.low_peak held high));
+        rights = subst (AreOutOf out') (sym now) (laws.out_taken out held (taken_id moves) tied.rights refl range);
+        beyond = λ id further. refl;
+        peak = refl;
+        early = O.same more;
+      } in
+      use2 𝓛 (raw (upd 𝓤 (⟦ log_owns γ false more ⟧ ∗ ⟦ log_owns γ false more ⟧))) (log_grows γ log more
+      (O.trans log moves more (subst (λ (l : List IdMove). IsPrefix l moves) same tied.early) (Take ∷ [], refl))) $
+      settle 𝓛 Z (‵ (log_owns γ false more) ⊛ ‵ (log_owns γ false more)) $ split ! $
+      -- [the log; the other log; the page; the history; the rights]
+      move ! (3 ∷ 2 ∷ []) $
+      use2 𝓛 (given (IsPrefix seen moves) (‵ (history_owns γ moves) ⊛ ‵ (page_owns γ seen))) (page_is_early 𝓛 γ moves seen) $
+      learn ! (λ so. split ! $ move ! (1 ∷ []) $ drop ! $ move ! (0 ∷ 3 ∷ []) $
+      use2 𝓛 (raw (upd 𝓤 (⟦ tried_owns γ moves true ⟧ ∗ ⟦ history_owns γ more ⟧ ∗ ⟦ rights_own γ out' ⟧))) (taken γ moves out tied.rights range) $
+      settle 𝓛 Z (‵ (tried_owns γ moves true) ⊛ ‵ (history_owns γ more) ⊛ ‵ (rights_own γ out')) $ suffices ! _ (upd_i 𝓤 Z) $ split3 ! $
+      -- [what the take leaves; the history; the rights; the log; the other log]
+      move ! (0 ∷ 4 ∷ []) $ fjoin ! $ nothing ! $ fpack ! (Looked n seen log moves) (λ _. ftrue) (seen_so so) $ fjoin ! $
+      fpack ! (List IdMove) (λ m. fsep (fact (Looked n seen log m)) (fsep (tried_owns γ m true) (log_owns γ false (noted m Take)))) moves $
+      nothing ! $ fpack ! (IsTiedTo n more out' more) (λ _. ftrue) tied' $ move ! (4 ∷ 0 ∷ []) $ fjoin ! $
+      move ! (3 ∷ 0 ∷ []) $ fjoin ! $ move ! (2 ∷ 0 ∷ []) $ fjoin ! $ fpack ! Kept (kept_with γ n) (more, (out', more)) $
+      frame ! $ done !))))
+  looks_if γ n seen log false may =
+      let Z = ⟦ lies_with γ n ⟧ ∗ ⟦ looked γ n seen log false ⟧ in
+      qed 𝓛 (‵ (lies_with γ n) ∷ ‵ (fsep (page_owns γ seen) (log_owns γ false log)) ∷ []) ∵ suffices ! _ (upd_i 𝓤 Z) $
+      fpick ! (λ s. fsplit3 ! $ move ! (2 ∷ []) $ fsplit ! $ move ! (1 ∷ []) $
+      let moves : List IdMove = s.0 in
+      fpick ! (λ tied. drop ! $ move ! (3 ∷ []) $ fsplit ! $ move ! (2 ∷ 1 ∷ []) $
+      -- [the log; the other log; the page; the history; the rights]
+      use2 𝓛 (given (s.1.1 ≡ log) (‵ (log_owns γ false s.1.1) ⊛ ‵ (log_owns γ false log))) (log_agrees γ s.1.1 log) $
+      learn ! (λ same. split ! $ move ! (3 ∷ 2 ∷ []) $
+      use2 𝓛 (given (IsPrefix seen moves) (‵ (history_owns γ moves) ⊛ ‵ (page_owns γ seen))) (page_is_early 𝓛 γ moves seen) $
+      learn ! (λ so. split ! $ move ! (1 ∷ []) $ drop ! $
+      use1 𝓛 (‵ (page_owns γ moves) ⊛ ‵ (history_owns γ moves)) (page_of 𝓛 γ moves) $ split ! $
+      -- [the page; the history; the log; the other log; the rights]
+      let seen_so : Looked n seen log moves = record {
+        early = so;
+        word = tied.word;
+        beyond = subst (λ (l : List IdMove). IsSameBeyond (held_after l) (held_after moves)) same tied.beyond;
+        peak = subst (λ (l : List IdMove). length (held_after l) - 58 ≡ length (held_after moves) - 58) same tied.peak;
+      } in
+      move ! (0 ∷ 3 ∷ []) $ fjoin ! $ nothing ! $ fpack ! (Looked n seen log moves) (λ _. ftrue) seen_so $ fjoin ! $
+      fpack ! (List IdMove) (λ m. fsep (fact (Looked n seen log m)) (fsep (tried_owns γ m false) (log_owns γ false log))) moves $
+      -- [what was seen; the history; the log; the rights]
+      nothing ! $ fpack ! (IsTiedTo n moves s.1.0 s.1.1) (λ _. ftrue) tied $ move ! (3 ∷ 0 ∷ []) $ fjoin ! $
+      move ! (3 ∷ 0 ∷ []) $ fjoin ! $ move ! (2 ∷ 0 ∷ []) $ fjoin ! $ fpack ! Kept (kept_with γ n) s $
+      frame ! $ done !))))
+
+  -- an id is given back
+  abbrev pub returned : GName → List IdMove → ℕ → Fml
+  returned γ before id = fex (List IdMove) (λ more. fsep (fact (IsReturn before id more)) (page_owns γ more))
+
+  abbrev pub gone : GName → List IdMove → ℕ → ℕ → Fml
+  gone γ before id mark = fsep (right_owns γ id) (fsep (right_owns γ mark) (tenure_of γ before))
+
+  pub gives_first : (γ : GName) (n k id mark : ℕ) (before : List IdMove) → id < 58 → k ≡ 64 * 2 ^ id % 2 ^ 64
+      → id ≡ taken_id before → mark ≡ id + 2 ^ 63
+      → ⟦ lies_with γ n ⟧ ∗ ⟦ gone γ before id mark ⟧ ⊢ upd 𝓤 (⟦ lies_with γ ((n + (2 ^ 64 - k)) % 2 ^ 64) ⟧ ∗ ⟦ returned γ before id ⟧)
+  gives_first γ n k id mark before first k_is is mark_is =
+      let n' : ℕ = (n + (2 ^ 64 - k)) % 2 ^ 64 in
+      let Z = ⟦ lies_with γ n' ⟧ ∗ ⟦ returned γ before id ⟧ in
+      qed 𝓛 (‵ (lies_with γ n) ∷ ‵ (gone γ before id mark) ∷ []) ∵
+      fpick ! (λ s. fsplit3 ! $ move ! (2 ∷ []) $ fsplit ! $ move ! (1 ∷ []) $
+      let moves : List IdMove = s.0 in
+      let out : List ℕ = s.1.0 in
+      let log : List IdMove = s.1.1 in
+      let more : List IdMove = noted moves (Give id) in
+      let held : List Bool = held_after moves in
+      let out' : List ℕ = less (less out id) (id + 2 ^ 63) in
+      let range : id < 2 ^ 63 - 1 = omega (arith, first) in
+      let now : held_after more ≡ without held id = after_give moves id in
+      let Held : Type 0 = (is_held held id ≡ true) × IsPrefix (noted before Take) moves in
+      -- [the fact; the log; the history; the rights; what comes back]
+      fpick ! (λ tied. drop ! $ move ! (1 ∷ 2 ∷ 3 ∷ []) $
+      use3 𝓛 (given Held (raw (upd 𝓤 (⟦ page_owns γ more ⟧ ∗ ⟦ history_owns γ more ⟧ ∗ ⟦ rights_own γ out' ⟧))))
+      (given_back γ moves before out id mark tied.rights range is mark_is) $ learn ! (λ so.
+      let plain : k ≡ 64 * 2 ^ id = k_is ∙ laws.bit_in_word id first in
+      let tied' : IsTiedTo n' more out' log = record {
+        word = subst (IsWordOf n') (sym now) (subst (λ (j : ℕ). IsWordOf ((n + (2 ^ 64 - j)) % 2 ^ 64) (without held id)) (sym plain)
+            (laws.word_given n id held tied.word first so.0));
+        rights = subst (AreOutOf out') (sym now) (laws.out_given out held id tied.rights range);
+        beyond = subst (IsSameBeyond (held_after log)) (sym now) (laws.beyond_given (held_after log) held id tied.beyond first);
+        peak = tied.peak ∙ sym (ap (λ (h : List Bool). length h - 58) now ∙ ap (λ (j : ℕ). j - 58) (length-without held id));
+        early = O.trans log moves more tied.early (Give id ∷ [], refl);
+      } in
+      settle 𝓛 Z (‵ (page_owns γ more) ⊛ ‵ (history_owns γ more) ⊛ ‵ (rights_own γ out')) $ suffices ! _ (upd_i 𝓤 Z) $ split3 ! $
+      -- [the page; the history; the rights; the log]
+      nothing ! $ fpack ! (IsReturn before id more) (λ _. ftrue) (record { since = moves; given = refl; early = so.1 }) $
+      fjoin ! $ fpack ! (List IdMove) (λ m. fsep (fact (IsReturn before id m)) (page_owns γ m)) more $
+      nothing ! $ fpack ! (IsTiedTo n' more out' log) (λ _. ftrue) tied' $ move ! (4 ∷ 0 ∷ []) $ fjoin ! $
+      move ! (3 ∷ 0 ∷ []) $ fjoin ! $ move ! (2 ∷ 0 ∷ []) $ fjoin ! $ fpack ! Kept (kept_with γ n') (more, (out', log)) $
+      frame ! $ done !)))
+
+  -- a further id is given back
+  abbrev pub ReturnedFurther : List IdMove → List IdMove → ℕ → List IdMove → Type 0
+  ReturnedFurther before log id more = IsReturn before id more × IsGivenBeyond (held_after log) (held_after more) id
+
+  abbrev pub returned_further : GName → List IdMove → List IdMove → ℕ → Fml
+  returned_further γ before log id =
+      fex (List IdMove) (λ more. fsep (fact (ReturnedFurther before log id more)) (fsep (page_owns γ more) (log_owns γ false more)))
+
+  pub gives_further : (γ : GName) (n id mark : ℕ) (before log : List IdMove) → 58 ≤ id → id < 2 ^ 63 - 1
+      → id ≡ taken_id before → mark ≡ id + 2 ^ 63
+      → ⟦ lies_with γ n ⟧ ∗ ⟦ fsep (log_owns γ false log) (gone γ before id mark) ⟧
+      ⊢ upd 𝓤 (⟦ lies_with γ n ⟧ ∗ ⟦ returned_further γ before log id ⟧)
+  gives_further γ n id mark before log further range is mark_is =
+      let Z = ⟦ lies_with γ n ⟧ ∗ ⟦ returned_further γ before log id ⟧ in
+      qed 𝓛 (‵ (lies_with γ n) ∷ ‵ (fsep (log_owns γ false log) (gone γ before id mark)) ∷ []) ∵
+      fpick ! (λ s. fsplit3 ! $ move ! (2 ∷ []) $ fsplit ! $ move ! (1 ∷ []) $
+      let moves : List IdMove = s.0 in
+      let out : List ℕ = s.1.0 in
+      let more : List IdMove = noted moves (Give id) in
+      let held : List Bool = held_after moves in
+      let out' : List ℕ = less (less out id) (id + 2 ^ 63) in
+      let now : held_after more ≡ without held id = after_give moves id in
+      let Held : Type 0 = (is_held held id ≡ true) × IsPrefix (noted before Take) moves in
+      fpick ! (λ tied. drop ! $ move ! (3 ∷ []) $ fsplit ! $ move ! (2 ∷ 0 ∷ []) $
+      -- [the log; the other log; what comes back; the history; the rights]
+      use2 𝓛 (given (s.1.1 ≡ log) (‵ (log_owns γ false s.1.1) ⊛ ‵ (log_owns γ false log))) (log_agrees γ s.1.1 log) $
+      learn ! (λ same. split ! $ rewrite ! 0 (λ (l : List IdMove). ‵ (log_owns γ false l)) same refl $
+      use2 𝓛 (raw (upd 𝓤 (⟦ log_owns γ false more ⟧ ∗ ⟦ log_owns γ false more ⟧))) (log_grows γ log more
+      (O.trans log moves more (subst (λ (l : List IdMove). IsPrefix l moves) same tied.early) (Give id ∷ [], refl))) $
+      settle 𝓛 Z (‵ (log_owns γ false more) ⊛ ‵ (log_owns γ false more)) $ split ! $
+      move ! (3 ∷ 4 ∷ 2 ∷ []) $
+      use3 𝓛 (given Held (raw (upd 𝓤 (⟦ page_owns γ more ⟧ ∗ ⟦ history_owns γ more ⟧ ∗ ⟦ rights_own γ out' ⟧))))
+      (given_back γ moves before out id mark tied.rights range is mark_is) $ learn ! (λ so.
+      let tied' : IsTiedTo n more out' more = record {
+        word = subst (IsWordOf n) (sym now) (laws.word_stays n held (without held id) tied.word (laws.low_given held id further)
+            (ap (min 58) (length-without held id)));
+        rights = subst (AreOutOf out') (sym now) (laws.out_given out held id tied.rights range);
+        beyond = λ j _. refl;
+        peak = refl;
+        early = O.same more;
+      } in
+      let beyond : IsSameBeyond (held_after log) held = subst (λ (l : List IdMove). IsSameBeyond (held_after l) held) same tied.beyond in
+      let was : IsGivenBeyond (held_after log) (held_after more) id = record {
+        held = beyond id further ∙ so.0;
+        at = λ j far. ap (λ (h : List Bool). is_held h j) now ∙ is_held-without held id j
+            ∙ ap (λ (b : Bool). if id == j then false else b) (sym (beyond j far));
+        peak = ap (λ (h : List Bool). length h - 58) now ∙ ap (λ (j : ℕ). j - 58) (length-without held id)
+            ∙ sym (subst (λ (l : List IdMove). length (held_after l) - 58 ≡ length held - 58) same tied.peak);
+      } in
+      settle 𝓛 Z (‵ (page_owns γ more) ⊛ ‵ (history_owns γ more) ⊛ ‵ (rights_own γ out')) $ suffices ! _ (upd_i 𝓤 Z) $ split3 ! $
+      -- [the page; the history; the rights; the log; the other log]
+      move ! (0 ∷ 4 ∷ []) $ fjoin ! $
+      nothing ! $ fpack ! (ReturnedFurther before log id more) (λ _. ftrue) (record { since = moves; given = refl; early = so.1 }, was) $
+      fjoin ! $
+      fpack ! (List IdMove) (λ m. fsep (fact (ReturnedFurther before log id m)) (fsep (page_owns γ m) (log_owns γ false m))) more $
+      nothing ! $ fpack ! (IsTiedTo n more out' more) (λ _. ftrue) tied' $ move ! (4 ∷ 0 ∷ []) $ fjoin ! $
+      move ! (3 ∷ 0 ∷ []) $ fjoin ! $ move ! (2 ∷ 0 ∷ []) $ fjoin ! $ fpack ! Kept (kept_with γ n) (more, (out', more)) $
+      frame ! $ done !))))
+
+  -- ---- at the beginning
+  pub begins : (γ : GName) (out : List ℕ) → AreOutOf out []
+      → ⟦ history_owns γ [] ⟧ ∗ ⟦ rights_own γ out ⟧ ∗ ⟦ log_owns γ false [] ⟧ ⊢ ⟦ lies_with γ 0 ⟧
+  begins γ out are =
+      let tied : IsTiedTo 0 [] out [] = record {
+        word = laws.word_begins;
+        rights = are;
+        beyond = λ id _. refl;
+        peak = refl;
+        early = O.same [];
+      } in
+      qed 𝓛 (‵ (history_owns γ []) ∷ ‵ (rights_own γ out) ∷ ‵ (log_owns γ false []) ∷ []) ∵
+      nothing ! $ fpack ! (IsTiedTo 0 [] out []) (λ _. ftrue) tied $ move ! (3 ∷ 0 ∷ []) $ fjoin ! $
+      move ! (2 ∷ 0 ∷ []) $ fjoin ! $ move ! (1 ∷ 0 ∷ []) $ fjoin ! $ fpack ! Kept (kept_with γ 0) ([], (out, [])) $ done !
+
+  -- ---- the atomic steps
+  module _ (γ b o : ℕ) (κ : Lft) (q : Share) where
+    abbrev I : Fml
+    I = first_invariant γ b (o + 0)
+
+    -- a step that writes f n over the word n
+    stepped : (f : ℕ → ℕ) (after : ℕ → Fml) (X : Fml)
+        → ((n : ℕ) → ⟦ lies_with γ n ⟧ ∗ ⟦ X ⟧ ⊢ upd 𝓤 (⟦ lies_with γ (f n) ⟧ ∗ ⟦ after n ⟧))
+        → A.inv (fbor κ I) ∗ (A.lft κ q ∗ ⟦ X ⟧)
+        ⊢ asks 𝓛 (block_ptr b (o + 0)) f always (λ n. fsep (flft κ q) (after n))
+    stepped f after X h =
+        let L : ℕ → SProp 𝓤 = Lies 𝓛 κ q I b (o + 0) f after in
+        opened 𝓛 κ q I b (o + 0) f after ⟦ X ⟧ (qed 𝓛 (‵ I ∷ ‵ X ∷ []) ∵
+        suffices ! _ (upd_i 𝓤 (ex 𝓤 L)) $ fpick ! (λ n. fsplit ! $
+        show ! L n $ frame ! $ assume ! (‵ (word b (o + 0) (f n))) $
+        let Z = ⟦ I ⟧ ∗ ⟦ after n ⟧ in
+        -- [the word; what lies with it; what the step needs]
+        move ! (1 ∷ 2 ∷ []) $
+        use2 𝓛 (raw (upd 𝓤 (⟦ lies_with γ (f n) ⟧ ∗ ⟦ after n ⟧))) (h n) $
+        settle 𝓛 Z (‵ (lies_with γ (f n)) ⊛ ‵ (after n)) $ suffices ! _ (upd_i 𝓤 Z) $ split ! $
+        move ! (2 ∷ 0 ∷ []) $ fjoin ! $ fpack ! ℕ (λ k. fsep (word b (o + 0) k) (lies_with γ k)) (f n) $ done !))
+
+    pub sees : A.inv (fbor κ I) ∗ (A.lft κ q ∗ ⟦ ftrue ⟧)
+        ⊢ asks 𝓛 (block_ptr b (o + 0)) (λ n. n) always (λ n. fsep (flft κ q) ftrue)
+    sees = stepped (λ n. n) (λ _. ftrue) ftrue (λ n. upd_i 𝓤 (⟦ lies_with γ n ⟧ ∗ ⟦ ftrue ⟧))
+
+    pub tries : (old new id : ℕ) (seen : List IdMove) → new ≡ word_with old id → IsLowestUnset (old / 64) id → id < 58
+        → A.inv (fbor κ I) ∗ (A.lft κ q ∗ ⟦ page_owns γ seen ⟧)
+        ⊢ asks 𝓛 (block_ptr b (o + 0)) (λ n. either (eqb n old) new n) always (λ n. fsep (flft κ q) (tried γ id seen (eqb n old)))
+    tries old new id seen is low first =
+        stepped (λ n. either (eqb n old) new n) (λ n. tried γ id seen (eqb n old)) (page_owns γ seen) (λ n.
+        subst (λ (w : ℕ). ⟦ lies_with γ n ⟧ ∗ ⟦ page_owns γ seen ⟧
+        ⊢ upd 𝓤 (⟦ lies_with γ (either (eqb n old) w n) ⟧ ∗ ⟦ tried γ id seen (eqb n old) ⟧)) (sym is)
+        (tries_if γ n old id seen (eqb n old) refl low first))
+
+    pub looks : (seen log : List IdMove) (takes : Bool) → (takes ≡ true → HasFurther (held_after log))
+        → A.inv (fbor κ I) ∗ (A.lft κ q ∗ ⟦ fsep (page_owns γ seen) (log_owns γ false log) ⟧)
+        ⊢ asks 𝓛 (block_ptr b (o + 0)) (λ n. n) always (λ n. fsep (flft κ q) (looked γ n seen log (takes && is_full n)))
+    looks seen log takes has =
+        stepped (λ n. n) (λ n. looked γ n seen log (takes && is_full n)) (fsep (page_owns γ seen) (log_owns γ false log)) (λ n.
+        looks_if γ n seen log (takes && is_full n) (λ both. (laws.both_right takes (is_full n) both, has (laws.both_left takes (is_full n) both))))
+
+    pub gives : (k id mark : ℕ) (before : List IdMove) → id < 58 → k ≡ 64 * 2 ^ id % 2 ^ 64 → id ≡ taken_id before → mark ≡ id + 2 ^ 63
+        → A.inv (fbor κ I) ∗ (A.lft κ q ∗ ⟦ gone γ before id mark ⟧)
+        ⊢ asks 𝓛 (block_ptr b (o + 0)) (λ n. (n + (2 ^ 64 - k)) % 2 ^ 64) always (λ n. fsep (flft κ q) (returned γ before id))
+    gives k id mark before first k_is is mark_is =
+        stepped (λ n. (n + (2 ^ 64 - k)) % 2 ^ 64) (λ _. returned γ before id) (gone γ before id mark)
+        (λ n. gives_first γ n k id mark before first k_is is mark_is)
+
+    pub gives_under_lock : (id mark : ℕ) (before log : List IdMove) → 58 ≤ id → id < 2 ^ 63 - 1 → id ≡ taken_id before → mark ≡ id + 2 ^ 63
+        → A.inv (fbor κ I) ∗ (A.lft κ q ∗ ⟦ fsep (log_owns γ false log) (gone γ before id mark) ⟧)
+        ⊢ asks 𝓛 (block_ptr b (o + 0)) (λ n. n) always (λ n. fsep (flft κ q) (returned_further γ before log id))
+    gives_under_lock id mark before log further range is mark_is =
+        stepped (λ n. n) (λ _. returned_further γ before log id) (fsep (log_owns γ false log) (gone γ before id mark))
+        (λ n. gives_further γ n id mark before log further range is mark_is)
+
+pub log_keyless : (γ : GName) (whole : Bool) (log : List IdMove) → Keyless (log_owns γ whole log)
+unfolding log_owns
+log_keyless γ whole log = tt
+
+pub lies_keyless : (γ n : ℕ) → Keyless (lies_with γ n)
+lies_keyless γ n s =
+    (history_keyless γ s.0, (rights_keyless γ s.1.0, (log_keyless γ false s.1.1, λ _. tt)))
+
+pub tried_keyless : (γ : ℕ) (moves : List IdMove) (took : Bool) → Keyless (tried_owns γ moves took)
+tried_keyless γ moves true = (
+  (right_keyless γ (taken_id moves), right_keyless γ (taken_id moves + 2 ^ 63)),
+  (page_keyless γ (noted moves Take), held_keyless γ (taken_id moves) (times_given moves (taken_id moves))),
+)
+tried_keyless γ moves false = page_keyless γ moves

@@ -1,0 +1,63 @@
+use Rattle.std.proofs.Common.{◌≡◌, ◌∙◌, ℕ, ◌+◌, ◌-◌, ◌^◌, ◌≤◌, ap, sym, subst, arith, length, List}
+use Rattle.thread_local_base.specs.Held.{HoldsAllBelow}
+use Rattle.thread_local_base.specs.IdMoves.{IdMove, Take, held_after, noted}
+use Rattle.thread_local_ids.specs.FirstIds.{IsSameBeyond}
+use Rattle.thread_local_ids.proofs.FirstLaws.{full_holds}
+use Rattle.thread_local_ids.proofs.FurtherLaws.{is_least, same_after, peak_after, all_held, same_error, if_took}
+use Rattle.thread_local_ids.proofs.further.Further.take.Goals as goal
+
+pub invariant_of-result : goal.invariant_of-result
+invariant_of-result c =
+    let before = c.look-word.result.1.before in
+    let full = full_holds c.look-word.result.0 (held_after before) c.look-word.ensures.word (sym c.is_full.ensures ∙ c.if-not-is_full.false) in
+    let is = is_least c.self.inside.log.moves before c.self.inside.manager c.alloc.new.manager c.in-Ok.id c.in-Ok.ensures.ok c.self.invariant.beyond
+    c.look-word.ensures.beyond full in
+    record { marked = c.into_taken-right.ensures.ids.1 ∙ ap (λ (k : ℕ). k + 2 ^ 63) (sym is); in_range = c.in-Ok.ensures.ok.in_range }
+
+pub invariant_of-self-in-Ok : goal.invariant_of-self-in-Ok
+invariant_of-self-in-Ok c =
+    let before = c.look-word.result.1.before in
+    let id : ℕ = c.in-Ok.id in
+    let is_full : _ = sym c.is_full.ensures ∙ c.if-not-is_full.false in
+    let full = full_holds c.look-word.result.0 (held_after before) c.look-word.ensures.word is_full in
+    let taken = c.in-Ok.ensures.ok in
+    let with_moves = c.look-word.ensures.beyond in
+    let is = is_least c.self.inside.log.moves before c.self.inside.manager c.alloc.new.manager id taken c.self.invariant.beyond with_moves full in
+    let log = c.look-word.ensures.log in
+    let moves : c.look-word.new.log.moves ≡ noted before Take =
+    if_took c.look-word.result.1.took c.look-word.new.log.moves (noted before Take) c.self.inside.log.moves log.2
+    (c.look-word.ensures.took ∙ is_full) in
+    let peak : c.max-self-inside.result ≡ length (held_after (noted before Take)) - 58 =
+    c.max-self-inside.ensures ∙ peak_after before id c.self.inside.reached taken.further is (c.self.invariant.reached ∙ c.look-word.ensures.peak) in
+    record {
+      filled = c.in-Ok.ensures.filled;
+      half = log.1;
+      beyond = subst (λ (l : List IdMove). IsSameBeyond (held_after l) c.alloc.new.manager.held) (sym moves)
+          (same_after c.self.inside.log.moves before c.self.inside.manager c.alloc.new.manager id taken c.self.invariant.beyond with_moves is);
+      reached = peak ∙ sym (ap (λ (l : List IdMove). length (held_after l) - 58) moves);
+      few = omega (arith, c.max-self-inside.ensures, c.self.invariant.few, taken.in_range);
+      room = omega (arith, c.self.invariant.room, c.in-Ok.ensures.room);
+      room_table = c.self.invariant.room_table ∙ sym log.0;
+    }
+
+pub returns-else-not-is_full-2-clause-memory : goal.returns-else-not-is_full-2-clause-memory
+returns-else-not-is_full-2-clause-memory c = λ refused.
+    let before = c.look-word-in-Err.result.1.before in
+    let full = full_holds c.look-word-in-Err.result.0 (held_after before) c.look-word-in-Err.ensures.word
+    (sym c.is_full-in-Err.ensures ∙ c.if-not-is_full-2.false) in
+    let needs = c.in-Err.ensures.memory (same_error _ _ refused) in
+    let few : c.args.room.now.ids ≤ length c.alloc.new.manager.held =
+    omega (arith, c.agrees.ensures, c.self.invariant.room, c.in-Err.ensures.room, needs.no_room) in
+    subst (λ (l : List IdMove). HoldsAllBelow c.args.room.now.ids (held_after l)) (sym c.into_page.ensures.1)
+    (all_held c.args.room.now.ids (length c.alloc.new.manager.held) c.self.inside.log.moves before c.self.inside.manager c.alloc.new.manager
+    c.self.invariant.beyond c.in-Err.ensures.err c.look-word-in-Err.ensures.beyond full needs.full few)
+
+pub returns-else-not-is_full-2-clause-exhausted : goal.returns-else-not-is_full-2-clause-exhausted
+returns-else-not-is_full-2-clause-exhausted c = λ refused.
+    let before = c.look-word-in-Err.result.1.before in
+    let full = full_holds c.look-word-in-Err.result.0 (held_after before) c.look-word-in-Err.ensures.word
+    (sym c.is_full-in-Err.ensures ∙ c.if-not-is_full-2.false) in
+    let none = c.in-Err.ensures.exhausted (same_error _ _ refused) in
+    subst (λ (l : List IdMove). HoldsAllBelow (2 ^ 63 - 1) (held_after l)) (sym c.into_page.ensures.1)
+    (all_held (2 ^ 63 - 1) (2 ^ 63 - 1) c.self.inside.log.moves before c.self.inside.manager c.alloc.new.manager
+    c.self.invariant.beyond c.in-Err.ensures.err c.look-word-in-Err.ensures.beyond full none.full (omega arith))

@@ -1,0 +1,304 @@
+//! The first 58 ids of a table, as the bits of one word that threads change by atomic steps, each
+//! least id by one compare and exchange. For proofs the word keeps the history of all ids of the table
+//! and their rights. The further ids lie under a lock.
+ghost use Rattle.std.specs.Prelude.{◌≡◌, ◌+◌, ◌*◌, ◌-◌, ◌/◌, ◌%◌, ◌^◌, ◌<◌, ◌≤◌, ◌==◌, ◌&&◌, ℕ, Bool, true, false, List, [], length, if◌then◌else◌};
+ghost use Rattle.std.specs.Prelude.{IfSome, None};
+ghost use base.Stored.{coded_bool};
+ghost use mathlib.Core.List.{IsPrefix};
+ghost use Rattle.thread_local_base.specs.Bits.{IsLowestUnset};
+ghost use Rattle.thread_local_base.specs.IdMoves.{IdMove, Take, Give, moves_coded, held_after, noted};
+ghost use Rattle.thread_local_ids.specs.Rights.{is_out, taken_id};
+ghost use Rattle.thread_local_ids.specs.FirstIds.{FirstView, first_coded, first_shares, first_owns, log_owns, tried_owns, log_key};
+ghost use Rattle.thread_local_ids.specs.FirstIds.{IsWordOf, IsSameBeyond, IsGivenBeyond, HasFurther, AreOutOf, IsReturn};
+ghost use Rattle.thread_local_ids.specs.FirstIds.{is_full as is_full_word, word_with as word_that_holds};
+
+use crate::held::HeldId;
+use crate::page::{History, Page, Tenure};
+use crate::right::{Right, Rights};
+use crate::word::exchange;
+use std::marker::{Brand, Model, Move, Owns, PhantomData};
+use std::sync::atomic::Ordering::SeqCst;
+use std::sync::atomic::raw;
+
+/// How many ids have a bit in the word.
+pub const FIRST_IDS: usize = 58;
+
+/// The bits of the ids where all of the first are held.
+const ALL: u64 = (1 << 58) - 1;
+
+/// How often a take tries to exchange the word.
+const TRIES: u64 = 16;
+
+/// An id that was taken, with its right, and what is kept of its take.
+pub type Taken = (HeldId, Right, Tenure);
+
+/// Which of the first 58 ids are held, a bit each, and their peak in the 6 bits below. A contract sees
+/// the name of the table.
+#[derive(Drop)]
+pub struct FirstIds {
+    word: u64,
+}
+
+impl Owns for FirstIds {
+    ghost Value = { FirstView };
+
+    ghost coded = { first_coded };
+
+    ghost shr_at = { λ first p κ. first_shares first.table p κ };
+}
+
+impl Move for FirstIds {
+    ghost own_val = { λ first vs. first_owns first.table (λ n. Fields.own_val (record { word = n }) vs) };
+}
+
+/// All moves of a table up to the last one of a further id: both halves of what is kept of them, or
+/// the one that lies with the further ids. It has no bytes.
+#[derive(Drop)]
+pub struct Log {
+    pub(crate) marker: PhantomData<()>,
+    pub ghost table: { ℕ },
+    pub ghost moves: { List IdMove } by { moves_coded },
+    pub ghost whole: { Bool } by { coded_bool },
+}
+
+impl Model for Log {
+    ghost also_owns = { λ l. log_owns l.table l.whole l.moves };
+}
+
+/// The moves before an atomic step on the word, with the rights and the tenure of the least id if the
+/// step took it. It has no bytes.
+#[derive(Drop)]
+pub struct Trace {
+    pub(crate) marker: PhantomData<()>,
+    pub ghost table: { ℕ },
+    pub ghost before: { List IdMove } by { moves_coded },
+    pub ghost took: { Bool } by { coded_bool },
+}
+
+impl Model for Trace {
+    ghost also_owns = { λ t. tried_owns t.table t.before t.took };
+}
+
+impl Rights {
+    /// Begins the moves up to the last one of a further id: there is none. The right that becomes
+    /// them is one to a number that no `usize` is.
+    pub fn note_log(&mut self) -> Log
+        requires { is_out self.old.out log_key ≡ false }
+        ensures log { (result.table ≡ self.old.table) × (result.moves ≡ []) × (result.whole ≡ true) }
+        ensures table { self.new.table ≡ self.old.table }
+        ensures out { (j : ℕ) → is_out self.new.out j ≡ (if log_key == j then true else is_out self.old.out j) }
+    {
+        Log {
+            marker: PhantomData,
+        }
+    }
+}
+
+impl FirstIds {
+    /// The first ids of a table, none of them held. One half of the log stays with them.
+    pub fn new(rights: Rights, history: History, log: &mut Log) -> FirstIds
+        requires tables { (history.table ≡ rights.table) × (log.old.table ≡ rights.table) }
+        requires begun { (history.moves ≡ []) × (log.old.moves ≡ []) × (log.old.whole ≡ true) }
+        requires out { AreOutOf rights.out [] }
+        ensures table { result.table ≡ rights.table }
+        ensures log { (log.new.table ≡ log.old.table) × (log.new.moves ≡ []) × (log.new.whole ≡ false) }
+    {
+        let Rights { marker: _ } = rights;
+        let History { marker: _ } = history;
+        let _ = log;
+        FirstIds { word: 0 }
+    }
+
+    /// Takes the least id of the table, if it is one of the first, by one compare and exchange. It
+    /// answers none where all of these are held, or where other threads changed the word each time
+    /// that it tried. The page is then left as it is.
+    pub fn take(&self, page: &mut Page) -> Option<Taken>
+        requires { page.old.table ≡ self.now.table }
+        ensures right { IfSome result (λ taken. (taken.1.table ≡ self.now.table) × (taken.1.id ≡ taken.0.id)) }
+        ensures mark { IfSome result (λ taken. taken.0.mark.table ≡ self.now.table) }
+        ensures tenure { IfSome result (λ taken. taken.2.table ≡ self.now.table) }
+        ensures least { IfSome result (λ taken. taken.0.id ≡ taken_id taken.2.before) }
+        ensures since { IfSome result (λ taken. IsPrefix page.old.moves taken.2.before) }
+        ensures table { page.new.table ≡ page.old.table }
+        ensures page { IfSome result (λ taken. page.new.moves ≡ noted taken.2.before Take) }
+        ensures none { result ≡ None → page.new ≡ page.old }
+    {
+        for _ in 0..TRIES {
+            let seen = self.seen();
+            let id = (seen >> 6).trailing_ones() as usize;
+            if id >= FIRST_IDS {
+                return None;
+            }
+            let (found, trace) = self.try_take(seen, word_with(seen, id as u64), id, page);
+            if found == seen {
+                let ((right, mark), tenure) = trace.into_taken();
+                *page = tenure.page();
+                return Some((HeldId { id, mark }, right, tenure));
+            }
+        }
+        None
+    }
+
+    /// The word as it was at one atomic load.
+    fn seen(&self) -> u64 {
+        unsafe { raw::load::<Brand>(&raw const self.word, SeqCst) }
+    }
+
+    /// Takes the least id if the word is still as it was seen, by one compare and exchange.
+    fn try_take(&self, seen: u64, new: u64, id: usize, page: &Page) -> (u64, Trace)
+        requires table { page.now.table ≡ self.now.table }
+        requires lowest { IsLowestUnset (seen / 64) id }
+        requires first { id < 58 }
+        requires new { new ≡ word_that_holds seen id }
+        ensures table { result.1.table ≡ self.now.table }
+        ensures took { result.1.took ≡ (result.0 == seen) }
+        ensures early { IsPrefix page.now.moves result.1.before }
+        ensures least { result.1.took ≡ true → id ≡ taken_id result.1.before }
+    {
+        let _ = id;
+        let _ = page;
+        let found = unsafe { exchange::<Brand>(&raw const self.word, seen, new) };
+        let trace = Trace {
+            marker: PhantomData,
+        };
+        (found, trace)
+    }
+
+    /// Looks at the word by one atomic load. If it shows that all of the first ids are held, and the
+    /// caller takes a further id, then that is the least, and it is taken at this load.
+    pub fn look(&self, log: &mut Log, page: &Page, takes: bool) -> (u64, Trace)
+        requires table { (page.now.table ≡ self.now.table) × (log.old.table ≡ self.now.table) }
+        requires half { log.old.whole ≡ false }
+        requires further { takes ≡ true → HasFurther (held_after log.old.moves) }
+        ensures table { result.1.table ≡ self.now.table }
+        ensures took { result.1.took ≡ (takes && is_full_word result.0) }
+        ensures early { IsPrefix page.now.moves result.1.before }
+        ensures word { IsWordOf result.0 (held_after result.1.before) }
+        ensures beyond { IsSameBeyond (held_after log.old.moves) (held_after result.1.before) }
+        ensures peak { length (held_after log.old.moves) - 58 ≡ length (held_after result.1.before) - 58 }
+        ensures log { (log.new.table ≡ log.old.table)
+            × (log.new.whole ≡ false)
+            × (log.new.moves ≡ (if result.1.took then noted result.1.before Take else log.old.moves)) }
+    {
+        let _ = log;
+        let _ = page;
+        let _ = takes;
+        let found = unsafe { raw::load::<Brand>(&raw const self.word, SeqCst) };
+        let trace = Trace {
+            marker: PhantomData,
+        };
+        (found, trace)
+    }
+
+    /// Gives one of the first ids back, whose bit is given, by one atomic step.
+    pub fn give(&self, right: Right, mark: Right, tenure: Tenure, bit: u64) -> Page
+        requires table { (right.table ≡ self.now.table) × (mark.table ≡ self.now.table) × (tenure.table ≡ self.now.table) }
+        requires id { (right.id ≡ taken_id tenure.before) × (mark.id ≡ right.id + 2 ^ 63) }
+        requires first { right.id < 58 }
+        requires bit { bit ≡ 64 * 2 ^ right.id % 2 ^ 64 }
+        ensures table { result.table ≡ self.now.table }
+        ensures moves { IsReturn tenure.before right.id result.moves }
+    {
+        let Right { marker: _ } = right;
+        let Right { marker: _ } = mark;
+        let Tenure { marker: _ } = tenure;
+        unsafe { raw::fetch_sub::<Brand>(&raw const self.word, bit, SeqCst) };
+        Page {
+            marker: PhantomData,
+        }
+    }
+
+    /// Notes that a further id is given back, at an atomic load of the word.
+    pub fn give_further(&self, log: &mut Log, right: Right, mark: Right, tenure: Tenure) -> Page
+        requires table { (right.table ≡ self.now.table) × (mark.table ≡ self.now.table) × (tenure.table ≡ self.now.table) }
+        requires log { (log.old.table ≡ self.now.table) × (log.old.whole ≡ false) }
+        requires id { (right.id ≡ taken_id tenure.before) × (mark.id ≡ right.id + 2 ^ 63) }
+        requires further { (58 ≤ right.id) × (right.id < 2 ^ 63 - 1) }
+        ensures table { result.table ≡ self.now.table }
+        ensures moves { IsReturn tenure.before right.id result.moves }
+        ensures given { IsGivenBeyond (held_after log.old.moves) (held_after result.moves) right.id }
+        ensures log { (log.new.table ≡ log.old.table) × (log.new.whole ≡ false) × (log.new.moves ≡ result.moves) }
+    {
+        let Right { marker: _ } = right;
+        let Right { marker: _ } = mark;
+        let Tenure { marker: _ } = tenure;
+        let _ = log;
+        unsafe { raw::load::<Brand>(&raw const self.word, SeqCst) };
+        Page {
+            marker: PhantomData,
+        }
+    }
+}
+
+impl Trace {
+    /// Takes out what a step that took an id left.
+    pub fn into_taken(self) -> ((Right, Right), Tenure)
+        requires { self.took ≡ true }
+        ensures tables { (result.0.0.table ≡ self.table) × (result.0.1.table ≡ self.table) × (result.1.table ≡ self.table) }
+        ensures ids { (result.0.0.id ≡ taken_id self.before) × (result.0.1.id ≡ taken_id self.before + 2 ^ 63) }
+        ensures before { result.1.before ≡ self.before }
+    {
+        let Self { marker: _ } = self;
+        (
+            (
+                Right {
+                    marker: PhantomData,
+                },
+                Right {
+                    marker: PhantomData,
+                },
+            ),
+            Tenure {
+                marker: PhantomData,
+            },
+        )
+    }
+
+    /// The page of the moves that a step saw which took no id.
+    pub fn into_page(self) -> Page
+        requires { self.took ≡ false }
+        ensures { (result.table ≡ self.table) × (result.moves ≡ self.before) }
+    {
+        let Self { marker: _ } = self;
+        Page {
+            marker: PhantomData,
+        }
+    }
+}
+
+/// Whether all of the first ids are held.
+pub(crate) fn is_full(word: u64) -> bool
+    ensures { result ≡ is_full_word word }
+{
+    word >> 6 == ALL
+}
+
+/// The peak of the first ids.
+pub(crate) fn peak(word: u64) -> usize
+    ensures { result ≡ word % 64 }
+{
+    (word % 64) as usize
+}
+
+/// The word once the least id is taken too. Where as many of the first ids are held as ever were at
+/// once, their peak grows.
+fn word_with(word: u64, id: u64) -> u64
+    requires lowest { IsLowestUnset (word / 64) id }
+    requires first { id < 58 }
+    ensures { result ≡ word_that_holds word id }
+{
+    let taken = word + (64 << id);
+    if id == word % 64 { taken + 1 } else { taken }
+}
+
+unsafe impl Send for FirstIds {}
+
+unsafe impl Sync for FirstIds {}
+
+unsafe impl Send for Log {}
+
+unsafe impl Sync for Log {}
+
+unsafe impl Send for Trace {}
+
+unsafe impl Sync for Trace {}

@@ -1,0 +1,184 @@
+//! The further ids of a table, from 58 on, which lie under its lock.
+ghost use Rattle.std.specs.Prelude.{◌≡◌, ◌+◌, ◌-◌, ◌^◌, ◌≤◌, IfOk, IfSome, OnOk, OnErr, None, Ok, Err, Some, alloc_error, length, []};
+ghost use mathlib.Core.List.{IsPrefix};
+ghost use Rattle.thread_local_base.specs.IdMoves.{Take, held_after, noted};
+ghost use Rattle.thread_local_base.specs.Held.{HoldsAllBelow, NeedsMemory, IsExhausted};
+ghost use Rattle.thread_local_ids.specs.Rights.{taken_id};
+ghost use Rattle.thread_local_ids.specs.FirstIds.{IsReturn, IsSameBeyond};
+ghost use Rattle.thread_local_ids.specs.Filled.{IsFilled, TakesFurther};
+
+use crate::first::{FIRST_IDS, FirstIds, Log, Taken, is_full, peak};
+use crate::held::HeldId;
+use crate::lock::Fits;
+use crate::page::{Page, Tenure};
+use crate::right::Right;
+use crate::room::Room;
+use std::marker::Model;
+use thread_local_base::{LocalError, ThreadIdManager};
+
+/// Gives out the further ids. Its manager has all ids of the table: the first ones count as held
+/// there once a further id is asked for.
+///
+/// Contracts see the manager, the table's name, the moves up to the last one of a further id, and for
+/// how many ids there was room when the table was made or cleared.
+pub struct Further {
+    pub(crate) manager: ThreadIdManager,
+    pub(crate) log: Log,
+    pub(crate) room: Room,
+    // By how much the peak of the table exceeds the first ids. The manager's may be greater.
+    pub(crate) reached: usize,
+}
+
+impl Model for Further {
+    ghost use Rattle.thread_local_ids.specs.FurtherIds.{FurtherIds, further_of, IsFurther};
+
+    ghost Value = { FurtherIds };
+
+    ghost view = { further_of };
+
+    ghost invariant = { IsFurther };
+}
+
+// All of them fit, since the type has an invariant of its own. The lock keeps which table they are
+// of.
+impl Fits for Further {
+    ghost use Rattle.std.specs.Prelude.{⊤};
+
+    ghost tag = { λ further. further.table };
+
+    ghost fits = { λ _. ⊤ };
+}
+
+impl Further {
+    /// Takes the least id of the table, if all of the first ids are held. It answers none where one of
+    /// them isn't. It is refused memory only where every id is held that there was room for when the
+    /// table was made or cleared.
+    pub fn take(
+        &mut self,
+        first: &FirstIds,
+        page: &mut Page,
+        room: &Room,
+    ) -> Result<Option<Taken>, LocalError>
+        requires { (first.now.table ≡ self.old.table) × (page.old.table ≡ self.old.table) × (room.now.table ≡ self.old.table) }
+        ensures right { IfOk result (λ some. IfSome some (λ taken. (taken.1.table ≡ self.old.table) × (taken.1.id ≡ taken.0.id))) }
+        ensures mark { IfOk result (λ some. IfSome some (λ taken. taken.0.mark.table ≡ self.old.table)) }
+        ensures tenure { IfOk result (λ some. IfSome some (λ taken. taken.2.table ≡ self.old.table)) }
+        ensures least { IfOk result (λ some. IfSome some (λ taken. taken.0.id ≡ taken_id taken.2.before)) }
+        ensures since { IfOk result (λ some. IfSome some (λ taken. IsPrefix page.old.moves taken.2.before)) }
+        ensures moves { IfOk result (λ some. IfSome some (λ taken. page.new.moves ≡ noted taken.2.before Take)) }
+        ensures table { (self.new.table ≡ self.old.table) × (page.new.table ≡ page.old.table) }
+        ensures none { result ≡ Ok None → page.new ≡ page.old }
+        ensures early { OnErr result (IsPrefix page.old.moves page.new.moves) }
+        ensures memory { result ≡ Err (LocalError.Memory alloc_error)
+            → HoldsAllBelow room.now.ids (held_after page.new.moves) }
+        ensures exhausted { result ≡ Err LocalError.Exhausted
+            → HoldsAllBelow (2 ^ 63 - 1) (held_after page.new.moves) }
+    {
+        self.room.agrees(room);
+        match alloc(&mut self.manager) {
+            Ok(id) => {
+                let (word, trace) = first.look(&mut self.log, page, true);
+                if !is_full(word) {
+                    self.manager.free(id);
+                    return Ok(None);
+                }
+                let ((right, mark), tenure) = trace.into_taken();
+                self.reached = self.reached.max(id - (FIRST_IDS - 1));
+                *page = tenure.page();
+                Ok(Some((HeldId { id, mark }, right, tenure)))
+            }
+            Err(error) => {
+                let (word, trace) = first.look(&mut self.log, page, false);
+                if !is_full(word) {
+                    return Ok(None);
+                }
+                *page = trace.into_page();
+                Err(error)
+            }
+        }
+    }
+
+    /// Takes a further id back.
+    pub fn give(&mut self, first: &FirstIds, held: HeldId, right: Right, tenure: Tenure) -> Page
+        requires table { (first.now.table ≡ self.old.table)
+            × (right.table ≡ self.old.table)
+            × (held.mark.table ≡ self.old.table)
+            × (tenure.table ≡ self.old.table) }
+        requires id { (right.id ≡ held.id) × (held.id ≡ taken_id tenure.before) }
+        requires further { 58 ≤ held.id }
+        ensures table { (self.new.table ≡ self.old.table) × (result.table ≡ self.old.table) }
+        ensures moves { IsReturn tenure.before held.id result.moves }
+    {
+        let (id, mark) = held.into_parts();
+        let page = first.give_further(&mut self.log, right, mark, tenure);
+        self.manager.free(id);
+        page
+    }
+
+    /// The peak of all ids, with the page of all that was done by then.
+    pub fn peak(&mut self, first: &FirstIds, page: &Page) -> (usize, Page)
+        requires { (first.now.table ≡ self.old.table) × (page.now.table ≡ self.old.table) }
+        ensures table { (self.new.table ≡ self.old.table) × (result.1.table ≡ self.old.table) }
+        ensures peak { result.0 ≡ length (held_after result.1.moves) }
+        ensures early { IsPrefix page.now.moves result.1.moves }
+    {
+        let (word, trace) = first.look(&mut self.log, page, false);
+        (peak(word) + self.reached, trace.into_page())
+    }
+}
+
+impl Further {
+    /// The manager of the ids.
+    pub(crate) fn into_manager(self) -> ThreadIdManager {
+        let Self {
+            manager,
+            log: _,
+            room: _,
+            reached: _,
+        } = self;
+        manager
+    }
+}
+
+/// Takes the least further id. The first ids count as held from then on.
+fn alloc(manager: &mut ThreadIdManager) -> Result<usize, LocalError>
+    requires { IsFilled manager.old.held }
+    ensures filled { IsFilled manager.new.held }
+    ensures room { manager.old.room ≤ manager.new.room }
+    ensures ok { IfOk result (λ id. TakesFurther manager.old manager.new id) }
+    ensures err { OnErr result (IsSameBeyond manager.old.held manager.new.held) }
+    ensures memory { result ≡ Err (LocalError.Memory alloc_error) → NeedsMemory manager.new }
+    ensures exhausted { result ≡ Err LocalError.Exhausted → IsExhausted manager.new }
+{
+    fill(manager)?;
+    manager.alloc()
+}
+
+/// Has the first ids count as held, where they don't yet.
+fn fill(manager: &mut ThreadIdManager) -> Result<(), LocalError>
+    requires { IsFilled manager.old.held }
+    ensures filled { IsFilled manager.new.held }
+    ensures room { manager.old.room ≤ manager.new.room }
+    ensures beyond { IsSameBeyond manager.old.held manager.new.held }
+    ensures ok { OnOk result (58 ≤ length manager.new.held) }
+    ensures memory { result ≡ Err (LocalError.Memory alloc_error) → NeedsMemory manager.new }
+    ensures exhausted { result ≡ Err LocalError.Exhausted → IsExhausted manager.new }
+{
+    for _ in manager.peak()..FIRST_IDS {
+        manager.alloc()?;
+    }
+    Ok(())
+}
+
+impl Drop for Further {
+    #[inline]
+    fn drop(self) {
+        let Self {
+            manager,
+            log: _,
+            room: _,
+            reached: _,
+        } = self;
+        drop(manager);
+    }
+}

@@ -1,0 +1,157 @@
+//! The ids of a table while threads share it.
+ghost use Rattle.std.specs.Prelude.{◌≡◌, ◌+◌, ◌-◌, ◌^◌, ◌≤◌, IfOk, Err, alloc_error, length, [], false};
+ghost use mathlib.Core.List.{IsPrefix};
+ghost use Rattle.thread_local_base.specs.IdMoves.{Take, held_after, noted};
+ghost use Rattle.thread_local_base.specs.Held.{HoldsAllBelow};
+ghost use Rattle.thread_local_ids.specs.Rights.{taken_id};
+ghost use Rattle.thread_local_ids.specs.FirstIds.{IsReturn};
+
+use crate::first::{FIRST_IDS, FirstIds, Taken};
+use crate::further::Further;
+use crate::held::HeldId;
+use crate::lock::Lock;
+use crate::page::{Page, Tenure};
+use crate::reached::Reached;
+use crate::right::Right;
+use crate::room::Room;
+use std::marker::Model;
+use std::sync::Wait;
+use thread_local_base::{LocalError, ThreadIdManager};
+
+/// Gives out the least id that isn't held, and takes ids back, while threads share it. The first 58
+/// ids take no lock.
+pub struct SharedIds {
+    pub(crate) first: FirstIds,
+    pub(crate) further: Lock<Further>,
+}
+
+impl Model for SharedIds {
+    ghost use Rattle.std.specs.Prelude.{◌≡◌};
+    ghost use Rattle.thread_local_ids.specs.SharedIds.{SharedView, shared_coded, shared_of};
+
+    ghost Value = { SharedView };
+
+    ghost coded = { shared_coded };
+
+    ghost view = { shared_of };
+
+    ghost invariant = { λ ids. ids.further.tag ≡ ids.first.table };
+}
+
+impl SharedIds {
+    /// Takes the least id that isn't held, with its right, and leaves the page of all that was done
+    /// so far, where it is refused too. It waits only where all of the first ids are held, or where
+    /// other threads take and give at the same time.
+    #[inline]
+    pub fn take<R: Wait>(&self, rt: &R, page: &mut Page, room: &Room) -> Result<Taken, LocalError>
+        requires { (page.old.table ≡ self.now.table) × (room.now.table ≡ self.now.table) }
+        ensures right { IfOk result (λ taken. (taken.1.table ≡ self.now.table) × (taken.1.id ≡ taken.0.id)) }
+        ensures mark { IfOk result (λ taken. taken.0.mark.table ≡ self.now.table) }
+        ensures tenure { IfOk result (λ taken. taken.2.table ≡ self.now.table) }
+        ensures least { IfOk result (λ taken. taken.0.id ≡ taken_id taken.2.before) }
+        ensures since { IfOk result (λ taken. IsPrefix page.old.moves taken.2.before) }
+        ensures early { IsPrefix page.old.moves page.new.moves }
+        ensures moves { IfOk result (λ taken. page.new.moves ≡ noted taken.2.before Take) }
+        ensures table { page.new.table ≡ page.old.table }
+        ensures memory { result ≡ Err (LocalError.Memory alloc_error)
+            → HoldsAllBelow room.now.ids (held_after page.new.moves) }
+        ensures exhausted { result ≡ Err LocalError.Exhausted
+            → HoldsAllBelow (2 ^ 63 - 1) (held_after page.new.moves) }
+    {
+        if let Some(taken) = self.first.take(page) {
+            return Ok(taken);
+        }
+        self.take_further(rt, page, room)
+    }
+
+    /// Takes the least id, where no first id could be taken a moment ago.
+    #[cold]
+    #[inline(never)]
+    fn take_further<R: Wait>(
+        &self,
+        rt: &R,
+        page: &mut Page,
+        room: &Room,
+    ) -> Result<Taken, LocalError>
+        requires { (page.old.table ≡ self.now.table) × (room.now.table ≡ self.now.table) }
+        ensures right { IfOk result (λ taken. (taken.1.table ≡ self.now.table) × (taken.1.id ≡ taken.0.id)) }
+        ensures mark { IfOk result (λ taken. taken.0.mark.table ≡ self.now.table) }
+        ensures tenure { IfOk result (λ taken. taken.2.table ≡ self.now.table) }
+        ensures least { IfOk result (λ taken. taken.0.id ≡ taken_id taken.2.before) }
+        ensures since { IfOk result (λ taken. IsPrefix page.old.moves taken.2.before) }
+        ensures early { IsPrefix page.old.moves page.new.moves }
+        ensures moves { IfOk result (λ taken. page.new.moves ≡ noted taken.2.before Take) }
+        ensures table { page.new.table ≡ page.old.table }
+        ensures memory { result ≡ Err (LocalError.Memory alloc_error)
+            → HoldsAllBelow room.now.ids (held_after page.new.moves) }
+        ensures exhausted { result ≡ Err LocalError.Exhausted
+            → HoldsAllBelow (2 ^ 63 - 1) (held_after page.new.moves) }
+    {
+        for _ in rt.forever() {
+            if let Some(taken) = self.further.lock(rt).take(&self.first, page, room)? {
+                return Ok(taken);
+            }
+            if let Some(taken) = self.first.take(page) {
+                return Ok(taken);
+            }
+        }
+        unreachable!()
+    }
+
+    /// Takes an id back, and answers the page that ends with its return. It waits only for the lock of
+    /// the further ids, where the id is one of these.
+    #[inline]
+    pub fn give<R: Wait>(&self, rt: &R, held: HeldId, right: Right, tenure: Tenure) -> Page
+        requires table { (right.table ≡ self.now.table) × (held.mark.table ≡ self.now.table) × (tenure.table ≡ self.now.table) }
+        requires id { (right.id ≡ held.id) × (held.id ≡ taken_id tenure.before) }
+        ensures table { result.table ≡ self.now.table }
+        ensures moves { IsReturn tenure.before held.id result.moves }
+    {
+        if held.id >= FIRST_IDS {
+            return self.give_further(rt, held, right, tenure);
+        }
+        let (id, mark) = held.into_parts();
+        self.first.give(right, mark, tenure, 64 << id)
+    }
+
+    /// Takes a further id back, under the lock.
+    #[cold]
+    #[inline(never)]
+    fn give_further<R: Wait>(&self, rt: &R, held: HeldId, right: Right, tenure: Tenure) -> Page
+        requires table { (right.table ≡ self.now.table) × (held.mark.table ≡ self.now.table) × (tenure.table ≡ self.now.table) }
+        requires id { (right.id ≡ held.id) × (held.id ≡ taken_id tenure.before) }
+        requires further { 58 ≤ held.id }
+        ensures table { result.table ≡ self.now.table }
+        ensures moves { IsReturn tenure.before held.id result.moves }
+    {
+        self.further.lock(rt).give(&self.first, held, right, tenure)
+    }
+
+    /// The most ids that were held at once since the table was made or cleared, which is no less than
+    /// was reached, and the page of all that was done by then. It takes the lock, so it may wait.
+    pub fn peak<R: Wait>(&self, rt: &R, reached: Reached, start: &Page) -> (usize, Page)
+        requires tables { (reached.table ≡ self.now.table) × (start.now.table ≡ self.now.table) }
+        requires start { start.now.moves ≡ [] }
+        ensures table { result.1.table ≡ self.now.table }
+        ensures peak { result.0 ≡ length (held_after result.1.moves) }
+        ensures reached { reached.ids ≤ result.0 }
+    {
+        self.further
+            .lock(rt)
+            .peak(&self.first, &reached.into_page(start))
+    }
+
+    /// The manager of the further ids, of which nothing is known.
+    pub(crate) fn into_manager(self) -> ThreadIdManager {
+        let Self { first: _, further } = self;
+        further.into_inner().into_manager()
+    }
+}
+
+impl Drop for SharedIds {
+    #[inline]
+    fn drop(self) {
+        let Self { first: _, further } = self;
+        drop(further);
+    }
+}
