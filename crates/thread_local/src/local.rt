@@ -10,7 +10,8 @@ ghost use Rattle.thread_local_ids.specs.Rights.{taken_id};
 ghost use mathlib.Core.List.{IsPrefix};
 ghost use mathlib.Core.Logic.{◌∨₁◌};
 ghost use Rattle.thread_local.specs.Errors.{IfCreate};
-ghost use Rattle.thread_local.specs.Locals.{knows, knowing, learnt_by, own_of, token_of, holding, StaysEmpty, IsAnswered, IsFilled, Fills, Fails, IsRefused, EndsWithReturn};
+ghost use Rattle.thread_local.specs.Locals.{knows, knowing, learnt_by, own_of, token_of, holding};
+ghost use Rattle.thread_local.specs.Locals.{StaysEmpty, IsAnswered, IsFilled, Fills, Fails, IsRefused, EndsWithReturn};
 ghost use Rattle.thread_local_shared_buckets.specs.Room.{HasRoom};
 ghost use Rattle.thread_local_shared_buckets.specs.Walks.{fresh_with};
 

@@ -39,8 +39,9 @@ mod lends;
 /// can be sent to another thread. One can be made of every `T: Send` that is judged, as `new` says.
 ///
 /// Only `local`, `local_after`, `slots_and_peak`, `give_back` and the drop of a `Local` may take the
-/// table's lock, so no other call here waits. An id below 58 is taken without it, unless other threads
-/// take and return ids at the same time, and always returned without it. Only `local`, `local_after` and `with_capacity` take memory. But
+/// table's lock, so no other call here waits. An id below 58 is returned without it, and taken without
+/// it unless other threads take and return ids at the same time. Only `local`, `local_after` and
+/// `with_capacity` take memory. But
 /// `clear` drops values, as the drop of a table, of a walk by value or of a `Drain` does, and a
 /// value's drop may wait and may take memory: a value may hold a `Local` of another table.
 ///
@@ -168,8 +169,8 @@ impl<T> ThreadLocal<T> {
     /// may take the table's lock, so it may wait, and looks once whether the id's slot holds a value,
     /// so that `get` needs no look.
     ///
-    /// It asks for memory only where all ids are held that there is room for, and not for the first
-    /// 64: `Memory` means out of memory. `Exhausted` means that
+    /// It asks for memory only where all ids from 58 on are held that there is room for, and not for
+    /// the first 64: `Memory` means out of memory. `Exhausted` means that
     /// all 2^63 - 1 ids are held. Rust's crate finds the running thread by itself.
     #[inline(always)]
     pub fn local<'a, R: Wait>(&'a self, rt: &'a R) -> Result<Local<'a, T, R>, LocalError>

@@ -74,34 +74,39 @@ fn error_told<R: Wait>(local: &mut Local<'_, u32, R>, error: &'static str) -> Op
 }
 
 /// What is told of two errors of a closure, and what `get_or` answers then, where no memory is left
-/// after the first.
+/// after the first. At last what it answers where there is memory again.
 fn publish_after_errors<R: Wait>(
     local: &mut Local<'_, u32, R>,
     alloc: Global,
-) -> Result<
-    (
-        Option<&'static str>,
-        Option<&'static str>,
-        Result<u32, AllocError>,
-    ),
-    AllocError,
-> {
+) -> Result<([Option<&'static str>; 2], [Result<u32, AllocError>; 2]), AllocError> {
     let first = error_told(local, "a");
     let taken = take_all(alloc)?;
     let second = error_told(local, "b");
     let answer = local.get_or(|| 9).copied();
     drop(taken);
-    Ok((first, second, answer))
+    Ok(([first, second], [answer, local.get_or(|| 9).copied()]))
 }
 
 #[test]
-fn no_memory_is_needed_after_an_error_of_the_closure(rt: HostRuntime) -> Result<(), Fail> {
+fn a_bucket_is_missing_still_after_an_error_of_the_closure(rt: HostRuntime) -> Result<(), Fail> {
     let table = numbers(rt.alloc());
     let mut local = table.local(&rt)?;
     assert_same(
         &rt,
         publish_after_errors(&mut local, rt.alloc())?,
-        (Some("a"), Some("b"), Ok(9)),
+        ([Some("a"), None], [Err(AllocError), Ok(9)]),
+    );
+    Ok(())
+}
+
+#[test]
+fn an_error_of_the_closure_needs_no_memory_in_a_reserved_slot(rt: HostRuntime) -> Result<(), Fail> {
+    let table = with_capacity(rt.alloc(), 1)?;
+    let mut local = table.local(&rt)?;
+    assert_same(
+        &rt,
+        publish_after_errors(&mut local, rt.alloc())?,
+        ([Some("a"), Some("b")], [Ok(9), Ok(9)]),
     );
     Ok(())
 }

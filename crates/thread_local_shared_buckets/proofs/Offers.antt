@@ -250,7 +250,8 @@ module _ {M : Type 1} {𝓤 : Ura M} (𝓛 : Logic 𝓤) (R : RattleType) (t : T
             move ! (3 ∷ 4 ∷ 2 ∷ 0 ∷ []) $ group ! 4 $
             use1 𝓛 (‵ (numbered_slot R t b ν sharing table k o ns η i)) (born_one i η w (first_clear i clear)) $ frame ! $
             move ! (1 ∷ []) $
-            rewrite ! 0 (λ (m : ℕ). ‵ (all_unborn R sharing table t (length names) m)) next refl $ by ! (born_all names (suc i) (next_clear i (length names) clear)))
+            rewrite ! 0 (λ (m : ℕ). ‵ (all_unborn R sharing table t (length names) m)) next refl $
+            by ! (born_all names (suc i) (next_clear i (length names) clear)))
 
       -- ---- the slot that is filled before the block stands
       module _ (L : Laws R) (x : R.Denot) where
@@ -469,7 +470,8 @@ module _ {M : Type 1} {𝓤 : Ura M} (𝓛 : Logic 𝓤) (R : RattleType) (t : T
         ‵ (full b ν o L x (value_offset R o at) η) ⊛ ‵ (gained b ν o L x (value_offset R o at) η) ⊛ raw (lfts 𝓛 ts))))
         (lends_full b ν o L x ts
         (Incl-trans (meet_⊑_right (ν ∷ []) (t.life ++ υ)) (Incl-trans (meet_⊑_right t.life υ) alive))
-        (⊑_meet ((ν ∷ []) ++ (t.life ++ υ)) (ν ∷ []) t.life (meet_⊑_left (ν ∷ []) (t.life ++ υ)) (Incl-trans (meet_⊑_right (ν ∷ []) (t.life ++ υ)) (meet_⊑_left t.life υ)))
+        (⊑_meet ((ν ∷ []) ++ (t.life ++ υ)) (ν ∷ []) t.life (meet_⊑_left (ν ∷ []) (t.life ++ υ))
+        (Incl-trans (meet_⊑_right (ν ∷ []) (t.life ++ υ)) (meet_⊑_left t.life υ)))
         j (value_offset R o at)) $
         await ! tt $ pick ! (λ η. split3 ! $
         move ! (2 ∷ []) $ use1 𝓛 (‵ (flft (ν ∷ []) full_share) ⊛ ‵ (flft t.life s) ⊛ ‵ (flft υ r)) (id⊢ 𝓤 _) $ split3 ! $

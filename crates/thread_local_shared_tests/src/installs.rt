@@ -1,4 +1,4 @@
-//! Blocks are installed, and those that come second give way.
+//! Blocks are installed with a value in them, and those that come second give way.
 ghost use Rattle.std.specs.Prelude.{◌≡◌, ◌<◌, ◌^◌};
 ghost use Rattle.thread_local_bucket_pointers.specs.Slots.{empty_slots};
 ghost use Rattle.thread_local_ids.specs.Rights.{taken_id};
@@ -24,9 +24,10 @@ struct Early<'a, T> {
     ghost are_held: { (reached.table ≡ kept.claim.table) × (kept.claim.id < reached.ids) },
 }
 
-impl<'a, T> Early<'a, T> {
-    /// Offers a block for the claim's bucket if that was missing, and answers the claim if it did.
-    fn offered(self, block: Block<T, Global>, alloc: &Global) -> Option<Claim<'a, T>>
+impl<'a, T: Drop> Early<'a, T> {
+    /// Offers a block with a value for the claim's bucket if that was missing, and answers the claim
+    /// if it did.
+    fn offered(self, block: Block<T, Global>, alloc: &Global, value: T) -> Option<Claim<'a, T>>
         requires heap { (block.heap ≡ alloc.now) × (block.left ≡ 0) }
         requires slots { block.slots ≡ empty_slots (2 ^ bucket_of self.kept.claim.id) }
     {
@@ -38,16 +39,16 @@ impl<'a, T> Early<'a, T> {
             claim.give_up();
             return None;
         }
-        claim.install(thread, block, reached, alloc);
+        claim.install(alloc, thread, block, value, reached);
         Some(claim)
     }
 
-    /// Makes a block, offers it and gives the claim up. Answers whether it did.
-    fn offer(self, alloc: &Global) -> bool {
+    /// Makes a block, offers it with a value and gives the claim up. Answers whether it did.
+    fn offer(self, alloc: &Global, value: T) -> bool {
         let Ok(block) = Block::new(alloc, bucket_size(self.kept.claim.place().bucket)) else {
             return false;
         };
-        match self.offered(block, alloc) {
+        match self.offered(block, alloc, value) {
             Some(claim) => {
                 claim.give_up();
                 true
@@ -72,8 +73,8 @@ fn claim_early<T>(shared: &Shared<T>, taken: (HeldId, Right, Tenure)) -> Early<'
     }
 }
 
-/// Takes `count` ids and claims them, and then offers a block by each claim. Answers how often it
-/// did.
+/// Takes `count` ids and claims them, and then offers a block with a value by each claim. Answers how
+/// often it did.
 fn offer_by_all<R: Wait>(
     shared: &Shared<u64>,
     ids: &Lock<Ids>,
@@ -100,15 +101,22 @@ fn offer_by_all<R: Wait>(
         let Some(claim) = claims.pop() else {
             return offered;
         };
-        if claim.offer(alloc) {
+        if claim.offer(alloc, offered) {
             offered = offered.saturating_add(1);
         }
     }
     offered
 }
 
+/// How many slots an owner has then, and how many values.
+fn slots_and_values(shared: Shared<u64>) -> (usize, usize) {
+    let mut buckets = shared.into_buckets_and_book().0;
+    (buckets.slots(), buckets.into_iter().len())
+}
+
 // A thousand claims find bucket 20 missing, and each then offers a block for it. The blocks that
-// come second would hold more than 8 GB if none were freed, where 1 GiB is left.
+// come second would hold more than 8 GB if none were freed, where 1 GiB is left. Their values are
+// published in the block that came first.
 #[test]
 fn blocks_that_come_second_are_freed(rt: HostRuntime) -> Result<(), Fail> {
     let mut ids = Ids::new(rt.alloc());
@@ -122,41 +130,42 @@ fn blocks_that_come_second_are_freed(rt: HostRuntime) -> Result<(), Fail> {
     let offered = offer_by_all(&shared, &ids, &rt, &alloc, 1000);
     drop(taken);
     assert_eq!(rt;
-        (offered, shared.into_buckets_and_book().0.slots()),
-        (1000, 1_048_576)
+        (offered, slots_and_values(shared)),
+        (1000, (1_048_576, 1000))
     );
     Ok(())
 }
 
-/// Offers a block by a claim, and publishes a value. Answers what a walker finds at id 1 once the
-/// block was offered, and whether the value was published.
-fn offer_and_publish(
+/// Offers a block with a value by a claim. Answers what walkers find at the ids 1 and 2 then, and what
+/// the claim holds.
+fn offer_and_look(
     shared: &Shared<u32>,
     claim: Early<'_, u32>,
     block: Block<u32, Global>,
     alloc: &Global,
     value: u32,
-) -> (Option<u32>, bool)
+) -> [Option<u32>; 3]
     requires heap { (block.heap ≡ alloc.now) × (block.left ≡ 0) }
     requires slots { block.slots ≡ empty_slots (2 ^ bucket_of claim.kept.claim.id) }
 {
-    match claim.offered(block, alloc) {
+    match claim.offered(block, alloc, value) {
         Some(claim) => {
-            let found = look(shared, 1);
-            (found, publish_claimed(claim, value).1)
+            let found = [look(shared, 1), look(shared, 2), claim.get().copied()];
+            claim.give_up();
+            found
         }
-        None => (None, false),
+        None => [None; 3],
     }
 }
 
-/// Two claims of one bucket make a block each, before either is offered. Then the one publishes 1
-/// and the other 2. Answers what walkers found meanwhile, and whether both were published.
+/// Two claims of one bucket make a block each, before either is offered: the one with 1 in it, the
+/// other with 2. Answers what was found after each offer.
 fn offer_two(
     shared: &Shared<u32>,
     one: Early<'_, u32>,
     other: Early<'_, u32>,
     alloc: &Global,
-) -> Option<[(Option<u32>, bool); 2]> {
+) -> Option<[[Option<u32>; 3]; 2]> {
     let size = bucket_size(one.kept.claim.place().bucket);
     let first = Block::new(alloc, size).ok()?;
     let second = match Block::new(alloc, bucket_size(other.kept.claim.place().bucket)) {
@@ -167,13 +176,13 @@ fn offer_two(
         }
     };
     Some([
-        offer_and_publish(shared, one, first, alloc, 1),
-        offer_and_publish(shared, other, second, alloc, 2),
+        offer_and_look(shared, one, first, alloc, 1),
+        offer_and_look(shared, other, second, alloc, 2),
     ])
 }
 
-// Both blocks are made before the first is installed. The second offer, and what comes after both,
-// goes on with the first's block.
+// Both blocks are made before the first is installed, which publishes its value. The second value is
+// published in the first's block.
 #[test]
 fn the_second_of_two_blocks_gives_way(rt: HostRuntime) -> Result<(), Fail> {
     let mut ids = Ids::new(rt.alloc());
@@ -182,7 +191,10 @@ fn the_second_of_two_blocks_gives_way(rt: HostRuntime) -> Result<(), Fail> {
     let second = claim_early(&shared, ids.take()?);
     let third = claim_early(&shared, ids.take()?);
     let offered = offer_two(&shared, second, third, &rt.alloc());
-    assert_eq!(rt; offered, Some([(None, true), (Some(1), true)]));
+    assert_eq!(rt;
+        offered,
+        Some([[Some(1), None, Some(1)], [Some(1), Some(2), Some(2)]])
+    );
     assert_eq!(rt; left(shared), (2, [Some(1), Some(2), None]));
     Ok(())
 }
@@ -207,12 +219,79 @@ fn an_early_claim_finds_its_bucket_later(rt: HostRuntime) -> Result<(), Fail> {
     let _first = take(&mut ids)?;
     let second = claim_early(&shared, ids.take()?);
     let third = claim_early(&shared, ids.take()?);
-    let offered = third.offer(&rt.alloc());
+    let offered = third.offer(&rt.alloc(), 7);
     let published = publish_late(second, 5);
     assert_eq!(rt;
-        (offered, published, look(&shared, 1)),
-        (true, true, Some(5))
+        (offered, published, look(&shared, 1), look(&shared, 2)),
+        (true, true, Some(5), Some(7))
     );
+    Ok(())
+}
+
+/// Whether a claim that found its bucket missing asks for no block, and publishes a value.
+fn publish_in_room(early: Early<'_, u32>, alloc: &Global, value: u32) -> bool {
+    let Early { kept, reached } = early;
+    let mut claim = kept.into_claim();
+    if !claim.is_missing() {
+        claim.give_up();
+        return false;
+    }
+    let thread = claim.place();
+    let needs_none = match claim.room(alloc, thread) {
+        Ok(block) => {
+            let needs_none = block.is_none();
+            claim.publish_in(alloc, thread, block, value, reached);
+            needs_none
+        }
+        Err(_) => false,
+    };
+    claim.give_up();
+    needs_none
+}
+
+#[test]
+fn an_early_claim_makes_no_block_where_its_bucket_stands(rt: HostRuntime) -> Result<(), Fail> {
+    let mut ids = Ids::new(rt.alloc());
+    let shared = share(Buckets::new(rt.alloc()), &ids.table_right());
+    let _first = take(&mut ids)?;
+    let second = claim_early(&shared, ids.take()?);
+    let third = claim_early(&shared, ids.take()?);
+    let offered = third.offer(&rt.alloc(), 7);
+    let published = publish_in_room(second, &rt.alloc(), 5);
+    assert_eq!(rt; (offered, published), (true, true));
+    assert_eq!(rt; left(shared), (2, [Some(5), Some(7), None]));
+    Ok(())
+}
+
+/// Makes room for a value by a claim, and frees the block. Answers whether there was one, and whether
+/// the bucket is missing still.
+fn make_and_release(early: Early<'_, u32>, alloc: &Global) -> [bool; 2] {
+    let Early { kept, reached: _ } = early;
+    let mut claim = kept.into_claim();
+    let thread = claim.place();
+    if !claim.is_missing() {
+        claim.give_up();
+        return [false; 2];
+    }
+    let was_made = match claim.room(alloc, thread) {
+        Ok(Some(block)) => {
+            block.release(alloc, bucket_size(thread.bucket));
+            true
+        }
+        _ => false,
+    };
+    let is_missing = claim.is_missing();
+    claim.give_up();
+    [was_made, is_missing]
+}
+
+#[test]
+fn room_for_a_value_installs_nothing(rt: HostRuntime) -> Result<(), Fail> {
+    let mut ids = Ids::new(rt.alloc());
+    let shared = share(Buckets::new(rt.alloc()), &ids.table_right());
+    let first = claim_early(&shared, ids.take()?);
+    let made = make_and_release(first, &rt.alloc());
+    assert_eq!(rt; (made, left(shared)), ([true; 2], (0, [None; 3])));
     Ok(())
 }
 

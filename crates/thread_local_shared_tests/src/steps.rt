@@ -55,8 +55,8 @@ impl<T> Drop for Kept<'_, T> {
     }
 }
 
-/// Publishes a value at an id, whose bucket is made where it is missing, and answers whether it
-/// did.
+/// Publishes a value at an id whose slot is empty, with a block for its bucket where that is missing.
+/// Answers whether it did.
 pub fn publish<T: Drop>(
     shared: &Shared<T>,
     held: (HeldId, Right),
@@ -71,11 +71,17 @@ pub fn publish<T: Drop>(
     ensures id { (result.0.0.id ≡ held.0.id) × (result.0.1.id ≡ held.0.id) }
 {
     let mut claim = shared.claim(held.0, held.1);
-    let thread = claim.place();
-    if claim.find_bucket(&alloc, thread, tenure.reached()).is_err() {
+    if claim.get().is_some() {
         return (claim.give_up(), false);
     }
-    publish_claimed(claim, value)
+    let thread = claim.place();
+    match claim.room(&alloc, thread) {
+        Ok(block) => {
+            claim.publish_in(&alloc, thread, block, value, tenure.reached());
+            (claim.give_up(), true)
+        }
+        Err(_) => (claim.give_up(), false),
+    }
 }
 
 /// Publishes a value in a slot that is vacant, and answers whether it did.

@@ -2,6 +2,7 @@
 
 use crate::locals::{found, lends, numbers, published};
 use crate::same::assert_same;
+use std::mem::forget;
 use std::sync::Wait;
 use std::sync::atomic::Ordering::SeqCst;
 use std::sync::atomic::{AtomicBool, AtomicU32};
@@ -163,11 +164,22 @@ fn publish_one_within_another<R: Threads + Wait + Sync>(
     )
 }
 
+/// The same where all ids are held that may be taken without the lock.
+fn publish_by_further_ids<R: Threads + Wait + Sync>(
+    table: &ThreadLocal<u32>,
+    rt: &R,
+) -> Option<((Option<u32>, bool), (Option<u32>, bool))> {
+    for _ in 0..58 {
+        forget(table.local(rt).ok()?);
+    }
+    Some(publish_one_within_another(table, rt))
+}
+
 #[test]
 fn no_lock_is_held_while_a_closure_runs(rt: HostRuntime) {
     let table = numbers(rt.alloc());
-    let both = publish_one_within_another(&table, &rt);
-    assert_same(&rt, both, ((Some(1), true), (Some(2), true)));
+    let both = publish_by_further_ids(&table, &rt);
+    assert_same(&rt, both, Some(((Some(1), true), (Some(2), true))));
 }
 
 // Two threads do so with `Local`s that were taken before, and the first's closure publishes 9.

@@ -97,7 +97,7 @@ fn fails<R: Wait>(table: &ThreadLocal<u32>, rt: &R) -> bool {
 }
 
 #[test]
-fn an_error_leaves_the_slot_empty_and_its_bucket_standing(rt: HostRuntime) {
+fn an_error_leaves_the_slot_empty_and_installs_no_bucket(rt: HostRuntime) {
     let mut table = numbers(rt.alloc());
     let failed = fails(&table, &rt);
     let slots = table.slots();
@@ -105,7 +105,7 @@ fn an_error_leaves_the_slot_empty_and_its_bucket_standing(rt: HostRuntime) {
     assert_same(
         &rt,
         (failed, slots, next, table.slots()),
-        (true, 1, Some([None, Some(4), Some(4)]), 1),
+        (true, 0, Some([None, Some(4), Some(4)]), 1),
     );
 }
 

@@ -1,15 +1,16 @@
 //! Claims at concrete types.
-ghost use Rattle.std.specs.Prelude.{◌≡◌, ◌≢◌, ◌<◌, ◌^◌, MatchOption};
+ghost use Rattle.std.specs.Prelude.{◌≡◌, ◌≢◌, ◌<◌, ◌^◌, ◌⊎◌, MatchBool, MatchOption};
 ghost use Rattle.thread_local_bucket_pointers.specs.Slots.{empty_slots};
 ghost use Rattle.thread_local_base.specs.Learnt.{Missing, Vacant, Holding};
 ghost use Rattle.thread_local_base.specs.Place.{bucket_of, IsPlaceOf};
+ghost use Rattle.thread_local_shared_buckets.specs.Announcing.{BeginsWithFirst};
 
 use std::alloc::Global;
 use std::cell::{Cell, RefCell};
-use thread_local_base::Thread;
+use thread_local_base::{Thread, bucket_size};
 use thread_local_bucket_pointers::Block;
 use thread_local_ids::{HeldId, Reached, Right, Token};
-use thread_local_shared_buckets::{Claim, SharedBucket};
+use thread_local_shared_buckets::{Announcements, Claim, SharedBucket};
 
 /// Publishes the value unless the slot holds one.
 fn offered<T: Send + Drop>(claim: &mut Claim<'_, T>, value: T)
@@ -58,10 +59,12 @@ fn ref_cell(claim: &mut Claim<'_, RefCell<String>>, value: RefCell<String>)
 /// Looks, looks again where the bucket was missing, and gives the claim up.
 fn visit<T: Send>(
     bucket: &SharedBucket<T>,
+    announcements: &Announcements,
     thread: Thread,
     held: HeldId,
     right: Right,
 ) -> (HeldId, Right)
+    requires word { (bucket.now.word ≡ announcements.now) × BeginsWithFirst announcements.now }
     requires table { (right.table ≡ bucket.now.table) × (held.mark.table ≡ bucket.now.table) }
     requires id { right.id ≡ held.id }
     requires place { IsPlaceOf thread.bucket thread.index held.id }
@@ -69,7 +72,7 @@ fn visit<T: Send>(
     ensures table { (result.1.table ≡ right.table) × (result.0.mark.table ≡ right.table) }
     ensures id { (result.0.id ≡ held.id) × (result.1.id ≡ held.id) }
 {
-    let mut claim = Claim::look(bucket, thread, held, right);
+    let mut claim = Claim::look(bucket, announcements, thread, held, right);
     if claim.is_missing() {
         claim.look_again(thread);
     }
@@ -94,7 +97,7 @@ fn number_seen<'a>(claim: Claim<'a, u32>) -> ((HeldId, Right), Option<(Token<u32
     seen(claim)
 }
 
-/// Installs the bucket that was missing, and publishes the value.
+/// Installs a block for the bucket that was missing, which publishes the value.
 fn settled<T: Send>(
     claim: &mut Claim<'_, T>,
     block: Block<T, Global>,
@@ -108,9 +111,7 @@ fn settled<T: Send>(
     requires slots { block.slots ≡ empty_slots (2 ^ bucket_of claim.old.id) }
     ensures { claim.new.learnt ≡ Holding value }
 {
-    let thread = claim.place();
-    claim.install(thread, block, reached, alloc);
-    claim.publish(thread, value);
+    claim.install(alloc, claim.place(), block, value, reached);
 }
 
 fn settled_number(
@@ -126,4 +127,37 @@ fn settled_number(
     ensures { claim.new.learnt ≡ Holding 7 }
 {
     settled(claim, block, reached, alloc, 7)
+}
+
+/// Publishes a value in an empty slot, with a block for its bucket where that is missing. Answers
+/// whether there was memory.
+fn filled<T: Send + Drop>(
+    claim: &mut Claim<'_, T>,
+    alloc: &Global,
+    reached: Reached,
+    value: T,
+) -> bool
+    requires empty { (claim.old.learnt ≡ Missing) ⊎ (claim.old.learnt ≡ Vacant) }
+    requires reached { (reached.table ≡ claim.old.table) × (claim.old.id < reached.ids) }
+    ensures { MatchBool result (claim.new.learnt ≡ Holding value) (claim.new.learnt ≡ Missing) }
+{
+    let thread = claim.place();
+    match claim.room(alloc, thread) {
+        Ok(block) => {
+            claim.publish_in(alloc, thread, block, value, reached);
+            true
+        }
+        Err(_) => false,
+    }
+}
+
+/// Makes room for a value that never comes. A slot that was vacant stays so.
+fn left_empty<T: Send>(claim: &mut Claim<'_, T>, alloc: &Global)
+    requires empty { (claim.old.learnt ≡ Missing) ⊎ (claim.old.learnt ≡ Vacant) }
+    ensures { claim.old.learnt ≡ Vacant → claim.new.learnt ≡ Vacant }
+{
+    let thread = claim.place();
+    if let Ok(Some(block)) = claim.room(alloc, thread) {
+        block.release(alloc, bucket_size(thread.bucket));
+    }
 }

@@ -2,7 +2,7 @@
 use Rattle.thread_local_base.proofs.Names.{◌≡◌, ℕ, ◌^◌, [], ◌∷◌, refl, sym, lit<, w64, named, Val}
 use Rattle.thread_local_base.proofs.Names.{vint, SProp, Lft, Share}
 use Rattle.thread_local_base.proofs.Names.{ftrue, fsep, flft, ‵, raw, ◌⊛◌, ◌$◌, ◌∵◌}
-use Rattle.thread_local_base.proofs.Names.{!, qed, by, move, keep, split, join, fsplit, fsplit3, fjoin, fjoin3}
+use Rattle.thread_local_base.proofs.Names.{ !, qed, by, move, keep, split, join, fsplit, fsplit3, fjoin, fjoin3}
 use Rattle.thread_local_base.proofs.Names.{use1, use3, rewrite, feq_i, flt_i, lit, no_more}
 use Rattle.thread_local_base.proofs.Names.{and_then, returns, enter, alloc_all}
 use Rattle.thread_local_base.proofs.Names.{pass_all, free_all, look_at, sets, agg, tables}
