@@ -184,13 +184,18 @@ struct Variable {
 
 constexpr uint64_t HITS = 10'000'000;
 
+// Which of two is asked goes by the number's bits that are in the mask. Of it no compiler knows that it
+// is 1.
+static volatile uint64_t hit_mask = 1;
+
 // Finds the values of two objects by turns and adds to them.
 template <class Peer> static Round hit() {
     Peer peers[2];
     for (Peer &peer : peers) peer.first(0);
+    const uint64_t mask = hit_mask;
     auto start = Clock::now();
     for (uint64_t number = 0; number < HITS; ++number) {
-        *peers[number & 1].find() += 1;
+        *peers[(number & mask) != 0].find() += 1;
         keep_apart();
     }
     double time = since(start);
@@ -199,9 +204,10 @@ template <class Peer> static Round hit() {
 }
 
 static Round hit_declared() {
+    const uint64_t mask = hit_mask;
     auto start = Clock::now();
     for (uint64_t number = 0; number < HITS; ++number) {
-        declared[number & 1] += 1;
+        declared[(number & mask) != 0] += 1;
         keep_apart();
     }
     double time = since(start);
@@ -221,13 +227,16 @@ template <class Peer> static Round new_first_drop() {
     return {TIMES, since(start)};
 }
 
+// Adds a number to a count. It isn't inlined, so that each sum is stored.
+[[gnu::noinline]] static void add_number(uint64_t &count, uint64_t number) {
+    uint64_t sum;
+    bool over = __builtin_add_overflow(count, number, &sum);
+    count = over ? UINT64_MAX : sum;
+}
+
 // Adds each fourth number below `end` to a count, from the thread's own on.
 static void add_to(uint64_t &count, uint64_t thread, uint64_t end) {
-    for (uint64_t turn = 0; turn < end / 4; ++turn) {
-        uint64_t sum;
-        bool over = __builtin_add_overflow(count, turn * 4 + thread, &sum);
-        count = over ? UINT64_MAX : sum;
-    }
+    for (uint64_t turn = 0; turn < end / 4; ++turn) add_number(count, turn * 4 + thread);
 }
 
 // Four threads add numbers up, each in its own value. Without a walk the sums are handed over.

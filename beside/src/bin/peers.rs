@@ -47,17 +47,24 @@ fn add_one(count: &Cell<u64>) {
     count.set(count.get().wrapping_add(1));
 }
 
-/// Finds two declared variables by turns and adds to them.
+/// Finds two declared variables by turns and adds to them. Of the mask no compiler knows that it is 1.
 fn hit_declared() -> Round {
+    let mask = black_box(1);
     let start = Instant::now();
     for number in 0..HITS {
-        COUNTS.with(|counts| add_one(&counts[(number & 1) as usize]));
+        COUNTS.with(|counts| add_one(&counts[usize::from(number & mask != 0)]));
         keep_apart();
     }
     let time = start.elapsed();
     let sum: u64 = COUNTS.with(|counts| counts.iter().map(|count| count.replace(0)).sum());
     assert_eq!(sum, HITS);
     (HITS, time)
+}
+
+/// Adds a number to a sum. It isn't inlined, so that each sum is stored.
+#[inline(never)]
+fn add_number(sum: &Cell<u64>, number: u64) {
+    sum.set(sum.get().saturating_add(number));
 }
 
 /// Four threads add numbers up, each in its own variable, and hand over their sums.
@@ -68,7 +75,7 @@ fn tally_declared() -> Round {
         COUNTS.with(|counts| {
             let sum = &counts[0];
             for turn in 0..NUMBERS / 4 {
-                sum.set(sum.get().saturating_add(turn * 4 + thread));
+                add_number(sum, turn * 4 + thread);
             }
             *sums.lock().unwrap() += sum.get();
         });
@@ -107,9 +114,10 @@ fn hit() -> Round {
     for map in &maps {
         first(map, 0);
     }
+    let mask = black_box(1);
     let start = Instant::now();
     for number in 0..HITS {
-        let mut map = maps[(number & 1) as usize].lock().unwrap();
+        let mut map = maps[usize::from(number & mask != 0)].lock().unwrap();
         if let Some(count) = map.get_mut(&thread::current().id()) {
             *count += 1;
         }

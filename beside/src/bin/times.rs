@@ -17,17 +17,18 @@ use thread_local::ThreadLocal;
 /// How many operations a round made, and in what time.
 type Round = (u64, Duration);
 
-/// Two tables, each with a count of 0 of this thread. Which of them is asked is known at run time
-/// alone.
+/// Two tables, each with a count of 0 of this thread. Which of them is asked goes by the number's bits
+/// that are in the mask, and so is known at run time alone.
 fn hits(look: impl Fn(&ThreadLocal<Cell<u64>>)) -> Round {
     const TIMES: u64 = 50_000_000;
+    let mask = black_box(1);
     let tables = [ThreadLocal::new(), ThreadLocal::new()];
     for table in &tables {
         table.get_or(|| Cell::new(0));
     }
     let start = Instant::now();
     for number in 0..TIMES {
-        look(&tables[(number & 1) as usize]);
+        look(&tables[usize::from(number & mask != 0)]);
     }
     let time = start.elapsed();
     let sum: u64 = tables.into_iter().flatten().map(Cell::into_inner).sum();
@@ -445,13 +446,19 @@ fn ids_highest() -> Round {
     (PAIRS, start.elapsed())
 }
 
+/// Adds a number to a sum. It isn't inlined, so that each sum is stored.
+#[inline(never)]
+fn add_number(sum: &Cell<u64>, number: u64) {
+    sum.set(sum.get().saturating_add(number));
+}
+
 /// Adds each `workers`-th number below `end`, from the worker's own on, to the thread's cell, where
 /// `end` is a multiple of `workers`.
 fn add(table: &ThreadLocal<Cell<u64>>, worker: u64, workers: u64, end: u64) {
     let sum = table.get_or(|| Cell::new(0));
     for turn in 0..end / workers.max(1) {
         let number = turn.wrapping_mul(workers).wrapping_add(worker);
-        sum.set(sum.get().saturating_add(number));
+        add_number(sum, number);
     }
 }
 
@@ -613,13 +620,14 @@ fn by_threads(threads: u64, operations: u64, work: impl Fn(u64) + Sync) -> Round
 
 fn get_hit_by(threads: u64) -> Round {
     const FINDS: u64 = 10_000_000;
+    let mask = black_box(1);
     let tables: [ThreadLocal<Padded>; 2] = [ThreadLocal::new(), ThreadLocal::new()];
     by_threads(threads, FINDS, |_| {
         for table in &tables {
             table.get_or_default();
         }
         for number in 0..FINDS {
-            if let Some(counter) = tables[(number & 1) as usize].get() {
+            if let Some(counter) = tables[usize::from(number & mask != 0)].get() {
                 add_one(counter.cell());
             }
         }

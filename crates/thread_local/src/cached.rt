@@ -53,7 +53,8 @@ impl<T> CachedThreadLocal<T> {
         }
     }
 
-    /// A `Local` with the least id that isn't held. May wait, and may take memory.
+    /// A `Local` with the least id that isn't held. May wait, may take memory, and refuses as
+    /// `ThreadLocal::local` does.
     pub fn local<'a, R: Wait>(&'a self, rt: &'a R) -> Result<Local<'a, T, R>, LocalError>
         ensures table { IfOk result (λ local.
             (local.table ≡ self.now.table)

@@ -331,7 +331,9 @@ impl<'a, T, R: Wait> Local<'a, T, R> {
     /// `get_or_try` without the value. Call it where the proof has to know what the `Local` knows
     /// afterwards: this call and `get_or_try_lasting` say that. One can't say what it leaves where
     /// it answers a reference to its own borrow beside an error of any type. After `Ok`, `get`
-    /// answers the value. After `Err` the slot is still empty, so another closure may be tried.
+    /// answers the value. `Create` hands on the closure's error. `Memory` means out of memory for
+    /// the bucket, and the closure isn't called. After either the slot is still empty, so another
+    /// closure may be tried.
     pub fn try_fill<F: FnOnce() -> Result<T, E> + Drop, E>(
         &mut self,
         create: F,
@@ -365,11 +367,12 @@ impl<'a, T, R: Wait> Local<'a, T, R> {
         }
     }
 
-    /// The value. Where the slot is empty, its bucket is found or made, then the closure is called
-    /// and its value is published. `Create` hands on the closure's error, and nothing is published.
-    /// `Memory` means out of memory for the bucket, and the closure isn't called. Rust's crate
-    /// makes the value before its bucket, takes `&self`, and doesn't answer out of memory. It is
-    /// `try_fill` and then `get`, which stand for it where the proof goes on afterwards.
+    /// The value. Where the slot is empty, memory for a missing bucket is asked for. Then the closure
+    /// is called and its value is published, with the bucket if that was missing. `Create` hands on
+    /// the closure's error, and nothing is published. `Memory` means out of memory for the bucket,
+    /// and the closure isn't called. Rust's crate makes the value before its bucket, takes `&self`,
+    /// and doesn't answer out of memory. It is `try_fill` and then `get`, which stand for it where
+    /// the proof goes on afterwards.
     pub fn get_or_try<F: FnOnce() -> Result<T, E> + Drop, E>(
         &mut self,
         create: F,

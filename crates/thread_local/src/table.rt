@@ -39,11 +39,11 @@ mod lends;
 /// can be sent to another thread. One can be made of every `T: Send` that is judged, as `new` says.
 ///
 /// Only `local`, `local_after`, `slots_and_peak`, `give_back` and the drop of a `Local` may take the
-/// table's lock, so no other call here waits. An id below 58 is returned without it, and taken without
-/// it unless other threads take and return ids at the same time. Only `local`, `local_after` and
-/// `with_capacity` take memory. But
-/// `clear` drops values, as the drop of a table, of a walk by value or of a `Drain` does, and a
-/// value's drop may wait and may take memory: a value may hold a `Local` of another table.
+/// table's lock, so no other call here waits. An id below 58 is returned without it, and taken
+/// without it unless other threads take or return ids at the same time. Only `local`, `local_after`
+/// and `with_capacity` take memory. But `clear` drops values, as the drop of a table, of a walk by
+/// value or of a `Drain` does, and a value's drop may wait and may take memory: a value may hold a
+/// `Local` of another table.
 ///
 /// A bucket of 2^58 bytes or more, and values aligned above 16, are refused as if out of memory,
 /// here and by every `Local`. No type was found that is aligned so: the language refuses
@@ -170,8 +170,8 @@ impl<T> ThreadLocal<T> {
     /// so that `get` needs no look.
     ///
     /// It asks for memory only where all ids from 58 on are held that there is room for, and not for
-    /// the first 64: `Memory` means out of memory. `Exhausted` means that
-    /// all 2^63 - 1 ids are held. Rust's crate finds the running thread by itself.
+    /// the first 64: `Memory` means out of memory. `Exhausted` means that all 2^63 - 1 ids are held.
+    /// Rust's crate finds the running thread by itself.
     #[inline(always)]
     pub fn local<'a, R: Wait>(&'a self, rt: &'a R) -> Result<Local<'a, T, R>, LocalError>
         ensures table { IfOk result (λ local.
@@ -197,8 +197,8 @@ impl<T> ThreadLocal<T> {
 
     /// `local`, which shows that what was done with the table's ids before extends a page of the
     /// table, and leaves the page of all that was done so far, where it is refused too. So it says
-    /// which ids were held when it was refused: all that there was room for from the beginning.
-    /// While fewer are held, this call is refused no memory.
+    /// which ids were held when it was refused: for `Memory` all that there was room for from the
+    /// beginning, for `Exhausted` all 2^63 - 1. While fewer are held, this call is refused no memory.
     #[inline(always)]
     pub fn local_after<'a, R: Wait>(
         &'a self,

@@ -33,22 +33,25 @@ const NUMBERS: u64 = 16_000_000;
 /// What several threads do at once, and how often: of a tally all threads together, else each.
 #[derive(Clone, Copy)]
 pub(crate) enum Work {
-    GetHit(u64),
+    /// How often, and the mask of `find_by_two`.
+    GetHit(u64, u64),
     Tally(u64),
     LocalAndDrop(u64),
 }
 
 impl Work {
-    const ALL: [Work; 3] = [
-        Work::GetHit(FINDS),
-        Work::Tally(NUMBERS),
-        Work::LocalAndDrop(PAIRS),
-    ];
+    fn all(mask: u64) -> [Work; 3] {
+        [
+            Work::GetHit(FINDS, mask),
+            Work::Tally(NUMBERS),
+            Work::LocalAndDrop(PAIRS),
+        ]
+    }
 
     /// The work's name, as it is printed.
     fn name(self) -> &'static str {
         match self {
-            Work::GetHit(_) => "get_hit",
+            Work::GetHit(_, _) => "get_hit",
             Work::Tally(_) => "tally",
             Work::LocalAndDrop(_) => "local_and_drop",
         }
@@ -57,7 +60,7 @@ impl Work {
     /// For how many operations a time is given.
     fn operations(self) -> u64 {
         match self {
-            Work::GetHit(times) | Work::Tally(times) | Work::LocalAndDrop(times) => times,
+            Work::GetHit(times, _) | Work::Tally(times) | Work::LocalAndDrop(times) => times,
         }
     }
 
@@ -69,7 +72,7 @@ impl Work {
         alloc: Global,
         threads: u64,
     ) -> io::Result<Round> {
-        if let Work::GetHit(_) = self {
+        if let Work::GetHit(_, _) = self {
             let table = ThreadLocal::<Padded<Cell<u64>>>::made_with(alloc);
             return by_threads(&table, rt, self, threads);
         }
@@ -86,7 +89,7 @@ impl Work {
         threads: u64,
     ) -> Result<(), AllocError> {
         match self {
-            Work::GetHit(times) => find_all(table, rt, times),
+            Work::GetHit(times, mask) => find_all(table, rt, times, mask),
             Work::Tally(times) => add(table, rt, thread, threads, times).map_err(|_| AllocError),
             Work::LocalAndDrop(times) => take_and_drop(table, rt, times),
         }
@@ -98,8 +101,9 @@ fn find_all<T: Counter, R: Clock + Wait>(
     table: &ThreadLocal<T>,
     rt: &R,
     times: u64,
+    mask: u64,
 ) -> Result<(), AllocError> {
-    match find_by_two(table, rt, times, 1) {
+    match find_by_two(table, rt, times, mask) {
         Ok(_) => Ok(()),
         Err(_) => Err(AllocError),
     }
@@ -213,14 +217,15 @@ fn report<R: Print>(rt: &R, name: &str, size: u32, picoseconds: u128) -> io::Res
     )
 }
 
-/// Measures the calls that so many threads make at once: the least of so many rounds.
+/// Measures the calls that so many threads make at once: the least of so many rounds. Of the mask of
+/// `find_by_two` no compiler knows that it is 1.
 fn run_calls<R: Clock + Threads + Wait + Sync + Print>(
     rt: &R,
     alloc: Global,
     rounds: u64,
     threads: u32,
 ) -> io::Result<()> {
-    for work in Work::ALL {
+    for work in Work::all(rounds.min(1)) {
         let time = least_of(rounds, || work.timed(rt, alloc, u64::from(threads)))?;
         report(rt, work.name(), threads, time)?;
     }

@@ -11,6 +11,12 @@ use thread_local::{Padded, ThreadLocal};
 use thread_local_base::LocalError;
 use thread_local_judged::Judge;
 
+/// Adds a number to a sum. It isn't inlined, so that each sum is stored.
+#[inline(never)]
+fn add_number(sum: &Cell<u64>, number: u64) {
+    sum.set(sum.get().saturating_add(number));
+}
+
 /// Adds each `workers`-th number below `end`, from the worker's own on, to the worker's counter,
 /// where `end` is a multiple of `workers`.
 pub(crate) fn add<T: Counter, R: Wait>(
@@ -25,7 +31,7 @@ pub(crate) fn add<T: Counter, R: Wait>(
         let sum = counter.cell();
         for turn in 0..end / workers.max(1) {
             let number = turn.wrapping_mul(workers).wrapping_add(worker);
-            sum.set(sum.get().saturating_add(number));
+            add_number(sum, number);
         }
     }
     Ok(())

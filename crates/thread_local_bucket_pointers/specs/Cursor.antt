@@ -10,10 +10,6 @@ use Rattle.thread_local_bucket_pointers.specs.Announced.{AreAhead}
 use Rattle.thread_local_bucket_pointers.specs.declared.cursor.RawIter.{RawIter}
 use Rattle.thread_local_bucket_pointers.specs.declared.cursor.OwnerCursor.{OwnerCursor}
 
--- the walk at the first slot of the next bucket
-abbrev pub next_bucket : RawIter → RawIter
-next_bucket raw = record { yielded = raw.yielded; bucket = raw.bucket + 1; bucket_size = raw.bucket_size * 2; index = 0 }
-
 -- the walk at the first slot of a bucket
 abbrev pub at_bucket : RawIter → ℕ → RawIter
 at_bucket raw bucket = record { yielded = raw.yielded; bucket = bucket; bucket_size = 2 ^ bucket; index = 0 }

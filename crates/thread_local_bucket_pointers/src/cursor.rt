@@ -8,7 +8,7 @@ ghost use Rattle.thread_local_base.specs.Rows.{value_in, with_slot};
 ghost use Rattle.thread_local_base.specs.Walk.{walk, paired};
 ghost use Rattle.thread_local_base.specs.Owner.{NoneBelow};
 ghost use Rattle.thread_local_bucket_pointers.specs.Announced.{AreAhead};
-ghost use Rattle.thread_local_bucket_pointers.specs.Cursor.{next_bucket, at_bucket, read_to, slot_at, values_left, AreFlagsAt};
+ghost use Rattle.thread_local_bucket_pointers.specs.Cursor.{at_bucket, read_to, slot_at, values_left, AreFlagsAt};
 ghost use Rattle.thread_local_bucket_pointers.specs.Cursor.{HasRead, IsAt, IsOwnerWalk, MayRead};
 
 use crate::take_first;
@@ -69,18 +69,6 @@ impl RawIter {
             bucket_size: 1,
             index: 0,
         }
-    }
-
-    /// Advances to the first slot of the next bucket.
-    #[inline]
-    pub fn next_bucket(&mut self)
-        requires in_table { self.old.bucket < 63 }
-        requires size { self.old.bucket_size ≡ 2 ^ self.old.bucket }
-        ensures { self.new ≡ next_bucket self.old }
-    {
-        self.bucket += 1;
-        self.bucket_size *= 2;
-        self.index = 0;
     }
 
     /// Goes to the first slot of a bucket.

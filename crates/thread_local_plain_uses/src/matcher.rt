@@ -39,8 +39,8 @@ impl Matcher {
     }
 }
 
-/// A worker that keeps its matcher from line to line. Only to take it and to put it back takes the
-/// pool's lock, so a worker that lives long is as fast as one that owns its matcher.
+/// A worker that keeps its matcher from line to line. It goes to the pool only to take it and to put
+/// it back, so a worker that lives long is as fast as one that owns its matcher.
 #[derive(Drop)]
 pub struct Worker<'a, R: Wait> {
     matcher: Pooled<'a, Matcher, R>,

@@ -132,7 +132,7 @@ impl<'a, T: Sync> Iter<'a, T> {
     }
 
     /// `new`, for who passes the value that a token is of. The walk gives this value, too, at the
-    /// token's id, without a look at the flag.
+    /// token's id, whatever the flag says.
     pub fn with_own(
         buckets: &'a Shared<T>,
         token: &Token<T>,

@@ -27,8 +27,8 @@ mod lends;
 /// that of the sharing if it has one, the number of reserved slots, and whether each bucket that
 /// isn't reserved was made for an id of the table.
 ///
-/// No call waits or takes memory. Dropping it drops every value, which may wait, and frees every
-/// block.
+/// No call takes memory. `clear` and the drop of it drop values, which may wait; no other call waits.
+/// The drop frees every block.
 pub struct Shared<T> {
     pointers: BucketPointers<T>,
     reserved: usize,

@@ -16,10 +16,10 @@ use std::default::MadeWith;
 use std::sync::Wait;
 
 impl<'a, T, R: Wait> Local<'a, T, R> {
-    /// The value. Where the slot is empty, its bucket is found or made, then the closure is called
-    /// and its value is published. `Err` means out of memory for the bucket, and the closure isn't
-    /// called. Rust's crate makes the value before its bucket, takes `&self`, and doesn't answer
-    /// out of memory.
+    /// The value. Where the slot is empty, memory for a missing bucket is asked for. Then the closure
+    /// is called and its value is published, with the bucket if that was missing. `Err` means out
+    /// of memory for the bucket, and the closure isn't called. Rust's crate makes the value before
+    /// its bucket, takes `&self`, and doesn't answer out of memory.
     pub fn get_or<F: FnOnce() -> T + Drop>(&mut self, create: F) -> Result<&T, AllocError>
         requires { self.old.value ≡ None → F.pre create }
         // Once the borrow of the answer ends, the view has the value that was answered. Where
