@@ -24,6 +24,7 @@ pub mod Word
 pub mod WordBits
 pub mod Opened
 pub mod Pointers
+pub mod SharedWord
 pub mod Signs
 pub mod Walking
 mod IdBits

@@ -16,6 +16,7 @@ pub mod Counting
 pub mod Code
 pub mod Bits
 pub mod Fact
+pub mod SharedWord
 pub mod Entries
 pub mod Returned
 pub mod Text

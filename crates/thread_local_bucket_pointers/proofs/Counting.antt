@@ -1,9 +1,9 @@
 -- How many values the flags of a chunk count.
 use Rattle.std.proofs.Common.{◌≡◌, ◌≢◌, ◌⊎◌, inl, inr, ℕ, ◌+◌, ◌-◌, ◌*◌, ◌/◌, ◌%◌, ◌^◌, ◌<◌, ◌≤◌, min, length}
-use Rattle.std.proofs.Common.{zero, suc, [], count_ones, is_some, sym, ap, subst, ◌∙◌, arith, ⊎_elim}
+use Rattle.std.proofs.Common.{zero, suc, [], false, count_ones, is_some, sym, ap, subst, ◌∙◌, arith, ⊎_elim}
 use Rattle.std.proofs.lemmas.Bool.{cases_lt}
 use Rattle.std.proofs.lemmas.Nat.{pow_below, pow-add, zero_from_ones}
-use Rattle.thread_local_base.specs.Bits.{is_set}
+use Rattle.thread_local_base.specs.Bits.{is_set, IsLowestSet, IsWordBut}
 use Rattle.thread_local_base.specs.Place.{id_at}
 use Rattle.thread_local_base.specs.Buckets.{Contents, row, values}
 use Rattle.thread_local_base.specs.Rows.{value_in}
@@ -11,7 +11,7 @@ use Rattle.thread_local_base.specs.Counting.{count_below}
 use Rattle.thread_local_base.specs.Walk.{walk}
 use Rattle.thread_local_base.proofs.TakingLaws.{count_below-absent, count_below-fits, count_below-walk}
 use Rattle.thread_local_bucket_pointers.specs.Announced.{AreAhead}
-use Rattle.thread_local_bucket_pointers.proofs.Passing.{Takes, none_ahead}
+use Rattle.thread_local_bucket_pointers.proofs.Passing.{Takes, takes, none_ahead}
 use Rattle.thread_local_bucket_pointers.proofs.CountingLaws.{count_below-chunk}
 
 module _ {V : Type 0} (first now : Contents V) (b k word : ℕ) (same : now ≡ first)
@@ -108,10 +108,11 @@ module _ {V : Type 0} where
       ∙ ap (λ k. count_below (values c) (id_at k 0)) whole
 
   -- the loop takes a bucket that stands
-  pub counted_more : (now c : Contents V) (count more left rest b : ℕ) (so : IsCounted c left count) → Takes c rest so.from b
-      → now ≡ c → count_below (values now) (id_at b 0) + more ≡ count_below (values now) (id_at (b + 1) 0)
+  pub counted_more : (now c : Contents V) (count more left rest b : ℕ) → IsCounted c left count → IsLowestSet left b
+      → IsWordBut rest left b false → now ≡ c → count_below (values now) (id_at b 0) + more ≡ count_below (values now) (id_at (b + 1) 0)
       → IsCounted c rest (count + more)
-  counted_more now c count more left rest b so taken same here =
+  counted_more now c count more left rest b so low but same here =
+      let taken = takes c left rest so.from b so.ahead low but in
       let before = counted_up c count rest so.from b taken so.counted in
       let first = counted_at_first now c b more same here in
       record {

@@ -4,6 +4,7 @@ use Rattle.std.proofs.Common.{◌≡◌, ◌≢◌, ℕ, zero, suc, ◌+◌, ◌
 use Rattle.std.proofs.Common.{⊎_elim}
 use Rattle.std.specs.Int.{w64, bit_not, bit_at}
 use Rattle.std.proofs.lemmas.Bool.{cases_eq, cases_lt, cases_Bool, eq-eqb, ne_eqb, false≢true}
+use Rattle.std.proofs.lemmas.Nat.{pow_below}
 use Rattle.std.proofs.lemmas.Nat.Bits.{bit_at-lt, bit_at_and, bit_at_not, bit_at_ones, bit_at_ones_above, bit_at_cat_high}
 use Rattle.thread_local_base.specs.Bits.{is_set, IsLowestSet, IsWordBut}
 use Rattle.thread_local_base.specs.Place.{id_at}
@@ -27,21 +28,31 @@ is_set-highest word bit low high =
 unset : (word bit : ℕ) → bit_at word bit ≡ 0 → is_set word bit ≡ false
 unset word bit none = ap (λ b. eqb b 1) none
 
--- the word without its first seven bits
-pub first_cleared : (word bit : ℕ) → bit < 7 → is_set (bit_and word (bit_not w64 127)) bit ≡ false
-first_cleared word bit low =
-    let both = bit_at_and word (bit_not w64 127) bit in
-    let turned = bit_at_not w64 127 bit (omega arith) (omega arith) in
-    let one = bit_at_ones 7 bit low in
-    unset (bit_and word (bit_not w64 127)) bit (omega arith)
+-- a word without its first bits
+module _ (word count : ℕ) (few : count ≤ 63) where
+  abbrev rest : ℕ
+  rest = bit_and word (bit_not w64 (2 ^ count - 1))
 
-pub others_kept : (word bit : ℕ) → 7 ≤ bit → bit < 64 → is_set (bit_and word (bit_not w64 127)) bit ≡ is_set word bit
-others_kept word bit high within =
-    let both = bit_at_and word (bit_not w64 127) bit in
-    let turned = bit_at_not w64 127 bit (omega arith) within in
-    let none = bit_at_ones_above 7 bit high in
-    let small = bit_at-lt word bit in
-    ap (λ b. eqb b 1) (let same : bit_at (bit_and word (bit_not w64 127)) bit ≡ bit_at word bit = omega arith in same)
+  pub first_cleared : (bit : ℕ) → bit < count → is_set rest bit ≡ false
+  first_cleared bit low =
+      let both = bit_at_and word (bit_not w64 (2 ^ count - 1)) bit in
+      let fits : 2 ^ count < 2 ^ 64 = pow_below count 64 (omega arith) in
+      let turned = bit_at_not w64 (2 ^ count - 1) bit (omega arith) (omega arith) in
+      let one = bit_at_ones count bit low in
+      unset rest bit (omega arith)
+
+  pub others_kept : (bit : ℕ) → count ≤ bit → bit < 64 → is_set rest bit ≡ is_set word bit
+  others_kept bit high within =
+      let both = bit_at_and word (bit_not w64 (2 ^ count - 1)) bit in
+      let fits : 2 ^ count < 2 ^ 64 = pow_below count 64 (omega arith) in
+      let turned = bit_at_not w64 (2 ^ count - 1) bit (omega arith) within in
+      let none = bit_at_ones_above count bit high in
+      let small = bit_at-lt word bit in
+      ap (λ b. eqb b 1) (let same : bit_at rest bit ≡ bit_at word bit = omega arith in same)
+
+-- contents without a row
+abbrev pub no_rows : {V : Type 0} → Contents V
+no_rows = record { rows = [] }
 
 -- what a loop knows once it has taken the first bucket out of a word
 pub record Takes {V : Type 0} (contents : Contents V) (rest from bucket : ℕ) : Type 0 where
@@ -84,28 +95,42 @@ module _ {V : Type 0} where
         };
       }
 
-  -- all announced buckets are ahead of the first
-  pub AreAhead-all : (c : Contents V) (word : ℕ) → Announces word c → AreAhead c word 0
-  AreAhead-all c word told = record {
-    standing = λ b _ low stood. told.standing b low stood;
+  -- where each bucket that stands is in the word, all are ahead of the first
+  AreAhead-from : (c : Contents V) (word : ℕ) → is_set word 63 ≡ false
+      → ((b : ℕ) → b < 63 → stands c b ≡ true → is_set word b ≡ true) → AreAhead c word 0
+  AreAhead-from c word none_past standing = record {
+    standing = λ b _ low stood. standing b low stood;
     inside = λ b near here. (
       omega arith,
       ⊎_elim
-          (λ (last : b ≡ 63). absurd (false≢true (sym told.none_past ∙ ap (is_set word) (sym last) ∙ here)))
+          (λ (last : b ≡ 63). absurd (false≢true (sym none_past ∙ ap (is_set word) (sym last) ∙ here)))
           (λ (other : b ≢ 63). omega arith)
           (cases_eq b 63),
     );
   }
 
-  -- and of them are those behind the first seven
-  pub AreAhead-further : (c : Contents V) (word : ℕ) → Announces word c → AreAhead c (bit_and word (bit_not w64 127)) 7
-  AreAhead-further c word told = let all = AreAhead-all c word told in record {
-    standing = λ b after low stood. others_kept word b after (omega arith) ∙ told.standing b low stood;
+  pub AreAhead-all : (c : Contents V) (word : ℕ) → Announces word c → AreAhead c word 0
+  AreAhead-all c word told = AreAhead-from c word told.none_past told.standing
+
+  -- and of them are those behind the first ones
+  AreAhead-behind : (c : Contents V) (word count : ℕ) → count ≤ 63 → AreAhead c word 0
+      → AreAhead c (bit_and word (bit_not w64 (2 ^ count - 1))) count
+  AreAhead-behind c word count few all = record {
+    standing = λ b after low stood. others_kept word count few b after (omega arith) ∙ all.standing b (omega arith) low stood;
     inside = λ b near here. ⊎_elim
-        (λ (low : b < 7). absurd (false≢true (sym (first_cleared word b low) ∙ here)))
-        (λ (high : 7 ≤ b). (high, (all.inside b near (sym (others_kept word b high near) ∙ here)).1))
-        (cases_lt b 7);
+        (λ (low : b < count). absurd (false≢true (sym (first_cleared word count few b low) ∙ here)))
+        (λ (high : count ≤ b). (high, (all.inside b near (sym (others_kept word count few b high near) ∙ here)).1))
+        (cases_lt b count);
   }
+
+  pub AreAhead-further : (c : Contents V) (word : ℕ) → Announces word c → AreAhead c (bit_and word (bit_not w64 127)) 7
+  AreAhead-further c word told = AreAhead-behind c word 7 (omega arith) (AreAhead-all c word told)
+
+  -- the buckets of a word behind the first ones, where none is known to stand
+  pub AreAhead-of_none : (word count : ℕ) → count ≤ 63 → is_set word 63 ≡ false
+      → AreAhead {V = V} no_rows (bit_and word (bit_not w64 (2 ^ count - 1))) count
+  AreAhead-of_none word count few none_past =
+      AreAhead-behind no_rows word count few (AreAhead-from no_rows word none_past (λ b low stood. absurd (false≢true stood)))
 
   -- and those behind the first
   pub AreAhead-begun : (c : Contents V) (word rest : ℕ) → Announces word c → IsWordBut rest word 0 false → AreAhead c rest 1

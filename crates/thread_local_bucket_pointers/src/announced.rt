@@ -2,6 +2,8 @@
 ghost use Rattle.std.specs.Prelude.{◌≡◌, ◌*◌, ◌^◌, ◌<◌, true, false};
 ghost use Rattle.thread_local_base.specs.Bits.{is_set, IsLowestSet, IsWordBut};
 
+use crate::without_first;
+
 /// A bit for each announced bucket. It is a struct, since threads share it as a struct of one field.
 #[derive(Clone, Copy)]
 pub struct AnnouncedBuckets {
@@ -20,7 +22,7 @@ pub fn take_first(buckets: &mut u64) -> usize
     ensures fewer { buckets.new < buckets.old }
 {
     let first = buckets.trailing_zeros() as usize;
-    *buckets &= *buckets - 1;
+    *buckets = without_first(*buckets);
     first
 }
 

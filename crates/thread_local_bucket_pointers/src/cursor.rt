@@ -164,7 +164,8 @@ fn next_flags<P: FlagSource>(source: &mut P, raw: &mut RawIter, left: &mut u64) 
 #[inline]
 pub fn without_first(flags: u64) -> u64
     requires { 0 < flags }
-    ensures { (first : ℕ) → IsLowestSet flags first → IsWordBut result flags first false }
+    ensures rest { (first : ℕ) → IsLowestSet flags first → IsWordBut result flags first false }
+    ensures fewer { result < flags }
 {
     flags & (flags - 1)
 }

@@ -2,11 +2,12 @@
 use Rattle.std.proofs.Common.{◌≡◌, ℕ, zero, suc, ◌+◌, ◌-◌, ◌^◌, ◌<◌, ◌≤◌, Bool, true, false, sym, ap, ◌∙◌, arith, pow_mono}
 use Rattle.std.specs.Prelude.{nat_lt}
 use Rattle.std.proofs.Common.{length, List, [], Option}
+use Rattle.thread_local_base.specs.Bits.{IsLowestSet, IsWordBut}
 use Rattle.thread_local_base.specs.Buckets.{Contents, row, stands, slots, slots_below}
 use Rattle.thread_local_base.proofs.SlotsLaws.{slots_below-lt}
 use Rattle.thread_local_base.proofs.StandingLaws.{slots_below-zero, slots_below-standing, slots_below-absent, slots-all}
 use Rattle.thread_local_bucket_pointers.specs.Announced.{Announces, AreAhead}
-use Rattle.thread_local_bucket_pointers.proofs.Passing.{Takes, AreAhead-all, none_ahead}
+use Rattle.thread_local_bucket_pointers.proofs.Passing.{Takes, takes, AreAhead-all, none_ahead}
 
 -- the slots of the buckets that the loop has taken out of the word are added up
 pub record IsAdded {V : Type 0} (contents : Contents V) (left sum : ℕ) : Type 0 where
@@ -47,27 +48,27 @@ module _ {V : Type 0} where
       ∙ ap (slots_below (stands c)) whole
 
   -- the loop takes a bucket that stands
-  pub added_more : (c : Contents V) (sum size left rest b : ℕ) (so : IsAdded c left sum) → Takes c rest so.from b
-      → stands c b ≡ true → size ≡ 2 ^ b
+  pub added_more : (c d : Contents V) (sum size left rest b : ℕ) → IsAdded c left sum → IsLowestSet left b
+      → IsWordBut rest left b false → d ≡ c → stands d b ≡ true → size ≡ 2 ^ b
       → IsAdded c rest (sum + size)
-  added_more c sum size left rest b so taken stood all = record {
+  added_more c d sum size left rest b so low but same stood all = let taken = takes c left rest so.from b so.ahead low but in record {
     from = b + 1;
     low = (let low = taken.in_table in omega arith);
     ahead = taken.ahead;
     added =
         (let before = added_up c sum rest so.from b taken so.added in
-        let more = slots_below-standing (stands c) b stood in
+        let more = slots_below-standing (stands c) b (ap (λ w. stands w b) (sym same) ∙ stood) in
         omega (arith, before, more, all));
   }
 
   -- or one that doesn't
-  pub added_absent : (c : Contents V) (sum left rest b : ℕ) (so : IsAdded c left sum) → Takes c rest so.from b
-      → stands c b ≡ false → IsAdded c rest sum
-  added_absent c sum left rest b so taken none = record {
+  pub added_absent : (c d : Contents V) (sum left rest b : ℕ) → IsAdded c left sum → IsLowestSet left b
+      → IsWordBut rest left b false → d ≡ c → stands d b ≡ false → IsAdded c rest sum
+  added_absent c d sum left rest b so low but same none = let taken = takes c left rest so.from b so.ahead low but in record {
     from = b + 1;
     low = (let low = taken.in_table in omega arith);
     ahead = taken.ahead;
-    added = added_up c sum rest so.from b taken so.added ∙ sym (slots_below-absent (stands c) b none);
+    added = added_up c sum rest so.from b taken so.added ∙ sym (slots_below-absent (stands c) b (ap (λ w. stands w b) (sym same) ∙ none));
   }
 
   pub added_fits : (c : Contents V) (left sum : ℕ) → IsAdded c left sum → sum < 2 ^ 63

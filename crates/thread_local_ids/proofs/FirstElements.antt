@@ -4,28 +4,29 @@ use Rattle.std.proofs.Common.{if◌then◌else◌, refl, sym, ap, subst, ◌∙�
 use Rattle.std.proofs.lemmas.Bool.{ne_eqb, eqb-true}
 use mathlib.Core.List.{IsPrefix}
 use seplogic.Ra.Ura.{Ura}
-use base.Logic.{SProp, ex, upd, upd_i, guard}
+use base.Logic.{upd, upd_i, guard}
 use base.Fml.{GName, Lft, Share, Fml, ftrue, fsep, fex, flft, fbor}
 use base.Shift.{Keyless}
 use prog.Atomic.{either}
 use types.Logic.{Logic}
-use types.Kit.{‵, raw, ◌⊛◌, given, settle, show, frame, assume, check, suffices, ◌$◌, ◌∵◌, !, qed, move, drop, split, split3, fsplit}
+use types.Kit.{‵, raw, ◌⊛◌, given, settle, frame, check, suffices, ◌$◌, ◌∵◌, !, qed, move, drop, split, split3, fsplit}
 use types.Kit.{fsplit3, fjoin, fpick, fpack, learn, rewrite, use1, use2, use3, done}
 use denote.RawPtr.{block_ptr}
 use denote.Steps.{nothing}
-use Rattle.std.specs.Sync.RawAtomic.{word, asks, always}
+use Rattle.std.specs.Sync.RawAtomic.{asks, always}
 use Rattle.thread_local_base.specs.Bits.{IsLowestUnset}
 use Rattle.thread_local_base.specs.Fact.{fact}
 use Rattle.thread_local_base.specs.Held.{is_held, least, with_least, without, HoldsAllBelow}
 use Rattle.thread_local_base.specs.IdMoves.{IdMove, Take, Give, held_after, noted}
+use Rattle.thread_local_base.specs.SharedWord.{word_invariant}
 use Rattle.thread_local_base.proofs.HeldLaws.{least_free, is_held-without, length-without}
 use Rattle.thread_local_base.proofs.IdMoveLaws.{after_take, after_give}
-use Rattle.thread_local_base.proofs.Opened.{Lies, opened}
+use Rattle.thread_local_base.proofs.SharedWord.{stepped}
 use Rattle.thread_local_base.proofs.Signs.{signs}
 use Rattle.thread_local_ids.specs.Rights.{is_out, less, right_owns, rights_own, history_owns, page_owns, tenure_of, taken_id}
 use Rattle.thread_local_ids.specs.FirstIds.{IsWordOf, IsSameBeyond, IsGivenBeyond, HasFurther, AreOutOf, IsTiedTo, IsReturn, Kept, is_full, word_with}
 use Rattle.thread_local_ids.specs.Returns.{gives as times_given}
-use Rattle.thread_local_ids.specs.FirstIds.{log_key, log_owns, kept_with, lies_with, first_invariant, tried_owns}
+use Rattle.thread_local_ids.specs.FirstIds.{log_key, log_owns, kept_with, lies_with, tried_owns}
 use Rattle.thread_local_ids.proofs.FirstLaws as laws
 use Rattle.thread_local_ids.proofs.Logs.{O, halved, joined, agree, grown}
 use Rattle.thread_local_ids.proofs.MoveElements.{note_take, note_give, page_of, page_is_early, history_keyless, page_keyless, held_keyless}
@@ -398,34 +399,17 @@ module _ {M : Type 1} {𝓤 : Ura M} (𝓛 : Logic 𝓤) where
   -- ---- the atomic steps
   module _ (γ b o : ℕ) (κ : Lft) (q : Share) where
     abbrev I : Fml
-    I = first_invariant γ b (o + 0)
-
-    -- a step that writes f n over the word n
-    stepped : (f : ℕ → ℕ) (after : ℕ → Fml) (X : Fml)
-        → ((n : ℕ) → ⟦ lies_with γ n ⟧ ∗ ⟦ X ⟧ ⊢ upd 𝓤 (⟦ lies_with γ (f n) ⟧ ∗ ⟦ after n ⟧))
-        → A.inv (fbor κ I) ∗ (A.lft κ q ∗ ⟦ X ⟧)
-        ⊢ asks 𝓛 (block_ptr b (o + 0)) f always (λ n. fsep (flft κ q) (after n))
-    stepped f after X h =
-        let L : ℕ → SProp 𝓤 = Lies 𝓛 κ q I b (o + 0) f after in
-        opened 𝓛 κ q I b (o + 0) f after ⟦ X ⟧ (qed 𝓛 (‵ I ∷ ‵ X ∷ []) ∵
-        suffices ! _ (upd_i 𝓤 (ex 𝓤 L)) $ fpick ! (λ n. fsplit ! $
-        show ! L n $ frame ! $ assume ! (‵ (word b (o + 0) (f n))) $
-        let Z = ⟦ I ⟧ ∗ ⟦ after n ⟧ in
-        -- [the word; what lies with it; what the step needs]
-        move ! (1 ∷ 2 ∷ []) $
-        use2 𝓛 (raw (upd 𝓤 (⟦ lies_with γ (f n) ⟧ ∗ ⟦ after n ⟧))) (h n) $
-        settle 𝓛 Z (‵ (lies_with γ (f n)) ⊛ ‵ (after n)) $ suffices ! _ (upd_i 𝓤 Z) $ split ! $
-        move ! (2 ∷ 0 ∷ []) $ fjoin ! $ fpack ! ℕ (λ k. fsep (word b (o + 0) k) (lies_with γ k)) (f n) $ done !))
+    I = word_invariant (lies_with γ) b (o + 0)
 
     pub sees : A.inv (fbor κ I) ∗ (A.lft κ q ∗ ⟦ ftrue ⟧)
         ⊢ asks 𝓛 (block_ptr b (o + 0)) (λ n. n) always (λ n. fsep (flft κ q) ftrue)
-    sees = stepped (λ n. n) (λ _. ftrue) ftrue (λ n. upd_i 𝓤 (⟦ lies_with γ n ⟧ ∗ ⟦ ftrue ⟧))
+    sees = stepped 𝓛 (lies_with γ) b (o + 0) κ q (λ n. n) (λ _. ftrue) ftrue (λ n. upd_i 𝓤 (⟦ lies_with γ n ⟧ ∗ ⟦ ftrue ⟧))
 
     pub tries : (old new id : ℕ) (seen : List IdMove) → new ≡ word_with old id → IsLowestUnset (old / 64) id → id < 58
         → A.inv (fbor κ I) ∗ (A.lft κ q ∗ ⟦ page_owns γ seen ⟧)
         ⊢ asks 𝓛 (block_ptr b (o + 0)) (λ n. either (eqb n old) new n) always (λ n. fsep (flft κ q) (tried γ id seen (eqb n old)))
     tries old new id seen is low first =
-        stepped (λ n. either (eqb n old) new n) (λ n. tried γ id seen (eqb n old)) (page_owns γ seen) (λ n.
+        stepped 𝓛 (lies_with γ) b (o + 0) κ q (λ n. either (eqb n old) new n) (λ n. tried γ id seen (eqb n old)) (page_owns γ seen) (λ n.
         subst (λ (w : ℕ). ⟦ lies_with γ n ⟧ ∗ ⟦ page_owns γ seen ⟧
         ⊢ upd 𝓤 (⟦ lies_with γ (either (eqb n old) w n) ⟧ ∗ ⟦ tried γ id seen (eqb n old) ⟧)) (sym is)
         (tries_if γ n old id seen (eqb n old) refl low first))
@@ -434,21 +418,22 @@ module _ {M : Type 1} {𝓤 : Ura M} (𝓛 : Logic 𝓤) where
         → A.inv (fbor κ I) ∗ (A.lft κ q ∗ ⟦ fsep (page_owns γ seen) (log_owns γ false log) ⟧)
         ⊢ asks 𝓛 (block_ptr b (o + 0)) (λ n. n) always (λ n. fsep (flft κ q) (looked γ n seen log (takes && is_full n)))
     looks seen log takes has =
-        stepped (λ n. n) (λ n. looked γ n seen log (takes && is_full n)) (fsep (page_owns γ seen) (log_owns γ false log)) (λ n.
+        stepped 𝓛 (lies_with γ) b (o + 0) κ q (λ n. n) (λ n. looked γ n seen log (takes && is_full n))
+        (fsep (page_owns γ seen) (log_owns γ false log)) (λ n.
         looks_if γ n seen log (takes && is_full n) (λ both. (laws.both_right takes (is_full n) both, has (laws.both_left takes (is_full n) both))))
 
     pub gives : (k id mark : ℕ) (before : List IdMove) → id < 58 → k ≡ 64 * 2 ^ id % 2 ^ 64 → id ≡ taken_id before → mark ≡ id + 2 ^ 63
         → A.inv (fbor κ I) ∗ (A.lft κ q ∗ ⟦ gone γ before id mark ⟧)
         ⊢ asks 𝓛 (block_ptr b (o + 0)) (λ n. (n + (2 ^ 64 - k)) % 2 ^ 64) always (λ n. fsep (flft κ q) (returned γ before id))
     gives k id mark before first k_is is mark_is =
-        stepped (λ n. (n + (2 ^ 64 - k)) % 2 ^ 64) (λ _. returned γ before id) (gone γ before id mark)
+        stepped 𝓛 (lies_with γ) b (o + 0) κ q (λ n. (n + (2 ^ 64 - k)) % 2 ^ 64) (λ _. returned γ before id) (gone γ before id mark)
         (λ n. gives_first γ n k id mark before first k_is is mark_is)
 
     pub gives_under_lock : (id mark : ℕ) (before log : List IdMove) → 58 ≤ id → id < 2 ^ 63 - 1 → id ≡ taken_id before → mark ≡ id + 2 ^ 63
         → A.inv (fbor κ I) ∗ (A.lft κ q ∗ ⟦ fsep (log_owns γ false log) (gone γ before id mark) ⟧)
         ⊢ asks 𝓛 (block_ptr b (o + 0)) (λ n. n) always (λ n. fsep (flft κ q) (returned_further γ before log id))
     gives_under_lock id mark before log further range is mark_is =
-        stepped (λ n. n) (λ _. returned_further γ before log id) (fsep (log_owns γ false log) (gone γ before id mark))
+        stepped 𝓛 (lies_with γ) b (o + 0) κ q (λ n. n) (λ _. returned_further γ before log id) (fsep (log_owns γ false log) (gone γ before id mark))
         (λ n. gives_further γ n id mark before log further range is mark_is)
 
 pub log_keyless : (γ : GName) (whole : Bool) (log : List IdMove) → Keyless (log_owns γ whole log)

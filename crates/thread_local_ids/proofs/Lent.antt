@@ -35,7 +35,7 @@ use Rattle.thread_local_ids.specs.Locking.{lock_invariant, lock_kept, guarding, 
 use Rattle.thread_local_base.specs.Fact.{fact}
 use Rattle.thread_local_ids.specs.declared.lock.Fits.{Ghosts}
 use Rattle.thread_local_ids.specs.contracts.lock.Lock as C
-use Rattle.thread_local_ids.proofs.Words.{word_out, word_in}
+use Rattle.thread_local_base.proofs.SharedWord.{word_out, word_in}
 use Rattle.thread_local_base.proofs.Signs.{signs}
 
 module _ {M : Type 1} {𝓤 : Ura M} (𝓛 : Logic 𝓤) (m : Member) (g : Ghosts m.row.Denot) (d : LockView)

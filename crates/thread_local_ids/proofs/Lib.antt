@@ -8,7 +8,6 @@ pub mod Logs
 mod Ordered
 pub mod ReturnLaws
 mod Steps
-pub mod Words
 mod BothLent
 mod Facts
 pub mod TokenListLaws

@@ -9,10 +9,7 @@ use Rattle.std.specs.Coded.{Coded, coded_ℕ, code_by}
 use mathlib.Core.List.{IsPrefix}
 use mathlib.Core.Option.{some}
 use base.Fraction.{full_share, left}
-use base.Fml.{Lft, Share, Fml, ffalse, fsep, fex, fbor}
-use denote.RawPtr.{Ptr, block_ptr, null_ptr}
-use denote.Sharing.{said, beside, some as lent_some, ends, always}
-use Rattle.std.specs.Sync.RawAtomic.{word}
+use base.Fml.{Share, Fml, fsep, fex}
 use Rattle.thread_local_base.specs.Bits.{is_set}
 use Rattle.thread_local_base.specs.Fact.{fact}
 use Rattle.thread_local_base.specs.Held.{is_held}
@@ -101,22 +98,6 @@ kept_with table n s =
 -- what lies with the word
 abbrev pub lies_with : ℕ → ℕ → Fml
 lies_with table n = fex Kept (kept_with table n)
-
-abbrev pub first_invariant : ℕ → ℕ → ℕ → Fml
-first_invariant table b o = fex ℕ (λ n. fsep (word b o n) (lies_with table n))
-
--- the sharing lasts, and the invariant stands
-abbrev pub first_kept : ℕ → ℕ → ℕ → Lft → Lft → Fml
-first_kept table b o α = beside (ends α) (always (fbor α (first_invariant table b (o + 0))))
-
--- what a `&` to the word holds
-abbrev pub first_shares : ℕ → Ptr → Lft → Fml
-first_shares table (block_ptr b o) = lent_some Lft (first_kept table b o)
-first_shares table null_ptr = said ffalse
-
--- what its owner has
-abbrev pub first_owns : ℕ → (ℕ → Fml) → Fml
-first_owns table fields = fex ℕ (λ n. fsep (fields n) (lies_with table n))
 
 -- the rights to an id that was taken after these moves
 abbrev pub rights_to : ℕ → ℕ → Fml

@@ -14,8 +14,8 @@ use denote.RattleType.{RattleType}
 use denote.Memory.{lone, mem, shared_of}
 use denote.RawPtr.{Ptr, block_ptr, null_ptr}
 use denote.Sharing.{said, beside, some, ends, always, within}
-use Rattle.std.specs.Sync.RawAtomic.{word}
 use Rattle.thread_local_base.specs.Fact.{fact}
+use Rattle.thread_local_base.specs.SharedWord.{word_invariant}
 
 -- what a contract sees of a lock: the tag of its value, which never changes
 pub record LockView : Type 0 where
@@ -59,7 +59,7 @@ module _ (R : RattleType) (ok : R.Denot → Type 0) (b o : ℕ) (t : LockTurn) w
   with_word (suc n) = ftrue
 
   abbrev pub lock_invariant : Fml
-  lock_invariant = fex ℕ (λ n. fsep (word b (o + 0) n) (with_word n))
+  lock_invariant = word_invariant with_word b (o + 0)
 
   abbrev pub lock_kept : Lft → Fml
   lock_kept = beside (ends t.0) (always (fbor t.0 lock_invariant))

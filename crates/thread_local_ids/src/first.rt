@@ -6,9 +6,10 @@ ghost use Rattle.std.specs.Prelude.{IfSome, None};
 ghost use base.Stored.{coded_bool};
 ghost use mathlib.Core.List.{IsPrefix};
 ghost use Rattle.thread_local_base.specs.Bits.{IsLowestUnset};
+ghost use Rattle.thread_local_base.specs.SharedWord.{word_shares, word_owns};
 ghost use Rattle.thread_local_base.specs.IdMoves.{IdMove, Take, Give, moves_coded, held_after, noted};
 ghost use Rattle.thread_local_ids.specs.Rights.{is_out, taken_id};
-ghost use Rattle.thread_local_ids.specs.FirstIds.{FirstView, first_coded, first_shares, first_owns, log_owns, tried_owns, log_key};
+ghost use Rattle.thread_local_ids.specs.FirstIds.{FirstView, first_coded, lies_with, log_owns, tried_owns, log_key};
 ghost use Rattle.thread_local_ids.specs.FirstIds.{IsWordOf, IsSameBeyond, IsGivenBeyond, HasFurther, AreOutOf, IsReturn};
 ghost use Rattle.thread_local_ids.specs.FirstIds.{is_full as is_full_word, word_with as word_that_holds};
 
@@ -44,11 +45,11 @@ impl Owns for FirstIds {
 
     ghost coded = { first_coded };
 
-    ghost shr_at = { λ first p κ. first_shares first.table p κ };
+    ghost shr_at = { λ first p κ. word_shares (lies_with first.table) p κ };
 }
 
 impl Move for FirstIds {
-    ghost own_val = { λ first vs. first_owns first.table (λ n. Fields.own_val (record { word = n }) vs) };
+    ghost own_val = { λ first vs. word_owns (lies_with first.table) (λ n. Fields.own_val (record { word = n }) vs) };
 }
 
 /// All moves of a table up to the last one of a further id: both halves of what is kept of them, or

@@ -2,11 +2,10 @@
 use Rattle.std.proofs.Common.{◌≡◌, ℕ, ◌+◌, ◌%◌, ◌^◌, ◌<◌, [], ◌∷◌, length, refl, sym, ap, subst, Option, None, Some}
 use Rattle.std.proofs.Common.{IsSome}
 use seplogic.Ra.Ura.{Ura}
-use base.Logic.{SProp, wand, ex, all, guard, upd, never_e}
+use base.Logic.{SProp, ex, all, guard, upd, never_e}
 use base.Fml.{Lft, GName, Share, Fml, ftrue, ffalse, flft, fbor, finv}
 use prog.Model.{Model}
 use contract.Running.{Running}
-use contract.Shared.{Lends-one}
 use types.Logic.{Logic}
 use types.Kit.{‵, raw, ◌⊛◌, some, given, later, pick, learn, check, ◌$◌, ◌∵◌, !, qed, by, move, keep, drop, split}
 use types.Kit.{split3, rewrite, group, fsplit, fsplit3, fjoin, fjoin3, fpick, fpack, await, updating, now, use1, use2}
@@ -14,6 +13,7 @@ use types.Kit.{use3, done}
 use denote.RattleType.{RattleType}
 use denote.RawPtr.{block_of, count_of}
 use denote.Steps.{nothing}
+use Rattle.thread_local_base.proofs.Walking.{lends_token}
 use Rattle.thread_local_ids.specs.Rights.{right_owns}
 use Rattle.thread_local_base.specs.Bits.{is_set}
 use Rattle.thread_local_bucket_pointers.specs.Slots.{value_offset}
@@ -189,10 +189,7 @@ module _ {M : Type 1} {𝓤 : Ura M} (𝓛 : Logic 𝓤) (R : RattleType) (x : R
           let life : Lft = z.1.life in
           -- [the sharing lasts; the invariant; what the claim has; what is told; the token]
           move ! (0 ∷ 4 ∷ []) $
-          use2 𝓛 (later (some (λ (r : Share).
-          ‵ (flft life r) ⊛ raw (wand 𝓤 (A.lft life r) (H.⇛ (A.lft β q))))))
-          (Lends-one 𝓛 𝓜 𝓡 β life q) $
-          await ! tt $ pick ! (λ r. split ! $
+          lends_token ! 𝓜 𝓡 β life q $ await ! tt $ pick ! (λ r. split ! $
           move ! (4 ∷ []) $
           rewrite ! 0 (λ (k : Option ℕ). ‵ (tells R k c.id (Some x))) (sym of.6) refl $
           move ! (3 ∷ 1 ∷ 4 ∷ 0 ∷ []) $ group ! 4 $

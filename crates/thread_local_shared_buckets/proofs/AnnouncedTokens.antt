@@ -2,27 +2,28 @@
 -- `Logic`.
 use Rattle.std.proofs.Common.{◌≡◌, ℕ, zero, suc, ◌+◌, ◌<◌, ◌≤◌, Bool, true, false, List, [], ◌∷◌, length, refl, subst, arith}
 use seplogic.Ra.Ura.{Ura}
-use base.Logic.{SProp, ex, wand, guard, apply∗, upd, upd_i}
+use base.Logic.{SProp, guard, upd, upd_i}
 use base.Fml.{Lft, Share, Fml, ftrue, fsep, fex, flft, fbor}
 use prog.Model.{Model}
 use contract.Running.{Running}
-use contract.Shared.{Lends-one}
 use types.Logic.{Logic}
-use types.Kit.{‵, raw, ◌⊛◌, some, given, later, pick, learn, check, show, frame, assume, suffices, ◌$◌, ◌∵◌, !, qed, move}
+use types.Kit.{‵, ◌⊛◌, given, later, pick, learn, check, suffices, ◌$◌, ◌∵◌, !, qed, move}
 use types.Kit.{keep, drop, split, split3, fsplit, fsplit3, fjoin, fjoin3, fpick, fpack, rewrite, await, updating, now, use1, use2, use3, done}
 use denote.RattleType.{RattleType}
 use denote.RawPtr.{Ptr, block_ptr, null_ptr}
 use denote.Memory.{shared_of, each_shared}
 use denote.Steps.{nothing}
-use Rattle.std.specs.Sync.RawAtomic.{word, asks, always}
+use Rattle.std.specs.Sync.RawAtomic.{asks, always}
 use Rattle.std.specs.Sync.RawAtomic.Pointer.{cell}
+use Rattle.thread_local_base.proofs.Walking.{lends_token, returns_token}
 use Rattle.thread_local_base.specs.Bits.{is_set}
 use Rattle.thread_local_base.specs.Fact.{fact}
-use Rattle.thread_local_base.proofs.Opened.{Lies, opened}
+use Rattle.thread_local_base.specs.SharedWord.{word_invariant}
+use Rattle.thread_local_base.proofs.SharedWord.{stepped}
 use Rattle.thread_local_base.proofs.Signs.{signs}
 use Rattle.thread_local_ids.specs.Views.{TokenView}
 use Rattle.thread_local_ids.specs.TokenLists.{NoneIn, tell_each}
-use Rattle.thread_local_shared_buckets.specs.Announcing.{Announcing, BeginsWithFirst, announced, lies_with_word, word_invariant}
+use Rattle.thread_local_shared_buckets.specs.Announcing.{Announcing, BeginsWithFirst, announced, lies_with_word}
 use Rattle.thread_local_shared_buckets.specs.Shared.{BucketView, Turn, StandingBlock, len, first, all_unborn, standing, beside_pointer}
 use Rattle.thread_local_shared_buckets.specs.Shared.{bucket_invariant, grown}
 use Rattle.thread_local_shared_buckets.specs.TableView.{TableView, bucket_view}
@@ -102,16 +103,13 @@ module _ {M : Type 1} {𝓤 : Ura M} (𝓛 : Logic 𝓤) (R : RattleType) (token
     one_known d b o =
         qed 𝓛 (‵ (shared_of S d b o κ) ∷ ‵ (flft κ q) ∷ ‵ Telling ∷ []) ∵ updating ! $ fsplit ! $ drop ! $ fpick ! (λ t.
         fsplit ! $ move ! (0 ∷ 2 ∷ []) $
-        use2 𝓛 (later (some (λ (s : Share).
-        ‵ (flft t.life s) ⊛ raw (wand 𝓤 (A.lft t.life s) (H.⇛ (A.lft κ q))))))
-        (Lends-one 𝓛 𝓜 𝓡 κ t.life q) $
-        await ! tt $ pick ! (λ s. split ! $
+        lends_token ! 𝓜 𝓡 κ t.life q $ await ! tt $ pick ! (λ s. split ! $
         -- [the life's token; the way back; the invariant; what the tokens tell]
         move ! (2 ∷ 0 ∷ 3 ∷ []) $
         use3 𝓛 (later ((‵ Telling ⊛ ‵ (sure d)) ⊛ ‵ (flft t.life s)))
         (quietly 𝓛 t.life s (bucket_invariant R d t b (o + 0)) ⟦ Telling ⟧ (⟦ Telling ⟧ ∗ ⟦ sure d ⟧) (sees d t b (o + 0))) $
         await ! tt $ split ! $ split ! $ move ! (2 ∷ 3 ∷ []) $
-        use2 𝓛 (later (‵ (flft κ q))) (apply∗ 𝓤 (A.lft t.life s) (H.⇛ (A.lft κ q))) $ await ! tt $ now ! $ done !))
+        returns_token ! κ t.life q s $ await ! tt $ now ! $ done !))
 
     pub all_known : (ds : List BucketView) (size b o : ℕ)
         → ⟦ each_shared ds (shared_of S) size b o κ ⟧ ∗ A.lft κ q ∗ ⟦ Telling ⟧
@@ -180,7 +178,7 @@ module _ {M : Type 1} {𝓤 : Ura M} (𝓛 : Logic 𝓤) (R : RattleType) (token
   module _ (s : TableView) (m : Announcing) (begins : BeginsWithFirst m) (ds : List BucketView) (long : length ds ≡ 63)
       (are : AreOf s m 0 ds) (b o : ℕ) (κ : Lft) (q : Share) where
     abbrev I : Fml
-    I = word_invariant m b (o + 0)
+    I = word_invariant (lies_with_word m) b (o + 0)
 
     finds_all : (n : ℕ) → ⟦ lies_with_word m n ⟧ ∗ ⟦ all_sure ds ⟧ ⊢ guard 𝓤 (Finds s n) ⟦ lies_with_word m n ⟧
     finds_all n =
@@ -202,13 +200,7 @@ module _ {M : Type 1} {𝓤 : Ura M} (𝓛 : Logic 𝓤) (R : RattleType) (token
     pub loads : A.inv (fbor κ I) ∗ (A.lft κ q ∗ ⟦ all_sure ds ⟧)
         ⊢ asks 𝓛 (block_ptr b (o + 0)) (λ n. n) always (λ n. fsep (flft κ q) (fact (Finds s n)))
     loads =
-        let after : ℕ → Fml = λ n. fact (Finds s n) in
-        let L : ℕ → SProp 𝓤 = Lies 𝓛 κ q I b (o + 0) (λ n. n) after in
-        opened 𝓛 κ q I b (o + 0) (λ n. n) after ⟦ all_sure ds ⟧ (qed 𝓛 (‵ I ∷ ‵ (all_sure ds) ∷ []) ∵
-        suffices ! _ (upd_i 𝓤 (ex 𝓤 L)) $ fpick ! (λ n. fsplit ! $
-        show ! L n $ frame ! $ assume ! (‵ (word b (o + 0) n)) $
-        let Z : SProp 𝓤 = ⟦ I ⟧ ∗ ⟦ after n ⟧ in
-        suffices ! _ (upd_i 𝓤 Z) $ move ! (1 ∷ 2 ∷ []) $
+        stepped 𝓛 (lies_with_word m) b (o + 0) κ q (λ n. n) (λ n. fact (Finds s n)) (all_sure ds) (λ n.
+        qed 𝓛 (‵ (lies_with_word m n) ∷ ‵ (all_sure ds) ∷ []) ∵ suffices ! _ (upd_i 𝓤 _) $
         use2 𝓛 (given (Finds s n) (‵ (lies_with_word m n))) (finds_all n) $ learn ! (λ found.
-        move ! (1 ∷ 0 ∷ []) $ fjoin ! $ fpack ! ℕ (λ k. fsep (word b (o + 0) k) (lies_with_word m k)) n $
-        nothing ! $ fpack ! (Finds s n) (λ _. ftrue) found $ move ! (1 ∷ 0 ∷ []) $ done !)))
+        nothing ! $ fpack ! (Finds s n) (λ _. ftrue) found $ move ! (1 ∷ 0 ∷ []) $ done !))

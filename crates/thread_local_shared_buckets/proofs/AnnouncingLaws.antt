@@ -9,21 +9,22 @@ use seplogic.Ra.Ura.{Ura}
 use base.Logic.{SProp, emp, ex, upd, upd_i, via, guard, guard_e}
 use base.Fml.{GName, Lft, Share, Fml, ftrue, fsep, fex, flft, fbor}
 use types.Logic.{Logic}
-use types.Kit.{‵, raw, ◌⊛◌, some, settle, pick, show, frame, assume, suffices, ◌$◌, ◌∵◌, !, qed, move, keep, drop, split, fsplit}
+use types.Kit.{‵, raw, ◌⊛◌, some, settle, pick, suffices, ◌$◌, ◌∵◌, !, qed, by, move, keep, drop, split, fsplit}
 use types.Kit.{fjoin, fpick, fpack, check, learn, given, rewrite, use0, use1, use2, done}
 use denote.Builtin.{u64}
 use denote.RawPtr.{block_ptr}
 use denote.Steps.{nothing}
-use Rattle.std.specs.Sync.RawAtomic.{word, asks, always}
+use Rattle.std.specs.Sync.RawAtomic.{asks, always}
 use Rattle.thread_local_base.specs.Bits.{is_set, IsWordBut}
 use Rattle.thread_local_base.specs.Fact.{fact}
-use Rattle.thread_local_base.proofs.Opened.{Lies, opened}
+use Rattle.thread_local_base.specs.SharedWord.{word_invariant}
+use Rattle.thread_local_base.proofs.SharedWord.{stepped}
 use Rattle.thread_local_base.proofs.Signs.{signs}
 use Rattle.thread_local_base.proofs.Word.{set_bit}
 use Rattle.thread_local_ids.specs.Told.{told_or_untold, untold_in}
 use Rattle.thread_local_ids.proofs.ToldElements.{told_dup, tells_it, telling_alike, source, source_new, all_drawn, New}
 use Rattle.thread_local_shared_buckets.specs.Announcing.{Announcing, told_of, announced_by, announced, lies_with_bit, lies_with_bits}
-use Rattle.thread_local_shared_buckets.specs.Announcing.{lies_with_word, word_invariant}
+use Rattle.thread_local_shared_buckets.specs.Announcing.{lies_with_word}
 
 none_is_not : ◌≡◌ {A = Option ℕ} None (Some 0) → ⊥
 none_is_not e = cc
@@ -255,7 +256,7 @@ module _ {M : Type 1} {𝓤 : Ura M} (𝓛 : Logic 𝓤) where
 
   module _ (m : Announcing) (b o : ℕ) (κ : Lft) (q : Share) where
     abbrev I : Fml
-    I = word_invariant m b (o + 0)
+    I = word_invariant (lies_with_word m) b (o + 0)
 
     -- the atomic step that sets the bit of a bucket
     pub sets : (bit mask : ℕ) → bit < 63 → mask ≡ 1 * 2 ^ bit % 2 ^ 64
@@ -263,16 +264,7 @@ module _ {M : Type 1} {𝓤 : Ura M} (𝓛 : Logic 𝓤) where
         ⊢ asks 𝓛 (block_ptr b (o + 0)) (λ n. bit_or n mask) always (λ n. fsep (flft κ q) (announced m bit))
     sets bit mask low is =
         let f : ℕ → ℕ = λ n. bit_or n mask in
-        let L : ℕ → SProp 𝓤 = Lies 𝓛 κ q I b (o + 0) f (λ _. announced m bit) in
-        let Z : SProp 𝓤 = ⟦ I ⟧ ∗ ⟦ announced m bit ⟧ in
-        opened 𝓛 κ q I b (o + 0) f (λ _. announced m bit) ⟦ ftrue ⟧ (qed 𝓛 (‵ I ∷ ‵ ftrue ∷ []) ∵
-        suffices ! _ (upd_i 𝓤 (ex 𝓤 L)) $ fpick ! (λ n. fsplit ! $
-        show ! L n $ frame ! $ assume ! (‵ (word b (o + 0) (f n))) $
-        -- [the word; what lies with it; nothing]
+        stepped 𝓛 (lies_with_word m) b (o + 0) κ q f (λ _. announced m bit) ftrue (λ n.
         let but : IsWordBut (f n) n bit true =
         subst (λ (k : ℕ). IsWordBut (bit_or n k) n bit true) (sym is) (set_bit n bit (omega arith)) in
-        move ! (1 ∷ []) $
-        use1 𝓛 (raw (upd 𝓤 (⟦ lies_with_word m (f n) ⟧ ∗ ⟦ announced m bit ⟧))) (raised m n (f n) bit low but) $
-        settle 𝓛 Z (‵ (lies_with_word m (f n)) ⊛ ‵ (announced m bit)) $ suffices ! _ (upd_i 𝓤 Z) $ split ! $
-        move ! (2 ∷ 0 ∷ []) $ fjoin ! $ fpack ! ℕ (λ k. fsep (word b (o + 0) k) (lies_with_word m k)) (f n) $
-        keep ! (0 ∷ 1 ∷ []) $ done !))
+        qed 𝓛 (‵ (lies_with_word m n) ∷ ‵ ftrue ∷ []) ∵ keep ! (0 ∷ []) $ by ! (raised m n (f n) bit low but))

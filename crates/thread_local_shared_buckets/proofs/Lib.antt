@@ -5,6 +5,7 @@ pub mod CompleteWalks
 mod Turned
 pub mod Fields
 pub mod GrownLaws
+mod CountedSlots
 pub mod AnnouncingLaws
 pub mod AnnouncingSent
 pub mod AnnouncedTokens

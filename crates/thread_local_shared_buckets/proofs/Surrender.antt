@@ -2,16 +2,16 @@
 use Rattle.std.proofs.Common.{◌≡◌, ℕ, ◌+◌, ◌<◌, Bool, true, false, [], ◌∷◌, length, refl, sym, subst, Option, None}
 use Rattle.std.proofs.Common.{Some}
 use seplogic.Ra.Ura.{Ura}
-use base.Logic.{wand, apply∗, never_e}
+use base.Logic.{never_e}
 use base.Fml.{Lft, Share, Fml, ffalse, fsep, fex, fbor, flft, finv}
 use prog.Model.{Model}
 use contract.Running.{Running}
-use contract.Shared.{Lends-one}
 use types.Logic.{Logic}
-use types.Kit.{‵, raw, ◌⊛◌, some, later, ◌$◌, ◌∵◌, !, qed, by, move, keep, drop, split, pick, rewrite, fsplit, fsplit3}
-use types.Kit.{fpick, await, updating, now, use2, use3, done}
+use types.Kit.{‵, ◌⊛◌, later, ◌$◌, ◌∵◌, !, qed, by, move, keep, drop, split, pick, rewrite, fsplit, fsplit3}
+use types.Kit.{fpick, await, updating, now, use3, done}
 use denote.RattleType.{RattleType}
 use denote.RawPtr.{Ptr, block_of, count_of}
+use Rattle.thread_local_base.proofs.Walking.{lends_token, returns_token}
 use Rattle.thread_local_ids.specs.Rights.{right_owns}
 use Rattle.thread_local_bucket_pointers.specs.Slots.{value_offset}
 use Rattle.thread_local_base.specs.Fact.{fact}
@@ -93,13 +93,10 @@ module _ {M : Type 1} {𝓤 : Ura M} (𝓛 : Logic 𝓤) (R : RattleType) (β : 
       let life : Lft = z.1.life in
       -- [the sharing lasts; the invariant; what the claim has; the token]
       move ! (0 ∷ 3 ∷ []) $
-      use2 𝓛 (later (some (λ (r : Share).
-      ‵ (flft life r) ⊛ raw (wand 𝓤 (A.lft life r) (H.⇛ (A.lft β q))))))
-      (Lends-one 𝓛 𝓜 𝓡 β life q) $
-      await ! tt $ pick ! (λ r. split ! $
+      lends_token ! 𝓜 𝓡 β life q $ await ! tt $ pick ! (λ r. split ! $
       move ! (2 ∷ 0 ∷ 3 ∷ []) $
       use3 𝓛 (later (‵ (right_owns z.0.table c.id) ⊛ ‵ (flft life r))) (gives z of r l) $
       await ! tt $ split ! $ rewrite ! 0 (λ (n : ℕ). ‵ (right_owns n c.id)) of.2 refl $
       move ! (1 ∷ 2 ∷ []) $
-      use2 𝓛 (later (‵ (flft β q))) (apply∗ 𝓤 (A.lft life r) (H.⇛ (A.lft β q))) $ await ! tt $
+      returns_token ! β life q r $ await ! tt $
       now ! $ move ! (1 ∷ 0 ∷ []) $ done !)))

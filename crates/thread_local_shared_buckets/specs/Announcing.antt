@@ -4,13 +4,10 @@
 -- The buckets that were announced when a sharing began stay so, and this is all that is known of them.
 -- For each other bucket there is a right, with one holder, to tell that it is announced. It lies with
 -- the word until the bucket's bit is set. From then on it is told, and whoever wants may have that.
-use Rattle.std.specs.Prelude.{◌≡◌, ℕ, zero, suc, ◌+◌, ◌<◌, Bool, true, false, Some, refl}
+use Rattle.std.specs.Prelude.{◌≡◌, ℕ, zero, suc, ◌<◌, Bool, true, false, Some, refl}
 use Rattle.std.specs.Coded.{Coded, coded_ℕ, coded×, coded_option, code_by}
-use base.Fml.{Lft, GName, Fml, ftrue, ffalse, fsep, fex, fbor}
+use base.Fml.{GName, Fml, ftrue, fsep}
 use denote.Builtin.{u64}
-use denote.RawPtr.{Ptr, block_ptr, null_ptr}
-use denote.Sharing.{said, beside, some, ends, always}
-use Rattle.std.specs.Sync.RawAtomic.{word}
 use Rattle.thread_local_base.specs.Bits.{is_set}
 use Rattle.thread_local_base.specs.Fact.{fact}
 use Rattle.thread_local_ids.specs.Told.{untold_in, told_in}
@@ -59,20 +56,3 @@ lies_with_bits m n (suc bucket) =
 -- the same of all 63 buckets; no further bit is set
 abbrev pub lies_with_word : Announcing → ℕ → Fml
 lies_with_word m n = fsep (fact (is_set n 63 ≡ false)) (lies_with_bits m n 63)
-
--- the word with what lies with it
-abbrev pub word_invariant : Announcing → ℕ → ℕ → Fml
-word_invariant m b o = fex ℕ (λ n. fsep (word b o n) (lies_with_word m n))
-
--- the sharing lasts, and the invariant stands
-abbrev pub word_kept : Announcing → ℕ → ℕ → Lft → Lft → Fml
-word_kept m b o α = beside (ends α) (always (fbor α (word_invariant m b (o + 0))))
-
--- what a `&` to the word holds
-abbrev pub word_shares : Announcing → Ptr → Lft → Fml
-word_shares m (block_ptr b o) = some Lft (word_kept m b o)
-word_shares m null_ptr = said ffalse
-
--- what its owner has
-abbrev pub word_owns : Announcing → (ℕ → Fml) → Fml
-word_owns m fields = fex ℕ (λ n. fsep (fields n) (lies_with_word m n))

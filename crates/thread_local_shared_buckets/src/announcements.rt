@@ -2,9 +2,10 @@
 //! is announced.
 ghost use Rattle.std.specs.Prelude.{◌≡◌, ℕ, ◌*◌, ◌%◌, ◌^◌, ◌<◌, true, false};
 ghost use Rattle.thread_local_base.specs.Bits.{is_set};
+ghost use Rattle.thread_local_base.specs.SharedWord.{word_shares, word_owns};
 ghost use Rattle.thread_local_ids.specs.TokenLists.{NoneIn};
 ghost use Rattle.thread_local_shared_buckets.specs.TableView.{AreOfTable, bucket_at};
-ghost use Rattle.thread_local_shared_buckets.specs.Announcing.{Announcing, announcing_coded, BeginsWithFirst, announced, word_shares, word_owns};
+ghost use Rattle.thread_local_shared_buckets.specs.Announcing.{Announcing, announcing_coded, BeginsWithFirst, announced, lies_with_word};
 
 use crate::SharedBucket;
 use std::marker::{Brand, Model, Move, Owns, PhantomData};
@@ -25,11 +26,11 @@ impl Owns for Announcements {
 
     ghost coded = { announcing_coded };
 
-    ghost shr_at = { λ m p κ. word_shares m p κ };
+    ghost shr_at = { λ m p κ. word_shares (lies_with_word m) p κ };
 }
 
 impl Move for Announcements {
-    ghost own_val = { λ m vs. word_owns m (λ n. Fields.own_val (record { word = n }) vs) };
+    ghost own_val = { λ m vs. word_owns (lies_with_word m) (λ n. Fields.own_val (record { word = n }) vs) };
 }
 
 /// Shows to proofs that a bucket is announced. It has no bytes.

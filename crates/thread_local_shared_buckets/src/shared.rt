@@ -16,10 +16,10 @@ use crate::announcements::load_announced;
 use crate::parts::SharedParts;
 use crate::{Claim, SharedBucket};
 use std::marker::{Move, Owns, PhantomData};
-use thread_local_base::{BUCKETS, Thread, bucket_size};
-use thread_local_bucket_pointers::BucketPointers;
+use thread_local_base::{Thread, bucket_size};
+use thread_local_bucket_pointers::{BucketPointers, take_first};
 use thread_local_buckets::Buckets;
-use thread_local_ids::{Book, HeldId, Reached, Right, Token, TokenList};
+use thread_local_ids::{Book, HeldId, Reached, Right, Token, TokenList, Told};
 
 mod lends;
 
@@ -199,19 +199,22 @@ impl<T> Shared<T> {
     }
 
     /// How many slots the buckets have that stand, and that so many ids of the table were held at
-    /// once, as these slots show. Each of the 63 pointers is loaded once, one after another, so a
-    /// bucket that is installed meanwhile may be counted or not.
+    /// once, as these slots show. It loads which buckets are announced, and then the pointer of each
+    /// of them that isn't reserved, one after another. So a bucket that is installed meanwhile may be
+    /// counted or not.
     pub fn slots_reached(&self) -> (usize, Reached)
         ensures reserved { self.now.reserved ≤ result.0 }
         ensures most { result.0 < 2 ^ 63 }
         ensures table { result.1.table ≡ self.now.table }
         ensures grown { self.now.grown_by_ids ≡ true → result.0 ≤ max self.now.reserved (2 * result.1.ids - 1) }
     {
-        // That these are the slots of the first buckets shows that there aren't more.
-        let _ = self.reserved();
-        let mut slots = 0;
+        let mut slots = self.reserved();
         let mut reached = self.bucket(0).none_reached();
-        for bucket in 0..BUCKETS {
+        // The reserved buckets stand. They are the first ones, so the number of their slots is the
+        // word that has their bits.
+        let mut left = self.announced(Told::new().list()) & !(slots as u64);
+        'buckets: while left != 0 {
+            let bucket = take_first(&mut left);
             if let Some(shown) = self.bucket(bucket).reached() {
                 slots += bucket_size(bucket);
                 reached = shown;

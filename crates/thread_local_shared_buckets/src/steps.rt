@@ -13,7 +13,7 @@ ghost use Rattle.thread_local_shared_buckets.specs.AtHand.{HasAll, IsWalk, Looks
 use crate::shared::Shared;
 use crate::{Row, Seen};
 use thread_local_base::{BUCKETS, Thread, bucket_size};
-use thread_local_bucket_pointers::{RawIter, flag_word_at, without_first};
+use thread_local_bucket_pointers::{RawIter, flag_word_at, take_first, without_first};
 use thread_local_ids::{TokenList, Told, Witness};
 
 /// The walker's own value, the place of its id, and what shows that its slot was published with it.
@@ -149,9 +149,9 @@ pub(crate) fn with_own_bucket<T>(announced: u64, own: &Option<Own<'_, T>>) -> u6
     }
 }
 
-/// Takes the first bucket out of those that are left, or answers the number behind the last bucket.
+/// Takes the next bucket out of those that are left, or answers the number behind the last bucket.
 #[inline]
-fn take_first(left: &mut u64) -> usize
+fn take_next(left: &mut u64) -> usize
     requires none_past { is_set left.old 63 ≡ false }
     ensures in_table { result ≤ 63 }
     ensures first { (bucket : ℕ) → bucket < result → is_set left.old bucket ≡ false }
@@ -161,9 +161,7 @@ fn take_first(left: &mut u64) -> usize
     if *left == 0 {
         return BUCKETS;
     }
-    let bucket = left.trailing_zeros() as usize;
-    *left = without_first(*left);
-    bucket
+    take_first(left)
 }
 
 /// Where a walk is, and what it has at hand there.
@@ -254,7 +252,7 @@ impl<'a, T> Walk<'a, T> {
             self.old.told }
         ensures { GoesOn self.old self.new }
     {
-        let bucket = take_first(&mut self.left);
+        let bucket = take_next(&mut self.left);
         self.raw.bucket = bucket;
         self.raw.bucket_size = bucket_size(bucket);
         self.raw.index = 0;

@@ -1,12 +1,12 @@
 -- `load_announced` looks into each bucket's invariant, and then loads the word once.
 use Rattle.thread_local_base.proofs.Names.{ℕ, ◌+◌, ◌^◌, List, [], ◌∷◌, refl, lit<, w64, a_type, named, Val}
-use Rattle.thread_local_base.proofs.Names.{vint, vptr, SProp, wand, via, apply∗, Lft, Share, Fml, inst_fn}
-use Rattle.thread_local_base.proofs.Names.{ftrue, fsep, flft, ‵, raw, ◌⊛◌, some, later, mean, at_ret, ◌$◌, ◌∵◌}
+use Rattle.thread_local_base.proofs.Names.{vint, vptr, SProp, via, Lft, Share, Fml, inst_fn}
+use Rattle.thread_local_base.proofs.Names.{ftrue, fsep, flft, ‵, raw, ◌⊛◌, later, mean, at_ret, ◌$◌, ◌∵◌}
 use Rattle.thread_local_base.proofs.Names.{ !, qed, by, move, keep, drop, split, join, fsplit, fsplit3, fjoin, fpick, pick}
-use Rattle.thread_local_base.proofs.Names.{use2, use3, await, feq_i, flt_i, stop, fld, addr, lit, of_opd, no_more}
+use Rattle.thread_local_base.proofs.Names.{use3, await, feq_i, flt_i, stop, fld, addr, lit, of_opd, no_more}
 use Rattle.thread_local_base.proofs.Names.{and_then, first, blocks, exec, Calls-last, returns, enter, alloc_all}
 use Rattle.thread_local_base.proofs.Names.{pass_all, free_all, look_at, get, through, sets, agg, lands_last, env, tables}
-use Rattle.thread_local_base.proofs.Names.{Lends-one, yes, RattleType, owns, types_at, plain, block_ptr, nothing}
+use Rattle.thread_local_base.proofs.Names.{yes, RattleType, owns, types_at, plain, block_ptr, nothing}
 use Rattle.thread_local_base.proofs.Names.{unhide, param, layouts, RefOf, shr_vals, shr_Tells, Stays, stay_dropped}
 use Rattle.thread_local_base.proofs.Names.{walk_of, Goes-dropped, proved, leaves, fm, found, finds, tail}
 use Rattle.std.proofs.raw_atomic.Calls as calls
@@ -20,7 +20,7 @@ use denote.Steps.{heard}
 use types.Kit.{feq_l, split3}
 use Rattle.thread_local_base.specs.Bits.{is_set}
 use Rattle.thread_local_base.specs.Fact.{fact as said_fact}
-use Rattle.thread_local_base.proofs.Walking.{knows}
+use Rattle.thread_local_base.proofs.Walking.{knows, lends_token, returns_token}
 use Rattle.thread_local_ids.specs.Views.{TokenView}
 use Rattle.thread_local_ids.specs.TokenLists.{tell_each}
 use Rattle.thread_local_ids.specs.contracts.token_list.TokenList as TokenList
@@ -93,10 +93,7 @@ load_announced_spec 𝓤 𝓛 𝓜 𝓡 wired T L =
     move ! (1 ∷ []) $ drop ! $ move ! (0 ∷ 2 ∷ []) $ fjoin ! $ move ! (2 ∷ []) $ unhide ! $ fpick ! (λ α. fsplit ! $
     -- [the word's sharing lasts; its invariant; the other tokens; what is sure; the word's token]
     move ! (0 ∷ 4 ∷ []) $
-    use2 𝓛 (later (some (λ (s : Share).
-    ‵ (flft α s) ⊛ raw (wand 𝓤 (𝓛.A.lft α s) (H.⇛ (𝓛.A.lft κ q))))))
-    (Lends-one 𝓛 𝓜 𝓡 κ α q) $
-    await ! tt $ pick ! (λ s. split ! $
+    lends_token ! 𝓜 𝓡 κ α q $ await ! tt $ pick ! (λ s. split ! $
     -- [α's token, and the way back; the invariant; the other tokens; what is sure]
     let out : ℕ → Fml = λ n. fsep (flft α s) (said_fact (Finds 𝓛 R ts v n)) in
     first ! $ blocks ! $ sets ! (addr ! (through ! refl (fld ! refl (stop !)))) refl (tt, tt) $
@@ -111,7 +108,7 @@ load_announced_spec 𝓤 𝓛 𝓜 𝓡 wired T L =
     exec ! 𝓣.C 𝓣.Λ Ev (tail fn.body) (at_ret Ev Post) $
     sets ! (of_opd ! (get ! refl)) refl (tt, record { fits = fits }) $
     fsplit ! $ move ! (0 ∷ 2 ∷ []) $
-    use2 𝓛 (later (‵ (flft κ q))) (apply∗ 𝓤 (𝓛.A.lft α s) (H.⇛ (𝓛.A.lft κ q))) $ await ! tt $
+    returns_token ! κ α q s $ await ! tt $
     -- [the token; what was found; the other tokens]
     move ! (1 ∷ []) $ fpick ! (λ saw. drop ! $ join ! $
     flt_i ! n (2 ^ 64) fits $ feq_i ! (List Val) (vint w64 n ∷ []) (vint w64 n ∷ []) refl $ fjoin ! $

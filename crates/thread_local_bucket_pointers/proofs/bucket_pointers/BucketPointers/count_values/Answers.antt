@@ -1,31 +1,25 @@
 use Rattle.std.proofs.Common.{◌+◌, ◌∙◌, arith}
 use Rattle.thread_local_bucket_pointers.proofs.Counting.{counted_more, counted_fits, counted_all}
-use Rattle.thread_local_bucket_pointers.proofs.Passing.{takes}
 use Rattle.thread_local_bucket_pointers.proofs.bucket_pointers.BucketPointers.count_values.Goals as goal
 
 pub overflow_add-count : goal.overflow_add-count
 overflow_add-count g c =
     let so = c.buckets.invariant.counted in
-    let taken =
-    takes c.args.self.now c.buckets.left c.take_first-bucket.new.buckets so.from c.take_first-bucket.result so.ahead
-    c.take_first-bucket.ensures.first c.take_first-bucket.ensures.rest in
     let next =
     counted_more c.stands.new.self c.args.self.now c.buckets.count c.count_in_bucket-count.result c.buckets.left
-    c.take_first-bucket.new.buckets c.take_first-bucket.result so taken (c.stands.ensures.same ∙ c.buckets.invariant.same)
+    c.take_first-bucket.new.buckets c.take_first-bucket.result so c.take_first-bucket.ensures.first
+    c.take_first-bucket.ensures.rest (c.stands.ensures.same ∙ c.buckets.invariant.same)
     c.count_in_bucket-count.ensures.counted in
     let fits = counted_fits c.args.self.now c.take_first-bucket.new.buckets (c.buckets.count + c.count_in_bucket-count.result) next in
     omega (arith, fits)
 
 pub buckets-preserved-then-stands : goal.buckets-preserved-then-stands
 buckets-preserved-then-stands g c =
-    let so = c.buckets.invariant.counted in
-    let taken =
-    takes c.args.self.now c.buckets.left c.take_first-bucket.new.buckets so.from c.take_first-bucket.result so.ahead
-    c.take_first-bucket.ensures.first c.take_first-bucket.ensures.rest in
     record {
       counted =
           counted_more c.stands.new.self c.args.self.now c.buckets.count c.count_in_bucket-count.result c.buckets.left
-          c.take_first-bucket.new.buckets c.take_first-bucket.result so taken
+          c.take_first-bucket.new.buckets c.take_first-bucket.result c.buckets.invariant.counted
+          c.take_first-bucket.ensures.first c.take_first-bucket.ensures.rest
           (c.stands.ensures.same ∙ c.buckets.invariant.same) c.count_in_bucket-count.ensures.counted;
       same = c.count_in_bucket-count.ensures.same ∙ c.stands.ensures.same ∙ c.buckets.invariant.same;
     }

@@ -9,7 +9,7 @@ it_passes : (g : _) (c : goal.After-self-1 g)
     (c.args.self.now.raw.index - 64 + trailing_zeros w64 c.args.self.now.rest)
 it_passes g c =
     passes (g.P.FlagSource.contents c.args.source.now) c.args.self.now c.without_first-self.result (g.P.FlagSource.given c.args.source.now)
-    c.requires.walk (omega arith) c.requires.some c.without_first-self.type_inv c.without_first-self.ensures c.requires.given
+    c.requires.walk (omega arith) c.requires.some c.without_first-self.type_inv c.without_first-self.ensures.rest c.requires.given
 
 pub returns-clause-in_bucket : goal.returns-clause-in_bucket
 returns-clause-in_bucket g c = (it_passes g c).inside

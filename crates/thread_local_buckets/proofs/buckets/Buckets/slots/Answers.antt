@@ -2,7 +2,6 @@ use Rattle.std.proofs.Common.{◌+◌, refl, sym, ◌∙◌, ap, subst, arith}
 use Rattle.thread_local_base.specs.Buckets.{Contents, stands, slots}
 use Rattle.thread_local_base.specs.Owned.{Owned}
 use Rattle.thread_local_bucket_pointers.specs.Announced.{Announces}
-use Rattle.thread_local_bucket_pointers.proofs.Passing.{takes}
 use Rattle.thread_local_buckets.proofs.AddingSlots.{added_none, added_more, added_absent, added_fits, added_all}
 use Rattle.thread_local_buckets.proofs.Reserving.{few_reserved}
 use Rattle.thread_local_buckets.proofs.buckets.Buckets.slots.Goals as goal
@@ -19,18 +18,12 @@ buckets-init g c = let word = c.announced-left in record {
 pub buckets-preserved-then-stands : goal.buckets-preserved-then-stands
 buckets-preserved-then-stands g c =
     let kept = c.buckets.invariant in
-    let first = c.announced-left.new.self in
     let bucket = c.take_first-bucket in
-    let taken =
-    takes first c.buckets.left bucket.new.buckets kept.added.from bucket.result kept.added.ahead bucket.ensures.first
-    bucket.ensures.rest in
-    let stood = ap (λ (w : Contents g.row.T.Denot). stands w bucket.result) (sym kept.same)
-    ∙ sym c.stands.ensures.value
-    ∙ c.if-stands.true in
     record {
       added =
-          added_more first c.buckets.slots c.bucket_size-slots.result c.buckets.left bucket.new.buckets bucket.result
-          kept.added taken stood c.bucket_size-slots.ensures;
+          added_more c.announced-left.new.self _ c.buckets.slots c.bucket_size-slots.result c.buckets.left bucket.new.buckets
+          bucket.result kept.added bucket.ensures.first bucket.ensures.rest kept.same
+          (sym c.stands.ensures.value ∙ c.if-stands.true) c.bucket_size-slots.ensures;
       same = c.stands.ensures.same ∙ kept.same;
       reserved = kept.reserved;
     }
@@ -38,33 +31,22 @@ buckets-preserved-then-stands g c =
 pub overflow_add-slots : goal.overflow_add-slots
 overflow_add-slots g c =
     let kept = c.buckets.invariant in
-    let first = c.announced-left.new.self in
     let bucket = c.take_first-bucket in
-    let taken =
-    takes first c.buckets.left bucket.new.buckets kept.added.from bucket.result kept.added.ahead bucket.ensures.first
-    bucket.ensures.rest in
-    let stood = ap (λ (w : Contents g.row.T.Denot). stands w bucket.result) (sym kept.same)
-    ∙ sym c.stands.ensures.value
-    ∙ c.if-stands.true in
-    let next =
-    added_more first c.buckets.slots c.bucket_size-slots.result c.buckets.left bucket.new.buckets bucket.result
-    kept.added taken stood c.bucket_size-slots.ensures in
-    let fits = added_fits first bucket.new.buckets (c.buckets.slots + c.bucket_size-slots.result) next in
+    let fits =
+    added_fits c.announced-left.new.self bucket.new.buckets (c.buckets.slots + c.bucket_size-slots.result)
+    (added_more c.announced-left.new.self _ c.buckets.slots c.bucket_size-slots.result c.buckets.left bucket.new.buckets
+    bucket.result kept.added bucket.ensures.first bucket.ensures.rest kept.same
+    (sym c.stands.ensures.value ∙ c.if-stands.true) c.bucket_size-slots.ensures) in
     omega (arith, fits)
 
 pub buckets-preserved : goal.buckets-preserved
 buckets-preserved g c =
     let kept = c.buckets.invariant in
-    let first = c.announced-left.new.self in
     let bucket = c.take_first-bucket in
-    let taken =
-    takes first c.buckets.left bucket.new.buckets kept.added.from bucket.result kept.added.ahead bucket.ensures.first
-    bucket.ensures.rest in
-    let none = ap (λ (w : Contents g.row.T.Denot). stands w bucket.result) (sym kept.same)
-    ∙ sym c.stands.ensures.value
-    ∙ c.if-stands.false in
     record {
-      added = added_absent first c.buckets.slots c.buckets.left bucket.new.buckets bucket.result kept.added taken none;
+      added =
+          added_absent c.announced-left.new.self _ c.buckets.slots c.buckets.left bucket.new.buckets bucket.result kept.added
+          bucket.ensures.first bucket.ensures.rest kept.same (sym c.stands.ensures.value ∙ c.if-stands.false);
       same = c.stands.ensures.same ∙ kept.same;
       reserved = kept.reserved;
     }

@@ -1,12 +1,13 @@
 -- `set` is one atomic or of the word: the bit is set, so the bucket is announced for good.
+use Rattle.thread_local_base.proofs.Walking.{lends_token, returns_token}
 use Rattle.thread_local_base.proofs.Names.{ℕ, ◌+◌, ◌^◌, [], ◌∷◌, refl, lit<, w64, named, Val}
-use Rattle.thread_local_base.proofs.Names.{vint, vptr, SProp, wand, via, apply∗, Lft, Share, Fml}
-use Rattle.thread_local_base.proofs.Names.{ftrue, fsep, flft, ‵, raw, ◌⊛◌, some, later, mean, at_ret, ◌$◌, ◌∵◌}
+use Rattle.thread_local_base.proofs.Names.{vint, vptr, SProp, via, Lft, Share, Fml}
+use Rattle.thread_local_base.proofs.Names.{ftrue, fsep, flft, ‵, raw, ◌⊛◌, mean, at_ret, ◌$◌, ◌∵◌}
 use Rattle.thread_local_base.proofs.Names.{ !, qed, by, move, keep, split, join, fsplit, fjoin, fpick, pick}
-use Rattle.thread_local_base.proofs.Names.{use2, use3, await, stop, fld, addr, lit, no_more}
+use Rattle.thread_local_base.proofs.Names.{use3, await, stop, fld, addr, lit, no_more}
 use Rattle.thread_local_base.proofs.Names.{and_then, first, blocks, exec, Calls-last, returns, enter, alloc_all}
 use Rattle.thread_local_base.proofs.Names.{pass_all, free_all, look_at, get, through, sets, agg, lands_last, env, tables}
-use Rattle.thread_local_base.proofs.Names.{Lends-one, yes, RattleType, owns, types_at, plain, block_ptr, nothing}
+use Rattle.thread_local_base.proofs.Names.{yes, RattleType, owns, types_at, plain, block_ptr, nothing}
 use Rattle.thread_local_base.proofs.Names.{unhide, RefOf, shr_vals, shr_Tells, Stays, stay_dropped}
 use Rattle.thread_local_base.proofs.Names.{walk_of, Goes-dropped, proved, leaves, fm, found, finds, tail}
 use Rattle.std.proofs.raw_atomic.Calls as calls
@@ -66,10 +67,7 @@ set_spec 𝓤 𝓛 𝓜 𝓡 wired =
     pass_all ! refl ((tt, tt), ((tt, record { fits = are.1.0.1 }), ((tt, record { fits = are.1.1.0.1 }), tt))) $
     let Ev = env fn.locals l in
     unhide ! $ fpick ! (λ α. fsplit ! $ move ! (0 ∷ 2 ∷ []) $
-    use2 𝓛 (later (some (λ (s : Share).
-    ‵ (flft α s) ⊛ raw (wand 𝓤 (𝓛.A.lft α s) (H.⇛ (𝓛.A.lft κ q))))))
-    (Lends-one 𝓛 𝓜 𝓡 κ α q) $
-    await ! tt $ pick ! (λ s. split ! $
+    lends_token ! 𝓜 𝓡 κ α q $ await ! tt $ pick ! (λ s. split ! $
     -- [α's token, and the way back; the invariant; the other tokens]
     let out : ℕ → Fml = λ n. fsep (flft α s) (announced d bit) in
     first ! $ blocks ! $ sets ! (addr ! (through ! refl (fld ! refl (stop !)))) refl (tt, tt) $ nothing ! $ move ! (3 ∷ 1 ∷ 0 ∷ []) $
@@ -83,7 +81,7 @@ set_spec 𝓤 𝓛 𝓜 𝓡 wired =
     exec ! 𝓣.C 𝓣.Λ Ev (tail fn.body) (at_ret Ev Post) $
     sets ! (agg ! (no_more !)) refl (tt, tt) $ sets ! (agg ! (and_then ! (get ! refl) (no_more !))) refl (tt, (tt, tt)) $
     fsplit ! $ move ! (0 ∷ 2 ∷ []) $
-    use2 𝓛 (later (‵ (flft κ q))) (apply∗ 𝓤 (𝓛.A.lft α s) (H.⇛ (𝓛.A.lft κ q))) $ await ! tt $
+    returns_token ! κ α q s $ await ! tt $
     -- [the token; what is said; the other tokens]
     move ! (1 ∷ []) $
     use0 𝓛 (‵ ((Mark (shown.the_type).name).own_val (tt, tt) (token ∷ []))) (made (shown.the_type).name 𝓛) $

@@ -1,13 +1,14 @@
 -- `exchange` lends the block for a lifetime of its own, and ends that lifetime if another block was
 -- installed first. Then the claim finds its slot empty, and else it holds the block's value.
+use Rattle.thread_local_base.proofs.Walking.{lends_token, returns_token}
 use Rattle.thread_local_base.proofs.Names.{fpack, vint, w64, usize, uint_vals, uint_Tells, yes, ◌≡◌, ℕ, ◌+◌, ◌^◌}
 use Rattle.thread_local_base.proofs.Names.{false, sem, List, [], ◌∷◌, refl, sym, ap, ◌∙◌, lit<, Option, None, Some}
-use Rattle.thread_local_base.proofs.Names.{Body, a_type, Val, vptr, vcons, vnil, inst_fn, dnil, SProp, wand, emp, via}
-use Rattle.thread_local_base.proofs.Names.{apply∗, Lft, Share, Fml, ftrue, fsep, flft, fbor, ‵, raw, ◌⊛◌, some, given}
+use Rattle.thread_local_base.proofs.Names.{Body, a_type, Val, vptr, vcons, vnil, inst_fn, dnil, SProp, emp, via}
+use Rattle.thread_local_base.proofs.Names.{Lft, Share, Fml, ftrue, fsep, flft, fbor, ‵, raw, ◌⊛◌, some, given}
 use Rattle.thread_local_base.proofs.Names.{later, mean, at_ret, any_q, ◌$◌, ◌∵◌, !, qed, by, move, keep, drop, split}
 use Rattle.thread_local_base.proofs.Names.{join, fsplit, fsplit3, fjoin, fpick, pick, learn, rewrite, use0, use1}
 use types.Kit.{split3}
-use Rattle.thread_local_base.proofs.Names.{use2, use3, await, group, stop, fld, addr, lit, of_opd, no_more, and_then}
+use Rattle.thread_local_base.proofs.Names.{use3, await, group, stop, fld, addr, lit, of_opd, no_more, and_then}
 use Rattle.thread_local_base.proofs.Names.{first, blocks, exec, switches_on, returns, enter, alloc_all, pass_all}
 use Rattle.thread_local_base.proofs.Names.{free_all, look_at, get, get_in, get_tag, through, sets, sets_last}
 use Rattle.thread_local_base.proofs.Names.{lands_last, env, is, agg, sub, whole, live, vrt, in_variant, tables, fact}
@@ -31,7 +32,6 @@ use base.Before.{before}
 use prog.Wp.{Wp, after_seq, at_return}
 use types.Na.{before_dup}
 use types.Run.{Calls-last}
-use contract.Shared.{Lends-one}
 use denote.Signature.{named_lft}
 use denote.RawPtr.{RawPtr, in_a_block}
 use denote.Param.{bounded}
@@ -227,10 +227,7 @@ exchange_spec 𝓤 𝓛 𝓜 𝓡 wired X L =
     move ! (1 ∷ []) $ fsplit ! $ use1 𝓛 (‵ (before β t.life) ⊛ ‵ (before β t.life)) (before_dup 𝓛 β t.life) $ split ! $
     -- [before, twice; the invariant; the pass; the token; the other tokens; the block]
     move ! (0 ∷ 4 ∷ []) $
-    use2 𝓛 (later (some (λ (s : Share).
-    ‵ (flft t.life s) ⊛ raw (wand 𝓤 (𝓛.A.lft t.life s) (H.⇛ (𝓛.A.lft β q))))))
-    (Lends-one 𝓛 𝓜 𝓡 β t.life q) $
-    await ! tt $ pick ! (λ s. split ! $
+    lends_token ! 𝓜 𝓡 β t.life q $ await ! tt $ pick ! (λ s. split ! $
     -- [the life's token; the way back; before; the invariant; the pass; the other tokens; the
     -- block]
     move ! (3 ∷ []) $ use1 𝓛 (‵ (finv J) ⊛ ‵ (finv J)) (𝓛.invs.inv_dup J) $ split ! $ move ! (4 ∷ 1 ∷ []) $ fjoin ! $
@@ -324,7 +321,7 @@ exchange_spec 𝓤 𝓛 𝓜 𝓡 wired X L =
     await ! tt $
     -- [the claim; the life's token; the way back; the other tokens]
     move ! (1 ∷ 2 ∷ []) $
-    use2 𝓛 (later (‵ (flft β q))) (apply∗ 𝓤 (𝓛.A.lft t.life s) (H.⇛ (𝓛.A.lft β q))) $ await ! tt $
+    returns_token ! β t.life q s $ await ! tt $
     first ! $ switches_on ! (get_tag ! (vrt ! refl (fld ! refl (stop !))) (whole !)) $ exec ! 𝓣.C 𝓣.Λ Ev (arm_body 0 arms) Then $
     let nothing_good : Good (layout Back) (live 0 vnil) = (tt, (record { fits = lit< tt }, tt)) in
     let three : Val = vstruct (vcons (vptr pb o) (vcons (vint w64 2) (vcons (live 0 vnil) vnil))) in
@@ -403,7 +400,7 @@ exchange_spec 𝓤 𝓛 𝓜 𝓡 wired X L =
     await ! tt $ split ! $
     -- [the life's token; the claim; nothing; the block; the way back; the other tokens]
     move ! (0 ∷ 4 ∷ []) $
-    use2 𝓛 (later (‵ (flft β q))) (apply∗ 𝓤 (𝓛.A.lft t.life s) (H.⇛ (𝓛.A.lft β q))) $ await ! tt $
+    returns_token ! β t.life q s $ await ! tt $
     -- [the token; the claim; nothing; the block; the other tokens]
     let back : Val = live 1 (vcons bv vnil) in
     let block_good = fields.block_good p in

@@ -44,7 +44,7 @@ it_passes g c =
     let index = slot_of w (trailing_zeros w64 w.rest) in
     passed_by w (trailing_zeros w64 w.rest) c.without_first-self.result c.take-found.new.own c.take-found.result
     index (past w.raw index) refl refl
-    c.requires.walk lowest (c.without_first-self.ensures (trailing_zeros w64 w.rest) lowest) c.take-found.ensures.own c.take-found.ensures.other
+    c.requires.walk lowest (c.without_first-self.ensures.rest (trailing_zeros w64 w.rest) lowest) c.take-found.ensures.own c.take-found.ensures.other
 
 pub returns-clause-walk : goal.returns-clause-walk
 returns-clause-walk g c = (it_passes g c).walk
