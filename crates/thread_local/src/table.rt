@@ -25,7 +25,7 @@ use thread_local_buckets::{Buckets, EntriesMut, IntoEntries, IntoIter, IterMut};
 use thread_local_ids::{Ids, Right, Room, SharedIds};
 pub use thread_local_ids::{Book, Page, Token, Told};
 pub use thread_local_judged::{Judge, judge_sync, judge_value};
-use thread_local_shared_buckets::{Entries, Iter, Shared, Tokens, replace_with};
+use thread_local_shared_buckets::{Entries, Iter, Shared, Tokens};
 
 // `buckets_mut`, `drain` and `get_mut` stand in table/lends.rt.
 mod lends;
@@ -332,28 +332,13 @@ impl<T> ThreadLocal<T> {
         ensures reserved { self.new.reserved ≡ self.old.reserved }
         ensures grown { self.new.grown_by_ids ≡ true }
     {
-        let (mut right, first, room) = replace_with(&mut self.ids, (), begun_anew);
+        let (mut right, first, room) = self.ids.clear();
         self.table_right.apart(&mut right);
         self.buckets.clear(&right);
         self.table_right = right;
         self.first = first;
         self.room = room;
     }
-}
-
-/// What `clear` makes of the ids: those of another table, with its right, its first
-/// page and its room.
-fn begun_anew(ids: SharedIds, _: ()) -> (SharedIds, (Right, Page, Room))
-    ensures table { result.0.table ≡ result.1.0.table }
-    ensures right { result.1.0.id ≡ 2 ^ 63 - 1 }
-    ensures first { (result.1.1.table ≡ result.1.0.table) × (result.1.1.moves ≡ []) }
-    ensures room { result.1.2.table ≡ result.1.0.table }
-{
-    let mut ids = Ids::begun_anew(ids);
-    let right = ids.table_right();
-    let first = ids.page();
-    let room = ids.room();
-    (ids.into_shared(), (right, first, room))
 }
 
 // By hand, since a derived drop is proved anew in each program that drops a table.

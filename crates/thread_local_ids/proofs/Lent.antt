@@ -1,11 +1,11 @@
--- Turns a borrow of a lock, whatever its word is, into what a `&` to the lock shares. Assumes
--- `Logic`.
+-- Turns a borrow of a lock, whatever its word is, into what a `&` to the lock shares, and takes the
+-- value out of an owner's lock. Assumes `Logic`.
 use Rattle.std.proofs.Common.{◌≡◌, ℕ, zero, suc, ◌+◌, List, [], ◌∷◌, subst, refl}
 use seplogic.Ra.Ura.{Ura}
 use mir.Val.{Val}
 use base.Fraction.{full_share}
-use base.Logic.{SProp, all, ex, emp, all_e, upd_i, apply∗, id⊢}
-use base.Fml.{Lft, GName, Share, Fml, ftrue, fsep, fseps, fex, fwand, fupd, fdead, fobor, fbor, flft, finv, fobs, fauth, Incl-refl}
+use base.Logic.{SProp, ex, emp, all_e, upd_i, apply∗, id⊢}
+use base.Fml.{Lft, GName, Share, Fml, ftrue, fsep, fseps, fex, fwand, fupd, fdead, fbor, flft, finv, fobs, fauth, Incl-refl}
 use base.Before.{before}
 use types.Logic.{Logic}
 use types.Kit.{group, ‵, raw, ◌⊛◌, some, later, ◌$◌, ◌∵◌, !, qed, by, move, keep, drop, use0, use1, use2, use3, split}
@@ -13,13 +13,10 @@ use types.Kit.{split3, fsplit, fsplit3, fjoin, fjoin3, fpick, fpack, pick, show,
 use types.Kit.{done}
 use types.Tokens.{bor_open, obor_alter, name_new, name_agree}
 use types.Na.{before-Incl}
-use types.Follow.{follows_anew}
-use types.SemTy.{Body}
-use base.Stored.{Gv, coded_unit}
-use denote.Follow.{follows}
+use base.Stored.{coded_unit}
 use denote.RattleType.{RattleType, Denots}
 use denote.Laws.{Lawful}
-use denote.Memory.{mem, part_of, part_at, cell_at}
+use denote.Memory.{part_of, part_at, cell_at}
 use denote.RawPtr.{block_ptr}
 use denote.Steps.{nothing}
 use denote.Struct.Struct.{Struct}
@@ -31,7 +28,7 @@ use denote.Written.Laws.{Laid-in}
 use Rattle.std.specs.Sync.RawAtomic.{word}
 use Rattle.std.proofs.cell.BorrowLemmas.{flag}
 use Rattle.thread_local_ids.specs.Locking.{LockView, Fitting, offset, LockTurn, named_value, fitting, with_word}
-use Rattle.thread_local_ids.specs.Locking.{lock_invariant, lock_kept, guarding, lock_shares, guard_owns}
+use Rattle.thread_local_ids.specs.Locking.{lock_invariant, lock_kept, lock_shares}
 use Rattle.thread_local_base.specs.Fact.{fact}
 use Rattle.thread_local_ids.specs.declared.lock.Fits.{Ghosts}
 use Rattle.thread_local_ids.specs.contracts.lock.Lock as C
@@ -94,6 +91,19 @@ module _ {M : Type 1} {𝓤 : Ura M} (𝓛 : Logic 𝓤) (m : Member) (g : Ghost
   abbrev pub Back : SProp 𝓤
   Back = PartsBack 𝓛 full_share [] ks b o
 
+  -- the lock's fields are put together again
+  joins : (s : ℕ × R.Denot) → ⟦ word b (o + 0) s.0 ⟧ ∗ ⟦ At s.1 ⟧ ∗ Back ⊢ ⟦ Fields s ⟧
+  joins s =
+      let Both : SProp 𝓤 = ⟦ parts_at full_share ks zero (s.0, (s.1, tt)) b o ⟧ in
+      qed 𝓛 (‵ (word b (o + 0) s.0) ∷ ‵ (At s.1) ∷ raw Back ∷ []) ∵
+      use1 𝓛 (‵ (wd s.0)) (word_in 𝓛 b (o + 0) s.0) $ nothing ! $ move ! (1 ∷ 2 ∷ 0 ∷ []) $ fjoin3 ! $
+      move ! (1 ∷ []) $
+      use1 𝓛 (raw (Both -∗ ⟦ Fields s ⟧))
+      (all_e 𝓤 (λ (a : Denots (rows_of ks)).
+      ⟦ parts_at full_share ks zero a b o ⟧ -∗ ⟦ part_at Data full_share a b o ⟧)
+      (s.0, (s.1, tt))) $
+      move ! (1 ∷ 0 ∷ []) $ use2 𝓛 (‵ (Fields s)) (apply∗ 𝓤 Both ⟦ Fields s ⟧) $ done !
+
   module _ (γ : GName) where
     abbrev t : LockTurn
     t = (κ, γ)
@@ -125,7 +135,6 @@ module _ {M : Type 1} {𝓤 : Ura M} (𝓛 : Logic 𝓤) (m : Member) (g : Ghost
         qed 𝓛 (‵ (told (suc n)) ∷ ‵ (fauth γ (R.coded.code y)) ∷ []) ∵ keep ! [] $ nothing ! $
         fpack ! (Rest (suc n, y)) (λ _. ftrue) (λ free. cc) $ done !
 
-    -- the lock's fields are put together again
     again : (n : ℕ) (x : R.Denot)
         → ⟦ told n ⟧ ∗ ⟦ word b (o + 0) n ⟧ ∗ ⟦ At x ⟧ ∗ ⟦ fauth γ (R.coded.code x) ⟧ ∗ Back
         ⊢ ⟦ Fields (n, x) ⟧ ∗ ⟦ fact (Rest (n, x)) ⟧
@@ -133,16 +142,7 @@ module _ {M : Type 1} {𝓤 : Ura M} (𝓛 : Logic 𝓤) (m : Member) (g : Ghost
         qed 𝓛 (‵ (told n) ∷ ‵ (word b (o + 0) n) ∷ ‵ (At x) ∷ ‵ (fauth γ (R.coded.code x))
         ∷ raw Back ∷ []) ∵
         move ! (0 ∷ 3 ∷ []) $ use2 𝓛 (‵ (fact (Rest (n, x)))) (agreed n x) $
-        move ! (1 ∷ []) $ use1 𝓛 (‵ (wd n)) (word_in 𝓛 b (o + 0) n) $ nothing ! $
-        move ! (1 ∷ 3 ∷ 0 ∷ []) $ fjoin3 ! $ move ! (2 ∷ []) $
-        use1 𝓛 (raw (⟦ parts_at full_share ks zero (n, (x, tt)) b o ⟧ -∗ ⟦ Fields (n, x) ⟧))
-        (all_e 𝓤 (λ (a : Denots (rows_of ks)).
-        ⟦ parts_at full_share ks zero a b o ⟧ -∗ ⟦ part_at Data full_share a b o ⟧)
-        (n, (x, tt))) $
-        move ! (1 ∷ 0 ∷ []) $
-        use2 𝓛 (‵ (Fields (n, x)))
-        (apply∗ 𝓤 ⟦ parts_at full_share ks zero (n, (x, tt)) b o ⟧ ⟦ Fields (n, x) ⟧) $
-        done !
+        move ! (1 ∷ 2 ∷ 3 ∷ []) $ use3 𝓛 (‵ (Fields (n, x))) (joins (n, x)) $ done !
 
     way_back : Back ⊢ ⟦ fwand (fsep (fdead κ) (fseps (Word ∷ Named ∷ []))) (fupd P) ⟧
     unfolding fseps
@@ -217,89 +217,39 @@ module _ {M : Type 1} {𝓤 : Ura M} (𝓛 : Logic 𝓤) (m : Member) (g : Ghost
       use0 𝓛 (‵ (before κ κ)) (before-Incl 𝓛 κ κ (Incl-refl κ)) $ fjoin ! $
       fpack ! LockTurn (λ u. lock_kept R ok b o u κ) (t γ) $ now ! $ keep ! (0 ∷ 2 ∷ []) $ done !)))
 
-  -- an owner has the right to the value, once the word says that the lock is taken
-  module _ (δ : GName) where
-    abbrev Lock : RattleType
-    Lock = C.the_row R g
+  -- an owner takes the value out of a lock
+  abbrev Lock : RattleType
+  Lock = C.the_row R g
 
-    abbrev Whole : Fml
-    Whole = Body (mem Lock) b o δ
+  abbrev pub Parts : ℕ × R.Denot → SProp 𝓤
+  Parts s = ⟦ word b (o + 0) s.0 ⟧ ∗ ⟦ At s.1 ⟧ ∗ Back
 
-    abbrev code : LockView → Gv
-    code = Lock.coded.code
+  pub parts_out : ⟦ part_at Lock full_share d b o ⟧ ⊢ ex 𝓤 Parts
+  unfolding part_of
+  parts_out =
+      qed 𝓛 (‵ (part_at Lock full_share d b o) ∷ []) ∵ fpick ! (λ vs. fsplit3 ! $ move ! (2 ∷ []) $
+      fpick ! (λ s. fsplit ! $ move ! (2 ∷ 0 ∷ []) $ fjoin ! $
+      fpack ! (List Val)
+      (λ us. fsep (cell_at full_share Data.mir us b o) (Data.own_val (s.0, (s.1, tt)) us)) vs $
+      use1 𝓛 ((‵ (wd s.0) ⊛ ‵ (At s.1) ⊛ ‵ ftrue) ⊛ raw Back)
+      (Struct-parts 𝓛 full_share [] ks (u64-laws.lawful 𝓛, (L, tt)) (s.0, (s.1, tt)) b o) $
+      split ! $ split3 ! $ use1 𝓛 (‵ (word b (o + 0) s.0)) (word_out 𝓛 b (o + 0) s.0) $
+      show ! Parts s $ keep ! (0 ∷ 1 ∷ 3 ∷ []) $ done !))
 
-    whole_typed : (s : ℕ × R.Denot) → ⟦ Fields s ⟧ ∗ ⟦ fact (Rest s) ⟧ ⊢ ⟦ part_at Lock full_share d b o ⟧
-    unfolding part_of
-    whole_typed s =
-        let one : Unit {0} → Data.Denot = λ _. (s.0, (s.1, tt)) in
-        let Typed : RattleType = Laid Data (Unit {0}) coded_unit (λ _. Data.own_val (one tt)) (λ _ _ _ _. ftrue) in
-        qed 𝓛 (‵ (Fields s) ∷ ‵ (fact (Rest s)) ∷ []) ∵
-        use1 𝓛 (‵ (part_at Typed full_share tt b o))
-        (Laid-in Data (Unit {0}) coded_unit one (λ _ _ _ _. ftrue) 𝓛 tt b o refl) $
-        fpick ! (λ vs. fsplit3 ! $
-        move ! (2 ∷ 3 ∷ []) $ fjoin ! $
-        fpack ! (ℕ × R.Denot) (λ z. fsep (Data.own_val (z.0, (z.1, tt)) vs) (fact (Rest z))) s $
-        move ! (2 ∷ 0 ∷ []) $ fjoin ! $ move ! (1 ∷ 0 ∷ []) $ fjoin ! $
-        fpack ! (List Val) (λ us. fsep (cell_at full_share Data.mir us b o) (Lock.own_val d us)) vs $ done !)
-
-    abbrev pub Parts : ℕ × R.Denot → SProp 𝓤
-    Parts s = ⟦ word b (o + 0) s.0 ⟧ ∗ ⟦ At s.1 ⟧ ∗ Back
-
-    abbrev Turns : GName → SProp 𝓤
-    Turns γ' = all 𝓤 (λ (w : LockView). A.auth γ' (code w) -∗ A.auth δ (code d))
-
-    way_home : (γ γ' : GName)
-        → Back ∗ A.auth γ' (code d) ∗ Turns γ'
-        ⊢ ⟦ fwand (fsep (fdead κ) (fseps (I γ ∷ Named γ ∷ []))) (fupd Whole) ⟧
-    unfolding fseps
-    way_home γ γ' =
-        qed 𝓛 (raw Back ∷ ‵ (fauth γ' (code d)) ∷ raw (Turns γ') ∷ []) ∵
-        assume ! (‵ (fsep (fdead κ) (fseps (I γ ∷ Named γ ∷ [])))) $
-        suffices ! ⟦ Whole ⟧ (upd_i 𝓤 ⟦ Whole ⟧) $
-        fsplit ! $ drop ! $ fsplit3 ! $ fpick ! (λ n. fsplit ! $ move ! (1 ∷ []) $
-        use1 𝓛 (‵ (told γ n)) (ends_with γ n) $ move ! (2 ∷ []) $ fpick ! (λ x. fsplit ! $
-        -- [the value; its name; what γ says; the word; nothing; the way back; the name that turns;
-        -- how it does]
-        move ! (7 ∷ []) $
-        use1 𝓛 (raw (A.auth γ' (code d) -∗ A.auth δ (code d)))
-        (all_e 𝓤 (λ (w : LockView). A.auth γ' (code w) -∗ A.auth δ (code d)) d) $
-        move ! (7 ∷ 0 ∷ []) $
-        use2 𝓛 (‵ (fauth δ (code d))) (apply∗ 𝓤 (A.auth γ' (code d)) (A.auth δ (code d))) $
-        move ! (3 ∷ 4 ∷ 1 ∷ 2 ∷ 6 ∷ []) $ group ! 5 $
-        use1 𝓛 (‵ (Fields (n, x)) ⊛ ‵ (fact (Rest (n, x)))) (again γ n x) $ split ! $
-        use2 𝓛 (‵ (part_at Lock full_share d b o)) (whole_typed (n, x)) $ fjoin ! $
-        fpack ! LockView (λ t. fsep ((mem Lock).own_at t b o) (fauth δ (code t))) d $ keep ! (0 ∷ []) $ done !))
-
-    abbrev pub Opened : R.Denot → Share → GName → SProp 𝓤
-    Opened x q γ' = ⟦ guard_owns κ R ok (block_ptr b o) x ⟧ ∗ A.lft κ q ∗ ⟦ follows Lock Lock δ γ' (λ _. d) ⟧
-
-    pub opens : (q : Share) (x : R.Denot)
-        → A.obor κ q Whole ∗ A.obs δ (code d) ∗ A.auth δ (code d) ∗ ⟦ word b (o + 0) 1 ⟧ ∗ ⟦ At x ⟧
-        ∗ Back
-        ⊢ H.⇛ (ex 𝓤 (Opened x q))
-    unfolding fseps
-    opens q x =
-        qed 𝓛 (‵ (fobor κ q Whole) ∷ ‵ (fobs δ (code d)) ∷ ‵ (fauth δ (code d))
-        ∷ ‵ (word b (o + 0) 1) ∷ ‵ (At x) ∷ raw Back ∷ []) ∵
-        updating ! $
-        name_new ! tt (code d) (λ γ'. name_new ! tt (R.coded.code x) (λ γ. move ! (5 ∷ 6 ∷ []) $
-        use2 𝓛 (later (‵ (follows Lock Lock δ γ' (λ _. d)) ⊛ raw (Turns γ')))
-        (follows_anew 𝓛 (mem Lock) (mem Lock) (λ _. d) δ γ' (code d) (code d)) $
-        await ! tt $ split ! $
-        -- [what follows, and how it turns; γ; γ'; the open borrow; the word; the value; the way
-        -- back]
-        move ! (9 ∷ 5 ∷ 1 ∷ []) $
-        use3 𝓛 (‵ (fwand (fsep (fdead κ) (fseps (I γ ∷ Named γ ∷ []))) (fupd Whole)))
-        (way_home γ γ') $
-        move ! (7 ∷ 3 ∷ []) $ fjoin ! $
-        fpack ! R.Denot (λ y. fsep (At y) (fauth γ (R.coded.code y))) x $ nothing ! $
-        move ! (7 ∷ 0 ∷ []) $ fjoin ! $
-        fpack ! ℕ (λ w. fsep (word b (o + 0) w) (with_word R ok b o (t γ) w)) 1 $ nothing ! $
-        move ! (1 ∷ 2 ∷ 0 ∷ []) $ fjoin3 ! $ move ! (5 ∷ 0 ∷ 1 ∷ []) $
-        obor_alter ! tt (I γ ∷ Named γ ∷ []) $
-        use1 𝓛 (‵ (fbor κ (I γ)) ⊛ ‵ (fbor κ (Named γ)) ⊛ ‵ ftrue) (id⊢ 𝓤 _) $ split3 ! $
-        use1 𝓛 (later (‵ (finv (fbor κ (I γ))))) (𝓛.invs.inv_new (fbor κ (I γ))) $ await ! tt $
-        use0 𝓛 (‵ (before κ κ)) (before-Incl 𝓛 κ κ (Incl-refl κ)) $ fjoin ! $ move ! (5 ∷ 1 ∷ []) $
-        fjoin ! $ move ! (1 ∷ 0 ∷ []) $ fjoin ! $
-        fpack ! LockTurn (λ u. guarding R ok b o u κ x) (t γ) $
-        now ! $ show ! (Opened x q) γ' $ keep ! (0 ∷ 2 ∷ 3 ∷ []) $ done !))
+  -- and leaves one there that fits
+  pub parts_in : (x : R.Denot) → ok x → ⟦ At x ⟧ ∗ ⟦ word b (o + 0) 0 ⟧ ∗ Back ⊢ ⟦ part_at Lock full_share d b o ⟧
+  unfolding part_of
+  parts_in x fit =
+      let s : ℕ × R.Denot = (0, x) in
+      let one : Unit {0} → Data.Denot = λ _. (0, (x, tt)) in
+      let Typed : RattleType = Laid Data (Unit {0}) coded_unit (λ _. Data.own_val (one tt)) (λ _ _ _ _. ftrue) in
+      qed 𝓛 (‵ (At x) ∷ ‵ (word b (o + 0) 0) ∷ raw Back ∷ []) ∵
+      move ! (1 ∷ 0 ∷ 2 ∷ []) $ use3 𝓛 (‵ (Fields s)) (joins s) $
+      use1 𝓛 (‵ (part_at Typed full_share tt b o))
+      (Laid-in Data (Unit {0}) coded_unit one (λ _ _ _ _. ftrue) 𝓛 tt b o refl) $
+      fpick ! (λ vs. fsplit3 ! $
+      -- [the cell; its type; the fields]
+      nothing ! $ fpack ! (Rest s) (λ _. ftrue) (λ _. fit) $ move ! (3 ∷ 0 ∷ []) $ fjoin ! $
+      fpack ! (ℕ × R.Denot) (λ z. fsep (Data.own_val (z.0, (z.1, tt)) vs) (fact (Rest z))) s $
+      move ! (2 ∷ 0 ∷ []) $ fjoin ! $ move ! (1 ∷ 0 ∷ []) $ fjoin ! $
+      fpack ! (List Val) (λ us. fsep (cell_at full_share Data.mir us b o) (Lock.own_val d us)) vs $ done !)

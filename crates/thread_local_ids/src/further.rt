@@ -9,11 +9,13 @@ ghost use Rattle.thread_local_ids.specs.Filled.{IsFilled, TakesFurther};
 
 use crate::first::{FIRST_IDS, FirstIds, Log, Taken, is_full, peak};
 use crate::held::HeldId;
+use crate::ids::begun;
 use crate::lock::Fits;
 use crate::page::{Page, Tenure};
 use crate::right::Right;
 use crate::room::Room;
 use std::marker::Model;
+use thread_local_base::manager::IDS;
 use thread_local_base::{LocalError, ThreadIdManager};
 
 /// Gives out the further ids. Its manager has all ids of the table: the first ones count as held
@@ -125,18 +127,26 @@ impl Further {
         let (word, trace) = first.look(&mut self.log, page, false);
         (peak(word) + self.reached, trace.into_page())
     }
-}
 
-impl Further {
-    /// The manager of the ids.
-    pub(crate) fn into_manager(self) -> ThreadIdManager {
-        let Self {
-            manager,
-            log: _,
-            room: _,
-            reached: _,
-        } = self;
-        manager
+    /// Takes every id back, also the first ones, and counts the peak anew. The room stays. The rights
+    /// and the history are fresh ones, under another table's name, with that table's own right.
+    pub(crate) fn clear(&mut self, first: &mut FirstIds) -> (Right, Page, Room)
+        ensures table { (self.new.table ≡ result.0.table) × (first.new.table ≡ result.0.table) }
+        ensures right { result.0.id ≡ 2 ^ 63 - 1 }
+        ensures page { (result.1.table ≡ result.0.table) × (result.1.moves ≡ []) }
+        ensures room { result.2.table ≡ result.0.table }
+        ensures moves { self.new.moves ≡ [] }
+        ensures held { self.new.manager.held ≡ [] }
+    {
+        self.manager.clear();
+        let (mut rights, history, room, mut log) = begun(&self.manager);
+        let right = rights.take(IDS);
+        let page = history.page();
+        *first = FirstIds::new(rights, history, &mut log);
+        self.log = log;
+        self.room = room;
+        self.reached = 0;
+        (right, page, self.room.again())
     }
 }
 

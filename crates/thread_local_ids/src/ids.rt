@@ -275,29 +275,11 @@ impl Ids {
             }),
         }
     }
-
-    /// The ids of another table, none of them held, in the memory of a table's.
-    pub fn begun_anew(ids: SharedIds) -> Ids
-        ensures table_right { result.table_right_is_out ≡ false }
-        ensures held { result.manager.held ≡ [] }
-        ensures moves { result.moves ≡ [] }
-    {
-        let mut manager = ids.into_manager();
-        manager.clear();
-        let (rights, history, room, log) = begun(&manager);
-        Ids {
-            manager,
-            rights,
-            history,
-            room,
-            log,
-        }
-    }
 }
 
 /// The rights of a new table whose ids the manager gives out, its history, and its room.
 #[inline]
-fn begun(manager: &ThreadIdManager) -> (Rights, History, Room, Log)
+pub(crate) fn begun(manager: &ThreadIdManager) -> (Rights, History, Room, Log)
     ensures out { (j : ℕ) → j < 2 ^ 64 - 1 → is_out result.0.out j ≡ false }
     ensures history { (result.1.table ≡ result.0.table) × (result.1.moves ≡ []) }
     ensures room { (result.2.table ≡ result.0.table) × (result.2.ids ≡ manager.now.room) }

@@ -16,7 +16,7 @@ use crate::right::Right;
 use crate::room::Room;
 use std::marker::Model;
 use std::sync::Wait;
-use thread_local_base::{LocalError, ThreadIdManager};
+use thread_local_base::LocalError;
 
 /// Gives out the least id that isn't held, and takes ids back, while threads share it. The first 58
 /// ids take no lock.
@@ -141,10 +141,16 @@ impl SharedIds {
             .peak(&self.first, &reached.into_page(start))
     }
 
-    /// The manager of the further ids, of which nothing is known.
-    pub(crate) fn into_manager(self) -> ThreadIdManager {
-        let Self { first: _, further } = self;
-        further.into_inner().into_manager()
+    /// Takes every id back, those of forgotten holders too, and counts the peak anew. The room stays.
+    /// For contracts the ids are those of another table from then on: it answers that table's right,
+    /// its page from before any id is taken, and its room. Whoever has the right of the table before
+    /// shows that the two have two names.
+    pub fn clear(&mut self) -> (Right, Page, Room)
+        ensures right { (self.new.table ≡ result.0.table) × (result.0.id ≡ 2 ^ 63 - 1) }
+        ensures page { (result.1.table ≡ self.new.table) × (result.1.moves ≡ []) }
+        ensures room { result.2.table ≡ self.new.table }
+    {
+        self.further.get_mut().clear(&mut self.first)
     }
 }
 

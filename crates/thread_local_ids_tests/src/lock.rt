@@ -1,5 +1,5 @@
 //! Tests of a lock: who takes it finds what was left there, and one thread at a time has it.
-ghost use Rattle.std.specs.Prelude.{◌≤◌};
+ghost use Rattle.std.specs.Prelude.{◌≡◌, ◌≤◌};
 
 use crate::same::assert_same;
 use std::sync::Wait;
@@ -82,6 +82,44 @@ fn a_lock_that_was_left_taken_stays_so(rt: HostRuntime) {
     }
     assert!(rt; take_all(&shelf).is_none());
     assert_same(&rt, shelf.into_inner(), Shelf { room: 5, goods: 7 });
+}
+
+/// A count, which stays as it is while the lock is shared.
+#[derive(Drop)]
+struct Count {
+    number: u64,
+}
+
+impl Fits for Count {
+    ghost use Rattle.std.specs.Prelude.{⊤};
+
+    ghost tag = { λ count. count.number };
+
+    ghost fits = { λ _. ⊤ };
+}
+
+/// An owner writes another number.
+fn count_anew(count: &mut Lock<Count>, number: u64)
+    ensures { count.new.tag ≡ number }
+{
+    count.get_mut().number = number;
+}
+
+/// The number, unless the lock is taken.
+fn counted(count: &Lock<Count>) -> Option<u64> {
+    let guard = count.try_lock()?;
+    Some(guard.number)
+}
+
+#[test]
+fn an_owner_frees_a_lock_that_was_left_taken(rt: HostRuntime) {
+    let mut count = Lock::new(Count { number: 3 });
+    if let Some(guard) = count.try_lock() {
+        guard.forget();
+    }
+    let taken = counted(&count);
+    count_anew(&mut count, 7);
+    assert_same(&rt, (taken, counted(&count)), (None, Some(7)));
 }
 
 /// How often a thread yields while it waits for another, or until others sleep.

@@ -1,5 +1,5 @@
 //! Ids that threads share, about the 58th, from which on they lie under a lock.
-ghost use Rattle.std.specs.Prelude.{◌≡◌, IfOk};
+ghost use Rattle.std.specs.Prelude.{◌≡◌, IfOk, []};
 ghost use Rattle.thread_local_ids.specs.Rights.{taken_id};
 
 use crate::same::assert_same;
@@ -19,7 +19,7 @@ struct Table {
     ids: SharedIds,
     start: Page,
     room: Room,
-    ghost of_one: { (start.table ≡ ids.table) × (room.table ≡ ids.table) },
+    ghost of_one: { (start.table ≡ ids.table) × (start.moves ≡ []) × (room.table ≡ ids.table) },
 }
 
 impl Table {
@@ -49,6 +49,24 @@ impl Table {
     /// Takes an id, and never gives it back.
     fn take_for_ever<R: Wait>(&self, rt: &R) -> Result<usize, LocalError> {
         Ok(self.take(rt)?.0.id)
+    }
+
+    /// Takes an id, and never gives it back. Answers it, and how many ids were held at once by then.
+    fn take_and_peak<R: Wait>(&self, rt: &R) -> Result<(usize, usize), LocalError> {
+        let (held, _, tenure) = self.take(rt)?;
+        let (peak, _) = self.ids.peak(rt, tenure.reached(), &self.start);
+        Ok((held.id, peak))
+    }
+
+    /// The table once every id was taken back.
+    fn cleared(self) -> Table {
+        let Self {
+            mut ids,
+            start: _,
+            room: _,
+        } = self;
+        let (_, start, room) = ids.clear();
+        Table { ids, start, room }
     }
 
     /// Takes an id and gives it back, `times` times. Answers how often it was none of the four from
@@ -94,6 +112,22 @@ fn the_least_id_is_taken_past_the_first_ones(rt: HostRuntime) -> Result<(), Fail
     for id in [57, 59, 60] {
         assert_same(&rt, table.take_for_ever(&rt)?, id);
     }
+    Ok(())
+}
+
+#[test]
+fn cleared_ids_and_their_peak_begin_anew(rt: HostRuntime) -> Result<(), Fail> {
+    let table = Table::new(rt.alloc());
+    for id in 0..60usize {
+        assert_same(&rt, table.take_for_ever(&rt)?, id);
+    }
+    assert_same(&rt, table.take_and_peak(&rt)?, (60, 61));
+    let table = table.cleared();
+    assert_same(&rt, table.take_and_peak(&rt)?, (0, 1));
+    for id in 1..58usize {
+        assert_same(&rt, table.take_for_ever(&rt)?, id);
+    }
+    assert_same(&rt, table.take_and_peak(&rt)?, (58, 59));
     Ok(())
 }
 

@@ -1,13 +1,14 @@
-//! A guard lends its value, as `&` and as `&mut`. This is a file of its own, since the clauses name
-//! `the_row` of `LockGuard`.
+//! A guard lends its value, as `&` and as `&mut`, and an owner's lock lends it as `&mut`. This is a
+//! file of its own, since the clauses name `the_row` of `LockGuard` and of `Lock`.
 ghost use Rattle.std.specs.Prelude.{◌≡◌, []};
 ghost use mir.Syntax.{named};
 ghost use types.Logic.{sem};
 ghost use Rattle.std.specs.Borrow.{follows};
+ghost use Rattle.thread_local_ids.specs.contracts.lock.Lock.{the_row as lock_row};
 ghost use Rattle.thread_local_ids.specs.contracts.lock.LockGuard.{the_row};
-ghost use Rattle.thread_local_ids.specs.Guarded.{guard_with_value};
+ghost use Rattle.thread_local_ids.specs.Guarded.{guard_with_value, lock_of};
 
-use super::{Fits, LockGuard};
+use super::{FREE, Fits, Lock, LockGuard};
 use std::ops::{Deref, DerefMut};
 
 impl<V: Fits> Deref for LockGuard<'_, V> {
@@ -32,5 +33,20 @@ impl<V: Fits> DerefMut for LockGuard<'_, V> {
         ensures value { result.now ≡ self.old.value }
     {
         unsafe { &mut *(&raw const (*self.lock).value as *mut V) }
+    }
+}
+
+impl<V: Fits> Lock<V> {
+    /// The value, of which nothing is known, since a guard may have been forgotten. The lock is free
+    /// from then on, and its tag is that of the value that is left there.
+    #[inline]
+    pub fn get_mut(&mut self) -> &mut V
+        requires { (value : V) → V.fits value }
+        ensures* writes_back { sem 𝓛
+            (follows (lock_row V.row V.Fits) V.row self.entry.ghost_name result.ghost_name
+            (lock_of V.tag)) }
+    {
+        self.word = FREE;
+        &mut self.value
     }
 }
