@@ -5,22 +5,56 @@ ghost use Rattle.thread_local_ids.specs.Rights.{taken_id};
 ghost use Rattle.thread_local_base.specs.Bits.{is_set};
 
 use std::alloc::Global;
+use std::sync::Wait;
 use thread_local_base::{LocalError, Thread, bucket_size};
 use thread_local_bucket_pointers::flag_word_at;
 use thread_local_buckets::Buckets;
-use thread_local_ids::{HeldId, Ids, Right, Tenure, TokenList};
+use thread_local_ids::{HeldId, Ids, Page, Right, Room, SharedIds, Taken, Tenure, TokenList};
 use thread_local_shared_buckets::{Claim, Shared};
 
-/// Takes an id that isn't given back.
-pub fn take(ids: &mut Ids) -> Result<(HeldId, Right), LocalError>
-    ensures taken { IfOk result (λ taken.
-        (taken.1.table ≡ ids.old.table)
-        × (taken.0.mark.table ≡ ids.old.table)
-        × (taken.1.id ≡ taken.0.id)) }
-    ensures table { ids.new.table ≡ ids.old.table }
-{
-    let (held, right, _) = ids.take()?;
-    Ok((held, right))
+/// The ids of a table, with the table's right, its first page and its room.
+#[derive(Drop)]
+pub struct Table {
+    pub ids: SharedIds,
+    pub right: Right,
+    start: Page,
+    room: Room,
+    ghost of_one: { (right.table ≡ ids.table) × (start.table ≡ ids.table) × (room.table ≡ ids.table) },
+}
+
+impl Table {
+    /// None of the ids is held.
+    pub fn new(alloc: Global) -> Table {
+        let mut ids = Ids::new(alloc);
+        let right = ids.table_right();
+        let start = ids.page();
+        let room = ids.room();
+        Table {
+            ids: ids.into_shared(),
+            right,
+            start,
+            room,
+        }
+    }
+
+    /// Takes an id that isn't given back.
+    pub fn take<R: Wait>(&self, rt: &R) -> Result<Taken, LocalError>
+        ensures right { IfOk result (λ taken. (taken.1.table ≡ self.now.ids.table) × (taken.1.id ≡ taken.0.id)) }
+        ensures mark { IfOk result (λ taken. taken.0.mark.table ≡ self.now.ids.table) }
+        ensures tenure { IfOk result (λ taken. taken.2.table ≡ self.now.ids.table) }
+        ensures least { IfOk result (λ taken. taken.0.id ≡ taken_id taken.2.before) }
+    {
+        self.ids.take(rt, &mut self.start.again(), &self.room)
+    }
+
+    /// The same without its tenure.
+    pub fn take_id<R: Wait>(&self, rt: &R) -> Result<(HeldId, Right), LocalError>
+        ensures right { IfOk result (λ taken. (taken.1.table ≡ self.now.ids.table) × (taken.1.id ≡ taken.0.id)) }
+        ensures mark { IfOk result (λ taken. taken.0.mark.table ≡ self.now.ids.table) }
+    {
+        let (held, right, _) = self.take(rt)?;
+        Ok((held, right))
+    }
 }
 
 /// Lets threads share an owner's buckets. The sharing may have any name.
