@@ -8,6 +8,7 @@ ghost use mathlib.Core.List.{IsPrefix};
 ghost use Rattle.thread_local_base.specs.Bits.{IsLowestUnset};
 ghost use Rattle.thread_local_base.specs.IdMoves.{IdMove, Take, Give, moves_coded, held_after, noted};
 ghost use Rattle.thread_local_ids.specs.Rights.{is_out, taken_id};
+ghost use Rattle.thread_local_ids.specs.Taken.{IsTakenAfter};
 ghost use Rattle.thread_local_ids.specs.FirstIds.{FirstView, first_coded, first_shares, first_owns, log_owns, tried_owns, log_key};
 ghost use Rattle.thread_local_ids.specs.FirstIds.{IsWordOf, IsSameBeyond, IsGivenBeyond, HasFurther, AreOutOf, IsReturn};
 ghost use Rattle.thread_local_ids.specs.FirstIds.{is_full as is_full_word, word_with as word_that_holds};
@@ -114,13 +115,8 @@ impl FirstIds {
     /// that it tried. The page is then left as it is.
     pub fn take(&self, page: &mut Page) -> Option<Taken>
         requires { page.old.table ≡ self.now.table }
-        ensures right { IfSome result (λ taken. (taken.1.table ≡ self.now.table) × (taken.1.id ≡ taken.0.id)) }
-        ensures mark { IfSome result (λ taken. taken.0.mark.table ≡ self.now.table) }
-        ensures tenure { IfSome result (λ taken. taken.2.table ≡ self.now.table) }
-        ensures least { IfSome result (λ taken. taken.0.id ≡ taken_id taken.2.before) }
-        ensures since { IfSome result (λ taken. IsPrefix page.old.moves taken.2.before) }
+        ensures taken { IfSome result (λ taken. IsTakenAfter self.now.table page.old.moves page.new.moves taken) }
         ensures table { page.new.table ≡ page.old.table }
-        ensures page { IfSome result (λ taken. page.new.moves ≡ noted taken.2.before Take) }
         ensures none { result ≡ None → page.new ≡ page.old }
     {
         for _ in 0..TRIES {

@@ -1,9 +1,9 @@
 //! The further ids of a table, from 58 on, which lie under its lock.
 ghost use Rattle.std.specs.Prelude.{◌≡◌, ◌+◌, ◌-◌, ◌^◌, ◌≤◌, IfOk, IfSome, OnOk, OnErr, None, Ok, Err, Some, alloc_error, length, []};
 ghost use mathlib.Core.List.{IsPrefix};
-ghost use Rattle.thread_local_base.specs.IdMoves.{Take, held_after, noted};
+ghost use Rattle.thread_local_base.specs.IdMoves.{held_after};
 ghost use Rattle.thread_local_base.specs.Held.{HoldsAllBelow, NeedsMemory, IsExhausted};
-ghost use Rattle.thread_local_ids.specs.Rights.{taken_id};
+ghost use Rattle.thread_local_ids.specs.Taken.{IsHeldIn, IsTakenAfter};
 ghost use Rattle.thread_local_ids.specs.FirstIds.{IsReturn, IsSameBeyond};
 ghost use Rattle.thread_local_ids.specs.Filled.{IsFilled, TakesFurther};
 
@@ -60,12 +60,8 @@ impl Further {
         room: &Room,
     ) -> Result<Option<Taken>, LocalError>
         requires { (first.now.table ≡ self.old.table) × (page.old.table ≡ self.old.table) × (room.now.table ≡ self.old.table) }
-        ensures right { IfOk result (λ some. IfSome some (λ taken. (taken.1.table ≡ self.old.table) × (taken.1.id ≡ taken.0.id))) }
-        ensures mark { IfOk result (λ some. IfSome some (λ taken. taken.0.mark.table ≡ self.old.table)) }
-        ensures tenure { IfOk result (λ some. IfSome some (λ taken. taken.2.table ≡ self.old.table)) }
-        ensures least { IfOk result (λ some. IfSome some (λ taken. taken.0.id ≡ taken_id taken.2.before)) }
-        ensures since { IfOk result (λ some. IfSome some (λ taken. IsPrefix page.old.moves taken.2.before)) }
-        ensures moves { IfOk result (λ some. IfSome some (λ taken. page.new.moves ≡ noted taken.2.before Take)) }
+        ensures taken { IfOk result (λ some. IfSome some (λ taken.
+            IsTakenAfter self.old.table page.old.moves page.new.moves taken)) }
         ensures table { (self.new.table ≡ self.old.table) × (page.new.table ≡ page.old.table) }
         ensures none { result ≡ Ok None → page.new ≡ page.old }
         ensures early { OnErr result (IsPrefix page.old.moves page.new.moves) }
@@ -100,11 +96,8 @@ impl Further {
 
     /// Takes a further id back.
     pub fn give(&mut self, first: &FirstIds, held: HeldId, right: Right, tenure: Tenure) -> Page
-        requires table { (first.now.table ≡ self.old.table)
-            × (right.table ≡ self.old.table)
-            × (held.mark.table ≡ self.old.table)
-            × (tenure.table ≡ self.old.table) }
-        requires id { (right.id ≡ held.id) × (held.id ≡ taken_id tenure.before) }
+        requires table { first.now.table ≡ self.old.table }
+        requires held { IsHeldIn self.old.table (held, right, tenure) }
         requires further { 58 ≤ held.id }
         ensures table { (self.new.table ≡ self.old.table) × (result.table ≡ self.old.table) }
         ensures moves { IsReturn tenure.before held.id result.moves }

@@ -1,6 +1,6 @@
 //! Ids that threads share, also past the 58th, from which on they lie under a lock.
 ghost use Rattle.std.specs.Prelude.{◌≡◌, IfOk};
-ghost use Rattle.thread_local_ids.specs.Rights.{taken_id};
+ghost use Rattle.thread_local_ids.specs.Taken.{IsHeldIn};
 
 use crate::same::assert_same;
 use std::alloc::{AllocError, Global};
@@ -47,10 +47,7 @@ impl Table {
 
     /// Takes an id.
     pub fn take<R: Wait>(&self, rt: &R) -> Result<Taken, LocalError>
-        ensures right { IfOk result (λ taken. (taken.1.table ≡ self.now.ids.table) × (taken.1.id ≡ taken.0.id)) }
-        ensures mark { IfOk result (λ taken. taken.0.mark.table ≡ self.now.ids.table) }
-        ensures tenure { IfOk result (λ taken. taken.2.table ≡ self.now.ids.table) }
-        ensures least { IfOk result (λ taken. taken.0.id ≡ taken_id taken.2.before) }
+        ensures { IfOk result (λ taken. IsHeldIn self.now.ids.table taken) }
     {
         let mut page = self.start.again();
         self.ids.take(rt, &mut page, &self.room)
@@ -63,10 +60,7 @@ impl Table {
 
     /// Gives an id back, and answers it.
     fn give<R: Wait>(&self, rt: &R, taken: Taken) -> usize
-        requires table { (taken.1.table ≡ self.now.ids.table)
-            × (taken.0.mark.table ≡ self.now.ids.table)
-            × (taken.2.table ≡ self.now.ids.table) }
-        requires id { (taken.1.id ≡ taken.0.id) × (taken.0.id ≡ taken_id taken.2.before) }
+        requires { IsHeldIn self.now.ids.table taken }
     {
         let id = taken.0.id;
         self.ids.give(rt, taken.0, taken.1, taken.2);

@@ -1,7 +1,7 @@
 //! Blocks are installed with a value in them, and those that come second give way.
 ghost use Rattle.std.specs.Prelude.{◌≡◌, ◌<◌, ◌^◌};
 ghost use Rattle.thread_local_bucket_pointers.specs.Slots.{empty_slots};
-ghost use Rattle.thread_local_ids.specs.Rights.{taken_id};
+ghost use Rattle.thread_local_ids.specs.Taken.{IsHeldIn};
 ghost use Rattle.thread_local_base.specs.Place.{bucket_of};
 
 use crate::steps::{Kept, Table, left, look, publish_claimed, share};
@@ -60,9 +60,7 @@ impl<'a, T: Drop> Early<'a, T> {
 
 /// Claims an id that was taken.
 fn claim_early<T>(shared: &Shared<T>, taken: Taken) -> Early<'_, T>
-    requires table { (taken.1.table ≡ shared.now.table) × (taken.0.mark.table ≡ shared.now.table) }
-    requires id { taken.1.id ≡ taken.0.id }
-    requires tenure { (taken.2.table ≡ shared.now.table) × (taken.0.id ≡ taken_id taken.2.before) }
+    requires { IsHeldIn shared.now.table taken }
 {
     let (held, right, tenure) = taken;
     Early {

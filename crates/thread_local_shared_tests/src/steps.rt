@@ -1,7 +1,7 @@
 //! What a test does with one id of a table.
 ghost use Rattle.std.specs.Prelude.{◌≡◌, ◌-◌, ◌^◌, ◌<◌, IfOk, IsSome};
 ghost use Rattle.thread_local_judged.specs.Judged.{Judged};
-ghost use Rattle.thread_local_ids.specs.Rights.{taken_id};
+ghost use Rattle.thread_local_ids.specs.Taken.{IsHeldIn};
 ghost use Rattle.thread_local_base.specs.Bits.{is_set};
 
 use std::alloc::Global;
@@ -39,10 +39,7 @@ impl Table {
 
     /// Takes an id that isn't given back.
     pub fn take<R: Wait>(&self, rt: &R) -> Result<Taken, LocalError>
-        ensures right { IfOk result (λ taken. (taken.1.table ≡ self.now.ids.table) × (taken.1.id ≡ taken.0.id)) }
-        ensures mark { IfOk result (λ taken. taken.0.mark.table ≡ self.now.ids.table) }
-        ensures tenure { IfOk result (λ taken. taken.2.table ≡ self.now.ids.table) }
-        ensures least { IfOk result (λ taken. taken.0.id ≡ taken_id taken.2.before) }
+        ensures { IfOk result (λ taken. IsHeldIn self.now.ids.table taken) }
     {
         self.ids.take(rt, &mut self.start.again(), &self.room)
     }
@@ -98,9 +95,7 @@ pub fn publish<T: Drop>(
     alloc: Global,
     value: T,
 ) -> ((HeldId, Right), bool)
-    requires table { (held.1.table ≡ shared.now.table) × (held.0.mark.table ≡ shared.now.table) }
-    requires id { held.1.id ≡ held.0.id }
-    requires tenure { (tenure.now.table ≡ shared.now.table) × (held.0.id ≡ taken_id tenure.now.before) }
+    requires { IsHeldIn shared.now.table (held.0, held.1, tenure.now) }
     ensures table { (result.0.1.table ≡ shared.now.table) × (result.0.0.mark.table ≡ shared.now.table) }
     ensures id { (result.0.0.id ≡ held.0.id) × (result.0.1.id ≡ held.0.id) }
 {

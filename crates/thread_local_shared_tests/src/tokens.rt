@@ -1,6 +1,6 @@
 //! What slots were published with, as tokens say it: to claims, to walkers and to an owner.
 ghost use Rattle.std.specs.Prelude.{◌≡◌, ◌≢◌, ◌-◌, ◌<◌, Some, IfSome, IsSome};
-ghost use Rattle.thread_local_ids.specs.Rights.{taken_id};
+ghost use Rattle.thread_local_ids.specs.Taken.{IsHeldIn};
 ghost use Rattle.thread_local_base.specs.Buckets.{values};
 ghost use Rattle.thread_local_base.specs.Learnt.{Vacant};
 
@@ -22,9 +22,7 @@ fn told<T: Drop>(
     alloc: Global,
     value: T,
 ) -> ((HeldId, Right), Option<Token<T>>)
-    requires table { (held.1.table ≡ shared.now.table) × (held.0.mark.table ≡ shared.now.table) }
-    requires id { held.1.id ≡ held.0.id }
-    requires tenure { (tenure.now.table ≡ shared.now.table) × (held.0.id ≡ taken_id tenure.now.before) }
+    requires { IsHeldIn shared.now.table (held.0, held.1, tenure.now) }
     ensures table { (result.0.1.table ≡ shared.now.table) × (result.0.0.mark.table ≡ shared.now.table) }
     ensures id { (result.0.0.id ≡ held.0.id) × (result.0.1.id ≡ held.0.id) }
     ensures token { IfSome result.1 (λ token.
