@@ -7,8 +7,8 @@ ghost use Rattle.thread_local_ids.specs.Taken.{IsHeldIn, IsTakenAfter};
 ghost use Rattle.thread_local_ids.specs.FirstIds.{IsReturn, IsSameBeyond};
 ghost use Rattle.thread_local_ids.specs.Filled.{IsFilled, TakesFurther};
 
-use crate::first::{FIRST_IDS, FirstIds, Log, Taken, is_full, peak};
-use crate::held::HeldId;
+use crate::first::{FIRST_IDS, FirstIds, Log, is_full, peak};
+use crate::held::{HeldId, Taken};
 use crate::lock::Fits;
 use crate::page::{Page, Tenure};
 use crate::right::Right;
@@ -21,7 +21,7 @@ use thread_local_base::{LocalError, ThreadIdManager};
 ///
 /// Contracts see the manager, the table's name, the moves up to the last one of a further id, and for
 /// how many ids there was room when the table was made or cleared.
-pub struct Further {
+pub(crate) struct Further {
     pub(crate) manager: ThreadIdManager,
     pub(crate) log: Log,
     pub(crate) room: Room,
@@ -53,7 +53,7 @@ impl Further {
     /// Takes the least id of the table, if all of the first ids are held. It answers none where one of
     /// them isn't. It is refused memory only where every id is held that there was room for when the
     /// table was made or cleared.
-    pub fn take(
+    pub(crate) fn take(
         &mut self,
         first: &FirstIds,
         page: &mut Page,
@@ -95,7 +95,13 @@ impl Further {
     }
 
     /// Takes a further id back.
-    pub fn give(&mut self, first: &FirstIds, held: HeldId, right: Right, tenure: Tenure) -> Page
+    pub(crate) fn give(
+        &mut self,
+        first: &FirstIds,
+        held: HeldId,
+        right: Right,
+        tenure: Tenure,
+    ) -> Page
         requires table { first.now.table ≡ self.old.table }
         requires held { IsHeldIn self.old.table (held, right, tenure) }
         requires further { 58 ≤ held.id }
@@ -109,7 +115,7 @@ impl Further {
     }
 
     /// The peak of all ids, with the page of all that was done by then.
-    pub fn peak(&mut self, first: &FirstIds, page: &Page) -> (usize, Page)
+    pub(crate) fn peak(&mut self, first: &FirstIds, page: &Page) -> (usize, Page)
         requires { (first.now.table ≡ self.old.table) × (page.now.table ≡ self.old.table) }
         ensures table { (self.new.table ≡ self.old.table) × (result.1.table ≡ self.old.table) }
         ensures peak { result.0 ≡ length (held_after result.1.moves) }

@@ -2,7 +2,9 @@
 ghost use Rattle.std.specs.Prelude.{◌≡◌, ◌+◌, ◌-◌, ◌^◌, ◌≤◌, ◌<◌, ℕ, min, true, false, [], IsOk, IfOk};
 ghost use Rattle.thread_local_ids.specs.Rights.{is_out};
 
-use crate::{FirstIds, Further, History, Lock, Log, Page, Right, Rights, Room, SharedIds};
+use crate::first::{FirstIds, Log};
+use crate::further::Further;
+use crate::{History, Lock, Page, Right, Rights, Room, SharedIds};
 use std::alloc::{AllocError, Global};
 use std::marker::Model;
 use thread_local_base::ThreadIdManager;

@@ -6,9 +6,9 @@ ghost use Rattle.thread_local_base.specs.Held.{HoldsAllBelow};
 ghost use Rattle.thread_local_ids.specs.Taken.{IsHeldIn, IsTakenAfter};
 ghost use Rattle.thread_local_ids.specs.FirstIds.{IsReturn};
 
-use crate::first::{FIRST_IDS, FirstIds, Taken};
+use crate::first::{FIRST_IDS, FirstIds};
 use crate::further::Further;
-use crate::held::HeldId;
+use crate::held::{HeldId, Taken};
 use crate::lock::Lock;
 use crate::page::{Page, Tenure};
 use crate::reached::Reached;
