@@ -6,7 +6,7 @@ ghost use Rattle.thread_local_base.specs.Answers.{Get, GetOr, Found, Refused, Fa
 ghost use Rattle.thread_local_base.specs.Cursor.{fresh_cursor};
 ghost use Rattle.thread_local_base.specs.IdMoves.{Take, held_after, noted};
 ghost use Rattle.thread_local_base.specs.Held.{is_held};
-ghost use Rattle.thread_local_ids.specs.Rights.{taken_id};
+ghost use Rattle.thread_local_ids.specs.Taken.{IsHeldIn};
 ghost use mathlib.Core.List.{IsPrefix};
 ghost use mathlib.Core.Logic.{◌∨₁◌};
 ghost use Rattle.thread_local.specs.Errors.{IfCreate};
@@ -76,8 +76,7 @@ impl<'a, T, R: Wait> Local<'a, T, R> {
         right: Right,
         tenure: Tenure,
     ) -> Local<'a, T, R>
-        requires table { (right.table ≡ table.now.table) × (held.mark.table ≡ table.now.table) × (tenure.table ≡ table.now.table) }
-        requires id { (right.id ≡ held.id) × (held.id ≡ taken_id tenure.before) }
+        requires { IsHeldIn table.now.table (held, right, tenure) }
         ensures table { (result.table ≡ table.now.table)
             × (result.sharing ≡ table.now.sharing)
             × (result.reserved ≡ table.now.reserved) }

@@ -8,7 +8,7 @@ use std::thread::Threads;
 use std::time::{Clock, Instant};
 use std::{io, thread};
 use thread_local_base::ThreadIdManager;
-use thread_local_ids::{Ids, Lock};
+use thread_local_ids::{Fits, Lock};
 
 /// Prints the times of `pairs` pairs, five times. Each of four threads does a fourth of them.
 pub(crate) fn compare<R: Clock + Threads + Wait + Sync + Print>(
@@ -19,40 +19,77 @@ pub(crate) fn compare<R: Clock + Threads + Wait + Sync + Print>(
     for _ in 0..5 {
         let (alone, four) = times(&Lock::new(Ids::new(alloc)), rt, pairs)?;
         println!(rt; "this lock: alone {alone} ns a pair, four threads {four} ns")?;
-        let (alone, four) = times(&Mutex::new(ThreadIdManager::new(alloc)), rt, pairs)?;
+        let (alone, four) = times(&Mutex::new(Ids::new(alloc)), rt, pairs)?;
         println!(rt; "std's lock: alone {alone} ns a pair, four threads {four} ns")?;
     }
     Ok(())
 }
 
-/// Ids that several threads take and give back.
-trait Shared: Sync {
-    /// Takes an id and gives it back, `pairs` times.
-    fn take_and_give<R: Wait>(&self, rt: &R, pairs: u64);
+/// The ids that lie under either lock.
+#[derive(Drop)]
+struct Ids {
+    manager: ThreadIdManager,
 }
 
-impl Shared for Lock<Ids> {
-    fn take_and_give<R: Wait>(&self, rt: &R, pairs: u64) {
-        for _ in 0..pairs {
-            let taken = self.lock(rt).take();
-            if let Ok((held, right, tenure)) = taken {
-                self.lock(rt).give(held, right, tenure);
-            }
+// Any `Ids` fits.
+impl Fits for Ids {
+    ghost use Rattle.std.specs.Prelude.{⊤};
+
+    ghost tag = { λ _. 0 };
+
+    ghost fits = { λ _. ⊤ };
+}
+
+impl Ids {
+    /// None of them is held.
+    fn new(alloc: Global) -> Ids {
+        Ids {
+            manager: ThreadIdManager::new(alloc),
+        }
+    }
+
+    /// Takes an id back. Nothing is known of what lay under a lock, so the id is tested first.
+    fn give(&mut self, id: usize) {
+        if self.manager.is_held(id) {
+            self.manager.free(id);
         }
     }
 }
 
-impl Shared for Mutex<ThreadIdManager> {
-    /// Nothing is known of what std's lock keeps, so the id is tested before it is freed.
-    fn take_and_give<R: Wait>(&self, rt: &R, pairs: u64) {
-        for _ in 0..pairs {
-            let taken = self.lock(rt).alloc();
-            if let Ok(id) = taken {
-                let mut manager = self.lock(rt);
-                if manager.is_held(id) {
-                    manager.free(id);
-                }
-            }
+/// Ids that several threads take and give back.
+trait Shared: Sync {
+    /// Takes an id, unless memory or ids are out.
+    fn take<R: Wait>(&self, rt: &R) -> Option<usize>;
+
+    /// Takes an id back.
+    fn give<R: Wait>(&self, rt: &R, id: usize);
+}
+
+impl Shared for Lock<Ids> {
+    fn take<R: Wait>(&self, rt: &R) -> Option<usize> {
+        self.lock(rt).manager.alloc().ok()
+    }
+
+    fn give<R: Wait>(&self, rt: &R, id: usize) {
+        self.lock(rt).give(id);
+    }
+}
+
+impl Shared for Mutex<Ids> {
+    fn take<R: Wait>(&self, rt: &R) -> Option<usize> {
+        self.lock(rt).manager.alloc().ok()
+    }
+
+    fn give<R: Wait>(&self, rt: &R, id: usize) {
+        self.lock(rt).give(id);
+    }
+}
+
+/// Takes an id and gives it back, `pairs` times.
+fn take_and_give<S: Shared, R: Wait>(ids: &S, rt: &R, pairs: u64) {
+    for _ in 0..pairs {
+        if let Some(id) = ids.take(rt) {
+            ids.give(rt, id);
         }
     }
 }
@@ -64,7 +101,7 @@ fn times<S: Shared, R: Clock + Threads + Wait + Sync>(
     pairs: u64,
 ) -> io::Result<(u128, u128)> {
     let start = Instant::now(rt)?;
-    ids.take_and_give(rt, pairs);
+    take_and_give(ids, rt, pairs);
     let alone = start.elapsed(rt)?;
     let start = Instant::now(rt)?;
     by_four(ids, rt, pairs / 4);
@@ -82,7 +119,7 @@ fn by_four<S: Shared, R: Threads + Wait + Sync>(ids: &S, rt: &R, pairs: u64) {
 fn by_two<S: Shared, R: Threads + Wait + Sync>(ids: &S, rt: &R, pairs: u64) {
     thread::join(
         rt,
-        || ids.take_and_give(rt, pairs),
-        || ids.take_and_give(rt, pairs),
+        || take_and_give(ids, rt, pairs),
+        || take_and_give(ids, rt, pairs),
     );
 }

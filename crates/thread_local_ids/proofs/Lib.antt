@@ -15,7 +15,6 @@ pub mod Made
 pub mod MoveElements
 pub mod ReachedElements
 pub mod Markers
-mod OutLaws
 pub mod RightElements
 pub mod Rows
 pub mod ToldElements

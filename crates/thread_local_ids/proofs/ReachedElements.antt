@@ -2,18 +2,17 @@
 -- Assumes `Logic`.
 use Rattle.std.proofs.Common.{ℕ, ◌+◌, ◌≤◌, Bool, true, false, List, [], ◌∷◌, length, sym, subst, arith}
 use seplogic.Ra.Ura.{Ura}
-use mathlib.Core.List.{IsPrefix}
 use base.Logic.{SProp, ex, guard, emp, id⊢}
 use base.Fml.{ftrue}
 use base.Shift.{Keyless}
 use types.Logic.{Logic}
-use types.Kit.{‵, given, ◌⊛◌, ◌$◌, ◌∵◌, !, qed, by, show, move, keep, drop, split, fsplit, fjoin, fpick, fpack, learn, check, use1, use2, done}
+use types.Kit.{‵, ◌⊛◌, ◌$◌, ◌∵◌, !, qed, by, show, move, keep, drop, split, fsplit, fjoin, fpick, fpack, check, use1, done}
 use denote.Steps.{nothing}
 use Rattle.thread_local_base.specs.Held.{least, with_least}
 use Rattle.thread_local_base.specs.IdMoves.{IdMove, Take, held_after, noted}
-use Rattle.thread_local_base.proofs.IdMoveLaws.{after_take, peak_grows}
-use Rattle.thread_local_ids.specs.Rights.{history_owns, page_owns, page_if, reached_by, reached_owns, taken_id}
-use Rattle.thread_local_ids.proofs.MoveElements.{page_twice, page_is_early, page_keyless}
+use Rattle.thread_local_base.proofs.IdMoveLaws.{after_take}
+use Rattle.thread_local_ids.specs.Rights.{page_owns, page_if, reached_by, reached_owns, taken_id}
+use Rattle.thread_local_ids.proofs.MoveElements.{page_twice, page_keyless}
 use Rattle.thread_local_base.proofs.Signs.{signs}
 
 taken_in : (held : List Bool) → least held + 1 ≤ length (with_least held)
@@ -47,21 +46,6 @@ module _ {M : Type 1} {𝓤 : Ura M} (𝓛 : Logic 𝓤) where
       → ⟦ page_if table moves ⟧ ⊢ ⟦ page_if table moves ⟧ ∗ ⟦ page_if table moves ⟧
   twice_if table [] = qed 𝓛 (‵ ftrue ∷ []) ∵ nothing ! $ done !
   twice_if table (move ∷ moves) = page_twice 𝓛 table (move ∷ moves)
-
-  abbrev IsBelow : List IdMove → List IdMove → Type 0
-  IsBelow seen moves = length (held_after seen) ≤ length (held_after moves)
-
-  early_if : (table : ℕ) (moves seen : List IdMove)
-      → ⟦ history_owns table moves ⟧ ∗ ⟦ page_if table seen ⟧ ⊢ guard 𝓤 (IsBelow seen moves) ⟦ history_owns table moves ⟧
-  early_if table moves [] =
-      let least_peak : IsBelow [] moves = omega arith in
-      qed 𝓛 (‵ (history_owns table moves) ∷ ‵ ftrue ∷ []) ∵ keep ! (0 ∷ []) $ check ! least_peak $ done !
-  early_if table moves (move ∷ rest) =
-      let seen : List IdMove = move ∷ rest in
-      qed 𝓛 (‵ (history_owns table moves) ∷ ‵ (page_owns table seen) ∷ []) ∵
-      use2 𝓛 (given (IsPrefix seen moves) (‵ (history_owns table moves) ⊛ ‵ (page_owns table seen)))
-      (page_is_early 𝓛 table moves seen) $
-      learn ! (λ early. split ! $ keep ! (0 ∷ []) $ check ! (peak_grows seen moves early) $ done !)
 
   -- a page shows how many ids were held at once
   pub shows_reached : (table n : ℕ) (moves : List IdMove) → n ≤ length (held_after moves)
@@ -97,17 +81,6 @@ module _ {M : Type 1} {𝓤 : Ura M} (𝓛 : Logic 𝓤) where
       fpack ! (List IdMove) (reached_by table n) moves $ move ! (1 ∷ []) $ nothing ! $
       fpack ! (n ≤ length (held_after moves)) (λ _. ftrue) so $ fjoin ! $
       fpack ! (List IdMove) (reached_by table n) moves $ done !))
-
-  -- the history has no lower peak
-  pub reached_before : (table n : ℕ) (moves : List IdMove)
-      → ⟦ history_owns table moves ⟧ ∗ ⟦ reached_owns table n ⟧
-      ⊢ guard 𝓤 (n ≤ length (held_after moves)) ⟦ history_owns table moves ⟧
-  unfolding reached_owns
-  reached_before table n moves =
-      qed 𝓛 (‵ (history_owns table moves) ∷ ‵ (reached_owns table n) ∷ []) ∵ move ! (1 ∷ []) $ fpick ! (λ seen.
-      fsplit ! $ fpick ! (λ so. drop ! $ move ! (1 ∷ 0 ∷ []) $
-      use2 𝓛 (given (IsBelow seen moves) (‵ (history_owns table moves))) (early_if table moves seen) $
-      learn ! (λ below. let all : n ≤ length (held_after moves) = omega (arith, so, below) in check ! all $ done !)))
 
   -- the page by which so many were held at once
   pub reached_page : (table n : ℕ)

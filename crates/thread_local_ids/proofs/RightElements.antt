@@ -1,6 +1,6 @@
 -- The elements that rights own: how they are made, split, joined and compared. Assumes `Logic`.
-use Rattle.std.proofs.Common.{◌≡◌, ◌≢◌, ℕ, suc, ◌+◌, ◌≤◌, ◌==◌, Bool, true, false, not, List, [], ◌∷◌, if◌then◌else◌}
-use Rattle.std.proofs.Common.{refl, subst, arith, ne_eqb}
+use Rattle.std.proofs.Common.{◌≡◌, ◌≢◌, ℕ, ◌==◌, Bool, true, false, not, List, [], ◌∷◌, if◌then◌else◌}
+use Rattle.std.proofs.Common.{refl, subst, arith}
 use Rattle.std.proofs.lemmas.Bool.Decides.{nat_tests}
 use Rattle.std.proofs.lemmas.Grind.{common_steps}
 use Rattle.std.proofs.lemmas.Bool.{eqb-true, eq-eqb}
@@ -72,25 +72,6 @@ twice : (is : Bool) → is ≡ true → OpDef at_key (element_if is) (element_if
 twice true e d = no_two d
 twice false e d = cc
 
-both_in : (gone here : Bool) → gone ≡ false → here ≡ false → OpDef at_key (element_if (not gone)) (element_if (not here)) → ⊥
-both_in true here e f d = cc
-both_in false true e f d = cc
-both_in false false e f d = no_two d
-
--- a number greater than every id that is out
-above : List ℕ → ℕ
-above [] = 0
-above (x ∷ out) = suc x + above out
-
-is_out-above : (out : List ℕ) (n : ℕ) → above out ≤ n → is_out out n ≡ false
-unfolding above
-is_out-above [] n low = refl
-is_out-above (x ∷ out) n low =
-    let rest : is_out out n ≡ false = is_out-above out n (omega arith) in
-    let differs : x ≢ n = omega arith in
-    let test : (x == n) ≡ false = ne_eqb x n differs in
-    rw test rest
-
 module _ {M : Type 1} {𝓤 : Ura M} (𝓛 : Logic 𝓤) where
   open signs 𝓛 use {⟦◌⟧, ◌⊢◌, ◌∗◌}
 
@@ -154,24 +135,6 @@ module _ {M : Type 1} {𝓤 : Ura M} (𝓛 : Logic 𝓤) where
       (λ k. (same k, e k)) (right_once γ i (guard 𝓤 Apart Both)))
       (λ differ. guard_i 𝓤 Apart Both (λ same. absurd (differ same))))
       (λ differ. guard_i 𝓤 Apart Both (λ _. differ))
-
-  -- no table has two `Rights`
-  pub rights_once : (γ : GName) (out gone : List ℕ) (Z : SProp 𝓤) → ⟦ rights_own γ out ⟧ ∗ ⟦ rights_own γ gone ⟧ ⊢ Z
-  unfolding rights_own
-  rights_once γ out gone Z =
-      let n : ℕ = above out + above gone in
-      own_glued 𝓛 (keyed telling) γ (all_but out) (all_but gone) Z (λ c m.
-      absurd (both_in (is_out out n) (is_out gone n) (is_out-above out n (omega arith)) (is_out-above gone n (omega arith)) (m.0 n)))
-
-  -- two `Rights` belong to tables of different names
-  pub rights_apart : (γ δ : GName) (out gone : List ℕ)
-      → ⟦ rights_own γ out ⟧ ∗ ⟦ rights_own δ gone ⟧
-      ⊢ guard 𝓤 (γ ≢ δ) (⟦ rights_own γ out ⟧ ∗ ⟦ rights_own δ gone ⟧)
-  rights_apart γ δ out gone = let Both : SProp 𝓤 = ⟦ rights_own γ out ⟧ ∗ ⟦ rights_own δ gone ⟧ in dite (ℕ_discrete γ δ)
-      (λ e.
-      subst (λ (x : ℕ). ⟦ rights_own γ out ⟧ ∗ ⟦ rights_own x gone ⟧ ⊢ guard 𝓤 (γ ≢ δ) Both) e
-      (rights_once γ out gone (guard 𝓤 (γ ≢ δ) Both)))
-      (guard_i 𝓤 (γ ≢ δ) Both)
 
 pub right_keyless : (γ : GName) (id : ℕ) → Keyless (right_owns γ id)
 unfolding right_owns

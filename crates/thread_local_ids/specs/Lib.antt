@@ -10,3 +10,4 @@ pub mod FirstIds
 pub mod FurtherIds
 pub mod SharedIds
 pub mod Filled
+pub mod Taken

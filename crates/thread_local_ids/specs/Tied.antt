@@ -1,7 +1,8 @@
 -- What a contract sees of a table's ids, and how the held ids are tied to the rights that are out.
-use Rattle.std.specs.Prelude.{◌≡◌, ℕ, ◌+◌, ◌-◌, ◌^◌, ◌<◌, ◌≤◌, Bool, true, List, []}
-use Rattle.thread_local_base.specs.Held.{Manager, is_held}
+use Rattle.std.specs.Prelude.{◌≡◌, ℕ, ◌-◌, ◌^◌, ◌≤◌, Bool, true, List, []}
+use Rattle.thread_local_base.specs.Held.{Manager}
 use Rattle.thread_local_ids.specs.Rights.{is_out}
+use Rattle.thread_local_ids.specs.FirstIds.{AreOutOf}
 use Rattle.thread_local_base.specs.IdMoves.{IdMove, held_after}
 use Rattle.thread_local_ids.specs.declared.ids.Ids.TheInside.{Inside}
 
@@ -24,17 +25,10 @@ ids_of i = record {
   room = i.room.ids;
 }
 
--- the right to an id is out exactly where the id is held, and so is its mark
-abbrev pub AreOut : Inside → Type 0
-AreOut i =
-    (id : ℕ) → id < 2 ^ 63 - 1
-    → (is_out i.rights.out id ≡ is_held i.manager.held id)
-    × (is_out i.rights.out (id + 2 ^ 63) ≡ is_held i.manager.held id)
-
--- and the held ids are those that the table's history leaves held, and there is still room for as
--- many as at the beginning
+-- the right to an id is out exactly where the id is held, and so is its mark. The held ids are those
+-- that the table's history leaves held, and there is still room for as many as at the beginning
 pub record IsTied (i : Inside) : Type 0 where
-  pub out : AreOut i
+  pub out : AreOutOf i.rights.out i.manager.held
   pub moves : held_after i.history.moves ≡ i.manager.held
   pub table : i.history.table ≡ i.rights.table
   pub room : i.room.ids ≤ i.manager.room

@@ -9,11 +9,12 @@ ghost use Rattle.thread_local_base.specs.Bits.{IsLowestUnset};
 ghost use Rattle.thread_local_base.specs.SharedWord.{word_shares, word_owns};
 ghost use Rattle.thread_local_base.specs.IdMoves.{IdMove, Take, Give, moves_coded, held_after, noted};
 ghost use Rattle.thread_local_ids.specs.Rights.{is_out, taken_id};
+ghost use Rattle.thread_local_ids.specs.Taken.{IsTakenAfter};
 ghost use Rattle.thread_local_ids.specs.FirstIds.{FirstView, first_coded, lies_with, log_owns, tried_owns, log_key};
 ghost use Rattle.thread_local_ids.specs.FirstIds.{IsWordOf, IsSameBeyond, IsGivenBeyond, HasFurther, AreOutOf, IsReturn};
 ghost use Rattle.thread_local_ids.specs.FirstIds.{is_full as is_full_word, word_with as word_that_holds};
 
-use crate::held::HeldId;
+use crate::held::{HeldId, Taken};
 use crate::page::{History, Page, Tenure};
 use crate::right::{Right, Rights};
 use crate::word::exchange;
@@ -22,7 +23,7 @@ use std::sync::atomic::Ordering::SeqCst;
 use std::sync::atomic::raw;
 
 /// How many ids have a bit in the word.
-pub const FIRST_IDS: usize = 58;
+pub(crate) const FIRST_IDS: usize = 58;
 
 /// The bits of the ids where all of the first are held.
 const ALL: u64 = (1 << 58) - 1;
@@ -30,13 +31,10 @@ const ALL: u64 = (1 << 58) - 1;
 /// How often a take tries to exchange the word.
 const TRIES: u64 = 16;
 
-/// An id that was taken, with its right, and what is kept of its take.
-pub type Taken = (HeldId, Right, Tenure);
-
 /// Which of the first 58 ids are held, a bit each, and their peak in the 6 bits below. A contract sees
 /// the name of the table.
 #[derive(Drop)]
-pub struct FirstIds {
+pub(crate) struct FirstIds {
     word: u64,
 }
 
@@ -55,7 +53,7 @@ impl Move for FirstIds {
 /// All moves of a table up to the last one of a further id: both halves of what is kept of them, or
 /// the one that lies with the further ids. It has no bytes.
 #[derive(Drop)]
-pub struct Log {
+pub(crate) struct Log {
     pub(crate) marker: PhantomData<()>,
     pub ghost table: { ℕ },
     pub ghost moves: { List IdMove } by { moves_coded },
@@ -69,7 +67,7 @@ impl Model for Log {
 /// The moves before an atomic step on the word, with the rights and the tenure of the least id if the
 /// step took it. It has no bytes.
 #[derive(Drop)]
-pub struct Trace {
+pub(crate) struct Trace {
     pub(crate) marker: PhantomData<()>,
     pub ghost table: { ℕ },
     pub ghost before: { List IdMove } by { moves_coded },
@@ -83,7 +81,7 @@ impl Model for Trace {
 impl Rights {
     /// Begins the moves up to the last one of a further id: there is none. The right that becomes
     /// them is one to a number that no `usize` is.
-    pub fn note_log(&mut self) -> Log
+    pub(crate) fn note_log(&mut self) -> Log
         requires { is_out self.old.out log_key ≡ false }
         ensures log { (result.table ≡ self.old.table) × (result.moves ≡ []) × (result.whole ≡ true) }
         ensures table { self.new.table ≡ self.old.table }
@@ -97,7 +95,7 @@ impl Rights {
 
 impl FirstIds {
     /// The first ids of a table, none of them held. One half of the log stays with them.
-    pub fn new(rights: Rights, history: History, log: &mut Log) -> FirstIds
+    pub(crate) fn new(rights: Rights, history: History, log: &mut Log) -> FirstIds
         requires tables { (history.table ≡ rights.table) × (log.old.table ≡ rights.table) }
         requires begun { (history.moves ≡ []) × (log.old.moves ≡ []) × (log.old.whole ≡ true) }
         requires out { AreOutOf rights.out [] }
@@ -113,15 +111,10 @@ impl FirstIds {
     /// Takes the least id of the table, if it is one of the first, by one compare and exchange. It
     /// answers none where all of these are held, or where other threads changed the word each time
     /// that it tried. The page is then left as it is.
-    pub fn take(&self, page: &mut Page) -> Option<Taken>
+    pub(crate) fn take(&self, page: &mut Page) -> Option<Taken>
         requires { page.old.table ≡ self.now.table }
-        ensures right { IfSome result (λ taken. (taken.1.table ≡ self.now.table) × (taken.1.id ≡ taken.0.id)) }
-        ensures mark { IfSome result (λ taken. taken.0.mark.table ≡ self.now.table) }
-        ensures tenure { IfSome result (λ taken. taken.2.table ≡ self.now.table) }
-        ensures least { IfSome result (λ taken. taken.0.id ≡ taken_id taken.2.before) }
-        ensures since { IfSome result (λ taken. IsPrefix page.old.moves taken.2.before) }
+        ensures taken { IfSome result (λ taken. IsTakenAfter self.now.table page.old.moves page.new.moves taken) }
         ensures table { page.new.table ≡ page.old.table }
-        ensures page { IfSome result (λ taken. page.new.moves ≡ noted taken.2.before Take) }
         ensures none { result ≡ None → page.new ≡ page.old }
     {
         for _ in 0..TRIES {
@@ -167,7 +160,7 @@ impl FirstIds {
 
     /// Looks at the word by one atomic load. If it shows that all of the first ids are held, and the
     /// caller takes a further id, then that is the least, and it is taken at this load.
-    pub fn look(&self, log: &mut Log, page: &Page, takes: bool) -> (u64, Trace)
+    pub(crate) fn look(&self, log: &mut Log, page: &Page, takes: bool) -> (u64, Trace)
         requires table { (page.now.table ≡ self.now.table) × (log.old.table ≡ self.now.table) }
         requires half { log.old.whole ≡ false }
         requires further { takes ≡ true → HasFurther (held_after log.old.moves) }
@@ -192,7 +185,7 @@ impl FirstIds {
     }
 
     /// Gives one of the first ids back, whose bit is given, by one atomic step.
-    pub fn give(&self, right: Right, mark: Right, tenure: Tenure, bit: u64) -> Page
+    pub(crate) fn give(&self, right: Right, mark: Right, tenure: Tenure, bit: u64) -> Page
         requires table { (right.table ≡ self.now.table) × (mark.table ≡ self.now.table) × (tenure.table ≡ self.now.table) }
         requires id { (right.id ≡ taken_id tenure.before) × (mark.id ≡ right.id + 2 ^ 63) }
         requires first { right.id < 58 }
@@ -210,7 +203,13 @@ impl FirstIds {
     }
 
     /// Notes that a further id is given back, at an atomic load of the word.
-    pub fn give_further(&self, log: &mut Log, right: Right, mark: Right, tenure: Tenure) -> Page
+    pub(crate) fn give_further(
+        &self,
+        log: &mut Log,
+        right: Right,
+        mark: Right,
+        tenure: Tenure,
+    ) -> Page
         requires table { (right.table ≡ self.now.table) × (mark.table ≡ self.now.table) × (tenure.table ≡ self.now.table) }
         requires log { (log.old.table ≡ self.now.table) × (log.old.whole ≡ false) }
         requires id { (right.id ≡ taken_id tenure.before) × (mark.id ≡ right.id + 2 ^ 63) }
@@ -233,7 +232,7 @@ impl FirstIds {
 
 impl Trace {
     /// Takes out what a step that took an id left.
-    pub fn into_taken(self) -> ((Right, Right), Tenure)
+    pub(crate) fn into_taken(self) -> ((Right, Right), Tenure)
         requires { self.took ≡ true }
         ensures tables { (result.0.0.table ≡ self.table) × (result.0.1.table ≡ self.table) × (result.1.table ≡ self.table) }
         ensures ids { (result.0.0.id ≡ taken_id self.before) × (result.0.1.id ≡ taken_id self.before + 2 ^ 63) }
@@ -256,7 +255,7 @@ impl Trace {
     }
 
     /// The page of the moves that a step saw which took no id.
-    pub fn into_page(self) -> Page
+    pub(crate) fn into_page(self) -> Page
         requires { self.took ≡ false }
         ensures { (result.table ≡ self.table) × (result.moves ≡ self.before) }
     {

@@ -1,14 +1,14 @@
 //! The further ids of a table, from 58 on, which lie under its lock.
 ghost use Rattle.std.specs.Prelude.{◌≡◌, ◌+◌, ◌-◌, ◌^◌, ◌≤◌, IfOk, IfSome, OnOk, OnErr, None, Ok, Err, Some, alloc_error, length, []};
 ghost use mathlib.Core.List.{IsPrefix};
-ghost use Rattle.thread_local_base.specs.IdMoves.{Take, held_after, noted};
+ghost use Rattle.thread_local_base.specs.IdMoves.{held_after};
 ghost use Rattle.thread_local_base.specs.Held.{HoldsAllBelow, NeedsMemory, IsExhausted};
-ghost use Rattle.thread_local_ids.specs.Rights.{taken_id};
+ghost use Rattle.thread_local_ids.specs.Taken.{IsHeldIn, IsTakenAfter};
 ghost use Rattle.thread_local_ids.specs.FirstIds.{IsReturn, IsSameBeyond};
 ghost use Rattle.thread_local_ids.specs.Filled.{IsFilled, TakesFurther};
 
-use crate::first::{FIRST_IDS, FirstIds, Log, Taken, is_full, peak};
-use crate::held::HeldId;
+use crate::first::{FIRST_IDS, FirstIds, Log, is_full, peak};
+use crate::held::{HeldId, Taken};
 use crate::ids::begun;
 use crate::lock::Fits;
 use crate::page::{Page, Tenure};
@@ -23,7 +23,7 @@ use thread_local_base::{LocalError, ThreadIdManager};
 ///
 /// Contracts see the manager, the table's name, the moves up to the last one of a further id, and for
 /// how many ids there was room when the table was made or cleared.
-pub struct Further {
+pub(crate) struct Further {
     pub(crate) manager: ThreadIdManager,
     pub(crate) log: Log,
     pub(crate) room: Room,
@@ -55,19 +55,15 @@ impl Further {
     /// Takes the least id of the table, if all of the first ids are held. It answers none where one of
     /// them isn't. It is refused memory only where every id is held that there was room for when the
     /// table was made or cleared.
-    pub fn take(
+    pub(crate) fn take(
         &mut self,
         first: &FirstIds,
         page: &mut Page,
         room: &Room,
     ) -> Result<Option<Taken>, LocalError>
         requires { (first.now.table ≡ self.old.table) × (page.old.table ≡ self.old.table) × (room.now.table ≡ self.old.table) }
-        ensures right { IfOk result (λ some. IfSome some (λ taken. (taken.1.table ≡ self.old.table) × (taken.1.id ≡ taken.0.id))) }
-        ensures mark { IfOk result (λ some. IfSome some (λ taken. taken.0.mark.table ≡ self.old.table)) }
-        ensures tenure { IfOk result (λ some. IfSome some (λ taken. taken.2.table ≡ self.old.table)) }
-        ensures least { IfOk result (λ some. IfSome some (λ taken. taken.0.id ≡ taken_id taken.2.before)) }
-        ensures since { IfOk result (λ some. IfSome some (λ taken. IsPrefix page.old.moves taken.2.before)) }
-        ensures moves { IfOk result (λ some. IfSome some (λ taken. page.new.moves ≡ noted taken.2.before Take)) }
+        ensures taken { IfOk result (λ some. IfSome some (λ taken.
+            IsTakenAfter self.old.table page.old.moves page.new.moves taken)) }
         ensures table { (self.new.table ≡ self.old.table) × (page.new.table ≡ page.old.table) }
         ensures none { result ≡ Ok None → page.new ≡ page.old }
         ensures early { OnErr result (IsPrefix page.old.moves page.new.moves) }
@@ -101,12 +97,15 @@ impl Further {
     }
 
     /// Takes a further id back.
-    pub fn give(&mut self, first: &FirstIds, held: HeldId, right: Right, tenure: Tenure) -> Page
-        requires table { (first.now.table ≡ self.old.table)
-            × (right.table ≡ self.old.table)
-            × (held.mark.table ≡ self.old.table)
-            × (tenure.table ≡ self.old.table) }
-        requires id { (right.id ≡ held.id) × (held.id ≡ taken_id tenure.before) }
+    pub(crate) fn give(
+        &mut self,
+        first: &FirstIds,
+        held: HeldId,
+        right: Right,
+        tenure: Tenure,
+    ) -> Page
+        requires table { first.now.table ≡ self.old.table }
+        requires held { IsHeldIn self.old.table (held, right, tenure) }
         requires further { 58 ≤ held.id }
         ensures table { (self.new.table ≡ self.old.table) × (result.table ≡ self.old.table) }
         ensures moves { IsReturn tenure.before held.id result.moves }
@@ -118,7 +117,7 @@ impl Further {
     }
 
     /// The peak of all ids, with the page of all that was done by then.
-    pub fn peak(&mut self, first: &FirstIds, page: &Page) -> (usize, Page)
+    pub(crate) fn peak(&mut self, first: &FirstIds, page: &Page) -> (usize, Page)
         requires { (first.now.table ≡ self.old.table) × (page.now.table ≡ self.old.table) }
         ensures table { (self.new.table ≡ self.old.table) × (result.1.table ≡ self.old.table) }
         ensures peak { result.0 ≡ length (held_after result.1.moves) }

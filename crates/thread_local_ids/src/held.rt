@@ -1,7 +1,11 @@
 //! An id that is held.
 ghost use Rattle.std.specs.Prelude.{◌≡◌, ◌+◌, ◌-◌, ◌^◌, ◌<◌};
 
+use crate::page::Tenure;
 use crate::right::Right;
+
+/// An id that was taken, with its right, and what is kept of its take.
+pub type Taken = (HeldId, Right, Tenure);
 
 /// A held id, as one value from the moment the id is taken until it is given back. One that is
 /// dropped or forgotten stays held until the ids are cleared.

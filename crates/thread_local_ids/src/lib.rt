@@ -3,8 +3,8 @@
 #![tactic(auto)]
 
 pub mod book;
-pub mod first;
-pub mod further;
+mod first;
+mod further;
 pub mod held;
 pub mod ids;
 pub mod lock;
@@ -20,9 +20,7 @@ pub mod witness;
 pub mod word;
 
 pub use book::Book;
-pub use first::{FirstIds, Log, Taken};
-pub use further::Further;
-pub use held::HeldId;
+pub use held::{HeldId, Taken};
 pub use ids::Ids;
 pub use lock::{Fits, Lock, LockGuard};
 pub use page::{History, Page, Tenure};

@@ -5,7 +5,7 @@ ghost use mathlib.Core.List.{IsPrefix};
 ghost use mathlib.Core.Logic.{◌∨₁◌};
 ghost use types.Logic.{sem};
 ghost use denote.Sharing.{said};
-ghost use Rattle.thread_local_base.specs.IdMoves.{IdMove, Take, Give, moves_coded, held_after, noted};
+ghost use Rattle.thread_local_base.specs.IdMoves.{IdMove, Take, moves_coded, held_after, noted};
 ghost use Rattle.thread_local_base.specs.Held.{is_held};
 ghost use Rattle.thread_local_ids.specs.Rights.{history_owns, page_owns, tenure_of, taken_id};
 
@@ -63,37 +63,6 @@ impl History {
             marker: PhantomData,
         }
     }
-
-    /// Notes that the least id was taken, which is held from now on.
-    pub fn take(&mut self) -> Tenure
-        ensures tenure { (result.table ≡ self.old.table) × (result.before ≡ self.old.moves) }
-        ensures moves { (self.new.table ≡ self.old.table) × (self.new.moves ≡ noted self.old.moves Take) }
-    {
-        Tenure {
-            marker: PhantomData,
-        }
-    }
-
-    /// Notes that an id was given back, and answers the page that ends with it.
-    pub fn give(&mut self, id: usize, tenure: Tenure) -> Page
-        requires table { tenure.table ≡ self.old.table }
-        requires id { id ≡ taken_id tenure.before }
-        requires held { is_held (held_after self.old.moves) id ≡ true }
-        ensures page { (result.table ≡ self.old.table) × (result.moves ≡ self.new.moves) }
-        ensures moves { (self.new.table ≡ self.old.table) × (self.new.moves ≡ noted self.old.moves (Give id)) }
-    {
-        let Tenure { marker: _ } = tenure;
-        Page {
-            marker: PhantomData,
-        }
-    }
-
-    /// Shows that the history extends a page of its table.
-    pub fn extends(&mut self, page: Page)
-        requires { page.table ≡ self.old.table }
-        ensures early { IsPrefix page.moves self.old.moves }
-        ensures same { self.new ≡ self.old }
-    {}
 }
 
 impl Tenure {

@@ -3,7 +3,7 @@ ghost use Rattle.std.specs.Prelude.{◌≡◌, ◌+◌, ◌≤◌, ℕ, length, 
 ghost use Rattle.thread_local_base.specs.IdMoves.{held_after};
 ghost use Rattle.thread_local_ids.specs.Rights.{reached_owns, taken_id};
 
-use crate::{History, Page, Tenure};
+use crate::{Page, Tenure};
 use std::marker::{Model, PhantomData};
 
 /// So many ids of a table were held at once, since it was made or cleared. It has no bytes.
@@ -27,15 +27,6 @@ impl Tenure {
             marker: PhantomData,
         }
     }
-}
-
-impl History {
-    /// Shows that the peak is no lower.
-    pub fn has_reached(&mut self, reached: Reached)
-        requires { reached.table ≡ self.old.table }
-        ensures peak { reached.ids ≤ length (held_after self.old.moves) }
-        ensures same { self.new ≡ self.old }
-    {}
 }
 
 impl Reached {

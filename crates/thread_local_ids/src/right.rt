@@ -58,17 +58,6 @@ impl Rights {
         }
     }
 
-    /// Puts a right back, which shows that it was out.
-    pub fn put_back(&mut self, right: Right)
-        requires { right.table ≡ self.old.table }
-        ensures was_out { is_out self.old.out right.id ≡ true }
-        ensures table { self.new.table ≡ self.old.table }
-        ensures out { (j : ℕ)
-            → is_out self.new.out j ≡ (if right.id == j then false else is_out self.old.out j) }
-    {
-        let Right { marker: _ } = right;
-    }
-
     /// Notes for how many ids the table's manager has room. The right that becomes the note is one
     /// to a number that no `usize` is.
     pub fn note_room(&mut self, manager: &ThreadIdManager) -> Room
@@ -82,12 +71,6 @@ impl Rights {
             marker: PhantomData,
         }
     }
-
-    /// Shows that two `Rights` belong to tables of different names.
-    pub fn apart(&mut self, other: &mut Rights)
-        ensures tables { self.old.table ≢ other.old.table }
-        ensures same { (self.new ≡ self.old) × (other.new ≡ other.old) }
-    {}
 }
 
 impl Right {

@@ -1,14 +1,14 @@
 //! The ids of a table while threads share it.
 ghost use Rattle.std.specs.Prelude.{◌≡◌, ◌+◌, ◌-◌, ◌^◌, ◌≤◌, IfOk, Err, alloc_error, length, [], false};
 ghost use mathlib.Core.List.{IsPrefix};
-ghost use Rattle.thread_local_base.specs.IdMoves.{Take, held_after, noted};
+ghost use Rattle.thread_local_base.specs.IdMoves.{held_after};
 ghost use Rattle.thread_local_base.specs.Held.{HoldsAllBelow};
-ghost use Rattle.thread_local_ids.specs.Rights.{taken_id};
+ghost use Rattle.thread_local_ids.specs.Taken.{IsHeldIn, IsTakenAfter};
 ghost use Rattle.thread_local_ids.specs.FirstIds.{IsReturn};
 
-use crate::first::{FIRST_IDS, FirstIds, Taken};
+use crate::first::{FIRST_IDS, FirstIds};
 use crate::further::Further;
-use crate::held::HeldId;
+use crate::held::{HeldId, Taken};
 use crate::lock::Lock;
 use crate::page::{Page, Tenure};
 use crate::reached::Reached;
@@ -45,13 +45,8 @@ impl SharedIds {
     #[inline]
     pub fn take<R: Wait>(&self, rt: &R, page: &mut Page, room: &Room) -> Result<Taken, LocalError>
         requires { (page.old.table ≡ self.now.table) × (room.now.table ≡ self.now.table) }
-        ensures right { IfOk result (λ taken. (taken.1.table ≡ self.now.table) × (taken.1.id ≡ taken.0.id)) }
-        ensures mark { IfOk result (λ taken. taken.0.mark.table ≡ self.now.table) }
-        ensures tenure { IfOk result (λ taken. taken.2.table ≡ self.now.table) }
-        ensures least { IfOk result (λ taken. taken.0.id ≡ taken_id taken.2.before) }
-        ensures since { IfOk result (λ taken. IsPrefix page.old.moves taken.2.before) }
+        ensures taken { IfOk result (λ taken. IsTakenAfter self.now.table page.old.moves page.new.moves taken) }
         ensures early { IsPrefix page.old.moves page.new.moves }
-        ensures moves { IfOk result (λ taken. page.new.moves ≡ noted taken.2.before Take) }
         ensures table { page.new.table ≡ page.old.table }
         ensures memory { result ≡ Err (LocalError.Memory alloc_error)
             → HoldsAllBelow room.now.ids (held_after page.new.moves) }
@@ -74,13 +69,8 @@ impl SharedIds {
         room: &Room,
     ) -> Result<Taken, LocalError>
         requires { (page.old.table ≡ self.now.table) × (room.now.table ≡ self.now.table) }
-        ensures right { IfOk result (λ taken. (taken.1.table ≡ self.now.table) × (taken.1.id ≡ taken.0.id)) }
-        ensures mark { IfOk result (λ taken. taken.0.mark.table ≡ self.now.table) }
-        ensures tenure { IfOk result (λ taken. taken.2.table ≡ self.now.table) }
-        ensures least { IfOk result (λ taken. taken.0.id ≡ taken_id taken.2.before) }
-        ensures since { IfOk result (λ taken. IsPrefix page.old.moves taken.2.before) }
+        ensures taken { IfOk result (λ taken. IsTakenAfter self.now.table page.old.moves page.new.moves taken) }
         ensures early { IsPrefix page.old.moves page.new.moves }
-        ensures moves { IfOk result (λ taken. page.new.moves ≡ noted taken.2.before Take) }
         ensures table { page.new.table ≡ page.old.table }
         ensures memory { result ≡ Err (LocalError.Memory alloc_error)
             → HoldsAllBelow room.now.ids (held_after page.new.moves) }
@@ -102,8 +92,7 @@ impl SharedIds {
     /// the further ids, where the id is one of these.
     #[inline]
     pub fn give<R: Wait>(&self, rt: &R, held: HeldId, right: Right, tenure: Tenure) -> Page
-        requires table { (right.table ≡ self.now.table) × (held.mark.table ≡ self.now.table) × (tenure.table ≡ self.now.table) }
-        requires id { (right.id ≡ held.id) × (held.id ≡ taken_id tenure.before) }
+        requires held { IsHeldIn self.now.table (held, right, tenure) }
         ensures table { result.table ≡ self.now.table }
         ensures moves { IsReturn tenure.before held.id result.moves }
     {
@@ -118,8 +107,7 @@ impl SharedIds {
     #[cold]
     #[inline(never)]
     fn give_further<R: Wait>(&self, rt: &R, held: HeldId, right: Right, tenure: Tenure) -> Page
-        requires table { (right.table ≡ self.now.table) × (held.mark.table ≡ self.now.table) × (tenure.table ≡ self.now.table) }
-        requires id { (right.id ≡ held.id) × (held.id ≡ taken_id tenure.before) }
+        requires held { IsHeldIn self.now.table (held, right, tenure) }
         requires further { 58 ≤ held.id }
         ensures table { result.table ≡ self.now.table }
         ensures moves { IsReturn tenure.before held.id result.moves }

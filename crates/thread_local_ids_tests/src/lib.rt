@@ -4,8 +4,6 @@
 #[cfg(test)]
 mod callers;
 #[cfg(test)]
-mod ids;
-#[cfg(test)]
 mod lock;
 #[cfg(test)]
 mod manager;

@@ -1,4 +1,4 @@
-//! Tests of rights: they go out and come back, take no bytes, and stand in types of one's own.
+//! Tests of rights: two are to two ids, they take no bytes, and stand in types of one's own.
 ghost use Rattle.std.specs.Prelude.{◌≡◌, false};
 ghost use Rattle.thread_local_ids.specs.Rights.{is_out};
 
@@ -29,16 +29,13 @@ fn hold(rights: &mut Rights, id: usize) -> Held
 }
 
 #[test]
-fn rights_go_out_and_come_back(rt: HostRuntime) {
+fn two_rights_are_apart(rt: HostRuntime) {
     let mut rights = Rights::new();
     let mut five = rights.take(5);
     let mut seven = rights.take(7);
     five.apart(&mut seven);
     mem::swap(&mut five, &mut seven);
-    rights.put_back(five);
-    rights.put_back(seven);
-    let again = rights.take(5);
-    rights.put_back(again);
+    five.apart(&mut seven);
 }
 
 #[test]

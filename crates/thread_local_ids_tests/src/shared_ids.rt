@@ -1,12 +1,11 @@
-//! Ids that threads share, about the 58th, from which on they lie under a lock.
+//! Ids that threads share, also past the 58th, from which on they lie under a lock.
 ghost use Rattle.std.specs.Prelude.{◌≡◌, IfOk, []};
-ghost use Rattle.thread_local_ids.specs.Rights.{taken_id};
+ghost use Rattle.thread_local_ids.specs.Taken.{IsHeldIn};
 
 use crate::same::assert_same;
-use std::alloc::Global;
+use std::alloc::{AllocError, Global};
+use std::mem::{forget, swap};
 use std::sync::Wait;
-use std::sync::atomic::AtomicBool;
-use std::sync::atomic::Ordering::SeqCst;
 use std::test::Fail;
 use std::thread;
 use std::thread::Threads;
@@ -15,17 +14,28 @@ use thread_local_ids::{Ids, Page, Room, SharedIds, Taken};
 
 /// The ids of a table, with its first page and its room.
 #[derive(Drop)]
-struct Table {
-    ids: SharedIds,
-    start: Page,
-    room: Room,
+pub struct Table {
+    pub ids: SharedIds,
+    pub start: Page,
+    pub room: Room,
     ghost of_one: { (start.table ≡ ids.table) × (start.moves ≡ []) × (room.table ≡ ids.table) },
 }
 
 impl Table {
     /// A new table.
-    fn new(alloc: Global) -> Table {
-        let ids = Ids::new(alloc);
+    pub fn new(alloc: Global) -> Table {
+        Table::of(Ids::new(alloc))
+    }
+
+    /// A new table with room for so many ids.
+    fn with_room(alloc: Global, ids: usize) -> Result<Table, AllocError> {
+        Ok(Table::of(Ids::with_room(alloc, ids)?))
+    }
+
+    /// The table of ids of which nothing was done yet.
+    fn of(ids: Ids) -> Table
+        requires { ids.moves ≡ [] }
+    {
         let start = ids.page();
         let room = ids.room();
         Table {
@@ -36,18 +46,15 @@ impl Table {
     }
 
     /// Takes an id.
-    fn take<R: Wait>(&self, rt: &R) -> Result<Taken, LocalError>
-        ensures right { IfOk result (λ taken. (taken.1.table ≡ self.now.ids.table) × (taken.1.id ≡ taken.0.id)) }
-        ensures mark { IfOk result (λ taken. taken.0.mark.table ≡ self.now.ids.table) }
-        ensures tenure { IfOk result (λ taken. taken.2.table ≡ self.now.ids.table) }
-        ensures least { IfOk result (λ taken. taken.0.id ≡ taken_id taken.2.before) }
+    pub fn take<R: Wait>(&self, rt: &R) -> Result<Taken, LocalError>
+        ensures { IfOk result (λ taken. IsHeldIn self.now.ids.table taken) }
     {
         let mut page = self.start.again();
         self.ids.take(rt, &mut page, &self.room)
     }
 
     /// Takes an id, and never gives it back.
-    fn take_for_ever<R: Wait>(&self, rt: &R) -> Result<usize, LocalError> {
+    pub fn take_for_ever<R: Wait>(&self, rt: &R) -> Result<usize, LocalError> {
         Ok(self.take(rt)?.0.id)
     }
 
@@ -69,28 +76,13 @@ impl Table {
         Table { ids, start, room }
     }
 
-    /// Takes an id and gives it back, `times` times. Answers how often it was none of the four from
-    /// 56 on, or another thread had it at that moment, or that memory ran out.
-    fn take_and_give<R: Wait>(
-        &self,
-        rt: &R,
-        used: &[AtomicBool; 4],
-        times: u64,
-    ) -> Result<u64, LocalError> {
-        let mut wrong = 0u64;
-        for _ in 0..times {
-            let (held, right, tenure) = self.take(rt)?;
-            if let Some(mark) = used.get(held.id.wrapping_sub(56)) {
-                if mark.swap(true, SeqCst) {
-                    wrong = wrong.saturating_add(1);
-                }
-                mark.store(false, SeqCst);
-            } else {
-                wrong = wrong.saturating_add(1);
-            }
-            self.ids.give(rt, held, right, tenure);
-        }
-        Ok(wrong)
+    /// Gives an id back, and answers it.
+    fn give<R: Wait>(&self, rt: &R, taken: Taken) -> usize
+        requires { IsHeldIn self.now.ids.table taken }
+    {
+        let id = taken.0.id;
+        self.ids.give(rt, taken.0, taken.1, taken.2);
+        id
     }
 }
 
@@ -105,10 +97,10 @@ fn the_least_id_is_taken_past_the_first_ones(rt: HostRuntime) -> Result<(), Fail
     let last = table.take(&rt)?;
     let taken = (first.0.id, further.0.id, last.0.id);
     assert_same(&rt, taken, (57, 58, 59));
-    table.ids.give(&rt, further.0, further.1, further.2);
+    table.give(&rt, further);
     assert_same(&rt, table.take_for_ever(&rt)?, 58);
-    table.ids.give(&rt, last.0, last.1, last.2);
-    table.ids.give(&rt, first.0, first.1, first.2);
+    table.give(&rt, last);
+    table.give(&rt, first);
     for id in [57, 59, 60] {
         assert_same(&rt, table.take_for_ever(&rt)?, id);
     }
@@ -132,29 +124,31 @@ fn cleared_ids_and_their_peak_begin_anew(rt: HostRuntime) -> Result<(), Fail> {
 }
 
 #[test]
-fn threads_hold_unlike_ids_about_the_58th(rt: HostRuntime) -> Result<(), Fail> {
-    let table = Table::new(rt.alloc());
-    for id in 0..56usize {
+fn room_that_was_made_is_enough(rt: HostRuntime) -> Result<(), Fail> {
+    let table = Table::with_room(rt.alloc(), 67)?;
+    // No memory is asked for here, so a refusal would be a fault of the ids.
+    for id in 0..67usize {
         assert_same(&rt, table.take_for_ever(&rt)?, id);
     }
-    let used = [
-        AtomicBool::new(false),
-        AtomicBool::new(false),
-        AtomicBool::new(false),
-        AtomicBool::new(false),
-    ];
-    let (there, marks) = (&table, &used);
-    let run = || there.take_and_give(&rt, marks, 10_000);
-    let (a, b) = thread::join(
-        &rt,
-        || thread::join(&rt, run, run),
-        || thread::join(&rt, run, run),
-    );
-    for wrong in [a.0, a.1, b.0, b.1] {
-        assert_same(&rt, wrong, Ok(0));
-    }
-    // None of the four is held, so the next are these.
-    for id in 56..60usize {
+    Ok(())
+}
+
+#[test]
+fn held_ids_are_swapped_moved_and_forgotten(rt: HostRuntime) -> Result<(), Fail> {
+    let table = Table::new(rt.alloc());
+    let mut first = table.take(&rt)?;
+    let mut second = table.take(&rt)?;
+    let third = table.take(&rt)?;
+    swap(&mut first, &mut second);
+    let swapped = (first.0.id, second.0.id, third.0.id);
+    let there = &table;
+    let given = thread::join(&rt, || there.give(&rt, first), || there.give(&rt, second));
+    forget(third);
+    let again = table.take(&rt)?;
+    let again = table.give(&rt, again);
+    assert_same(&rt, (swapped, given, again), ((1, 0, 2), (1, 0), 0));
+    // The forgotten id is held, and no other.
+    for id in [0, 1, 3] {
         assert_same(&rt, table.take_for_ever(&rt)?, id);
     }
     Ok(())

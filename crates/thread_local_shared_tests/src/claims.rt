@@ -1,12 +1,12 @@
 //! Claims that are sent or shared, and those of reserved buckets.
 
-use crate::steps::{Kept, left, publish_claimed, share, take};
+use crate::steps::{Kept, Table, left, publish_claimed, share};
 use std::cell::Cell;
 use std::test::Fail;
 use std::thread;
 use thread_local_base::Thread;
 use thread_local_buckets::Buckets;
-use thread_local_ids::{Ids, TokenList};
+use thread_local_ids::TokenList;
 use thread_local_judged::Judge;
 use thread_local_shared_buckets::{Claim, Shared};
 
@@ -19,10 +19,10 @@ impl<T: Drop> Kept<'_, T> {
 
 #[test]
 fn a_claim_goes_to_another_thread(rt: HostRuntime) -> Result<(), Fail> {
-    let mut ids = Ids::new(rt.alloc());
+    let table = Table::new(rt.alloc());
     Cell::<u64>::judge();
-    let shared = share(Buckets::with_capacity(rt.alloc(), 1)?, &ids.table_right());
-    let (held, right) = take(&mut ids)?;
+    let shared = share(Buckets::with_capacity(rt.alloc(), 1)?, &table.right);
+    let (held, right) = table.take_id(&rt)?;
     let claimed = Kept {
         claim: shared.claim(held, right),
     };
@@ -40,11 +40,11 @@ fn found(claim: &Claim<'_, u32>) -> Option<u32> {
 
 #[test]
 fn threads_share_a_claim(rt: HostRuntime) -> Result<(), Fail> {
-    let mut ids = Ids::new(rt.alloc());
+    let table = Table::new(rt.alloc());
     let mut buckets = Buckets::new(rt.alloc());
     assert!(rt; buckets.insert(Thread::new(0), 5u32).is_ok());
-    let shared = share(buckets, &ids.table_right());
-    let (held, right) = take(&mut ids)?;
+    let shared = share(buckets, &table.right);
+    let (held, right) = table.take_id(&rt)?;
     let claim = shared.claim(held, right);
     let both = thread::join(&rt, || found(&claim), || found(&claim));
     assert_eq!(rt; both, (Some(5), Some(5)));
@@ -64,13 +64,13 @@ fn stand(shared: &Shared<u32>) -> [bool; 3] {
 
 #[test]
 fn reserved_buckets_stand(rt: HostRuntime) -> Result<(), Fail> {
-    let mut ids = Ids::new(rt.alloc());
-    let shared = share(Buckets::with_capacity(rt.alloc(), 4)?, &ids.table_right());
+    let table = Table::new(rt.alloc());
+    let shared = share(Buckets::with_capacity(rt.alloc(), 4)?, &table.right);
     assert_eq!(rt;
         (shared.reserved(), stand(&shared)),
         (7, [true, true, false])
     );
-    let (held, right) = take(&mut ids)?;
+    let (held, right) = table.take_id(&rt)?;
     let claim = shared.claim(held, right);
     let is_vacant = !claim.is_missing() && claim.get().is_none();
     let published = publish_claimed(claim, 1).1;

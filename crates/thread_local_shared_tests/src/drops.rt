@@ -1,7 +1,7 @@
 //! Each value is dropped once, and a claim is forgotten.
 ghost use Rattle.std.specs.Prelude.{◌≡◌};
 
-use crate::steps::{Kept, first_three, look, publish, share, take};
+use crate::steps::{Kept, Table, first_three, look, publish, share};
 use std::alloc::Global;
 use std::mem::forget;
 use std::sync::atomic::AtomicU64;
@@ -10,7 +10,7 @@ use std::sync::{Arc, Wait};
 use std::test::Fail;
 use thread_local_base::Thread;
 use thread_local_buckets::Buckets;
-use thread_local_ids::{HeldId, Ids, Lock, Right, Rights};
+use thread_local_ids::{HeldId, Right, Rights};
 use thread_local_judged::judge_sync;
 use thread_local_shared_buckets::Shared;
 use thread_local_test_helpers::counted::Counted;
@@ -36,13 +36,13 @@ fn each_value_is_dropped_once(rt: HostRuntime) -> Result<(), Fail> {
 /// Answers how often it did.
 fn publish_counted<R: Wait>(
     shared: &Shared<Counted>,
-    ids: &Lock<Ids>,
+    table: &Table,
     rt: &R,
     alloc: Global,
     drops: &Arc<AtomicU64, Global>,
     count: u64,
 ) -> u64
-    requires { ids.now.tag ≡ shared.now.table }
+    requires { table.now.ids.table ≡ shared.now.table }
 {
     let mut published = 0u64;
     for _ in 0..count {
@@ -52,7 +52,7 @@ fn publish_counted<R: Wait>(
         let Ok(other) = Counted::new(drops) else {
             return published;
         };
-        let Ok((held, right, tenure)) = ids.lock(rt).take() else {
+        let Ok((held, right, tenure)) = table.take(rt) else {
             return published;
         };
         let (held, first) = publish(shared, (held, right), &tenure, alloc, one);
@@ -67,11 +67,10 @@ fn publish_counted<R: Wait>(
 #[test]
 fn each_published_value_is_dropped_once(rt: HostRuntime) -> Result<(), Fail> {
     let drops = Arc::new(rt.alloc(), AtomicU64::new(0))?;
-    let mut ids = Ids::new(rt.alloc());
+    let table = Table::new(rt.alloc());
     judge_sync::<Counted>();
-    let shared = share(Buckets::new(rt.alloc()), &ids.table_right());
-    let ids = Lock::new(ids);
-    let published = publish_counted(&shared, &ids, &rt, rt.alloc(), &drops, 100);
+    let shared = share(Buckets::new(rt.alloc()), &table.right);
+    let published = publish_counted(&shared, &table, &rt, rt.alloc(), &drops, 100);
     let given_way = drops.load(SeqCst);
     let mut values = shared.into_buckets_and_book().0.into_iter();
     drop(values.next());
@@ -101,15 +100,15 @@ fn found_and_forgotten(shared: &Shared<u32>, held: (HeldId, Right)) -> Option<u3
 // then makes.
 #[test]
 fn a_forgotten_claim_costs_its_own_slot(rt: HostRuntime) -> Result<(), Fail> {
-    let mut ids = Ids::new(rt.alloc());
+    let table = Table::new(rt.alloc());
     let mut buckets = Buckets::new(rt.alloc());
     assert!(rt; buckets.insert(Thread::new(0), 5u32).is_ok());
-    let shared = share(buckets, &ids.table_right());
+    let shared = share(buckets, &table.right);
     let found = [
-        found_and_forgotten(&shared, take(&mut ids)?),
-        found_and_forgotten(&shared, take(&mut ids)?),
+        found_and_forgotten(&shared, table.take_id(&rt)?),
+        found_and_forgotten(&shared, table.take_id(&rt)?),
     ];
-    let (held, right, tenure) = ids.take()?;
+    let (held, right, tenure) = table.take(&rt)?;
     let (_third, published) = publish(&shared, (held, right), &tenure, rt.alloc(), 6);
     assert_eq!(rt; (found, published), ([Some(5), None], true));
     let seen = [look(&shared, 0), look(&shared, 1), look(&shared, 2)];

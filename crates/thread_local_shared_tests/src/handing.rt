@@ -2,15 +2,16 @@
 ghost use Rattle.std.specs.Prelude.{◌≡◌, ◌-◌, ◌^◌, ◌<◌};
 ghost use Rattle.thread_local_judged.specs.Judged.{Judged};
 
-use crate::steps::{look, publish, share, take};
+use crate::steps::{Table, look, publish, share};
 use std::alloc::Global;
 use std::cell::{Cell, RefCell};
+use std::sync::Wait;
 use std::test::Fail;
 use std::thread;
 use std::thread::Threads;
 use thread_local_base::Thread;
 use thread_local_buckets::Buckets;
-use thread_local_ids::{HeldId, Ids, Right};
+use thread_local_ids::{HeldId, Right};
 use thread_local_judged::{Judge, judge_sync};
 use thread_local_shared_buckets::Shared;
 
@@ -57,10 +58,10 @@ fn look_while_claimed<R: Threads>(
 
 #[test]
 fn a_number_is_handed_on_from_thread_to_thread(rt: HostRuntime) -> Result<(), Fail> {
-    let mut ids = Ids::new(rt.alloc());
+    let table = Table::new(rt.alloc());
     Cell::<u64>::judge();
-    let shared = share(Buckets::new(rt.alloc()), &ids.table_right());
-    let (held, right, tenure) = ids.take()?;
+    let shared = share(Buckets::new(rt.alloc()), &table.right);
+    let (held, right, tenure) = table.take(&rt)?;
     let alloc = rt.alloc();
     let there = &shared;
     let own = &tenure;
@@ -79,11 +80,11 @@ fn a_number_is_handed_on_from_thread_to_thread(rt: HostRuntime) -> Result<(), Fa
 
 #[test]
 fn a_walker_sees_a_value_that_is_claimed(rt: HostRuntime) -> Result<(), Fail> {
-    let mut ids = Ids::new(rt.alloc());
+    let table = Table::new(rt.alloc());
     let mut buckets = Buckets::new(rt.alloc());
     assert!(rt; buckets.insert(Thread::new(0), 9).is_ok());
-    let mut shared = share(buckets, &ids.table_right());
-    let held = take(&mut ids)?;
+    let mut shared = share(buckets, &table.right);
+    let held = table.take_id(&rt)?;
     let (own, seen) = look_while_claimed(&rt, &shared, held);
     assert_eq!(rt; [own, seen, look(&shared, 1)], [Some(9), Some(9), None]);
     assert!(rt; shared.owner().insert(Thread::new(1), 4).is_ok());
@@ -94,12 +95,12 @@ fn a_walker_sees_a_value_that_is_claimed(rt: HostRuntime) -> Result<(), Fail> {
 
 /// Publishes a value in shared buckets of its own, and takes it back out of them. Answers whether
 /// there is one.
-fn comes_back<T: Send + Drop>(alloc: Global, value: T) -> bool
+fn comes_back<R: Wait, T: Send + Drop>(rt: &R, alloc: Global, value: T) -> bool
     requires judged { Judged T.row }
 {
-    let mut ids = Ids::new(alloc);
-    let shared = share(Buckets::new(alloc), &ids.table_right());
-    let Ok((held, right, tenure)) = ids.take() else {
+    let table = Table::new(alloc);
+    let shared = share(Buckets::new(alloc), &table.right);
+    let Ok((held, right, tenure)) = table.take(rt) else {
         return false;
     };
     let (_held, published) = publish(&shared, (held, right), &tenure, alloc, value);
@@ -119,11 +120,11 @@ fn values_of_any_type_come_back(rt: HostRuntime) -> Result<(), Fail> {
     Cell::<u64>::judge();
     RefCell::<String>::judge();
     let come_back = [
-        comes_back(alloc, 7u32),
-        comes_back(alloc, Box::new(alloc, 7u32)?),
-        comes_back(alloc, String::new(alloc)),
-        comes_back(alloc, Cell::new(7u64)),
-        comes_back(alloc, RefCell::new(String::new(alloc))),
+        comes_back(&rt, alloc, 7u32),
+        comes_back(&rt, alloc, Box::new(alloc, 7u32)?),
+        comes_back(&rt, alloc, String::new(alloc)),
+        comes_back(&rt, alloc, Cell::new(7u64)),
+        comes_back(&rt, alloc, RefCell::new(String::new(alloc))),
     ];
     assert_eq!(rt; come_back, [true; 5]);
     Ok(())

@@ -1,10 +1,10 @@
 //! Blocks are installed with a value in them, and those that come second give way.
 ghost use Rattle.std.specs.Prelude.{◌≡◌, ◌<◌, ◌^◌};
 ghost use Rattle.thread_local_bucket_pointers.specs.Slots.{empty_slots};
-ghost use Rattle.thread_local_ids.specs.Rights.{taken_id};
+ghost use Rattle.thread_local_ids.specs.Taken.{IsHeldIn};
 ghost use Rattle.thread_local_base.specs.Place.{bucket_of};
 
-use crate::steps::{Kept, left, look, publish_claimed, share, take};
+use crate::steps::{Kept, Table, left, look, publish_claimed, share};
 use std::alloc::Global;
 use std::cell::{Cell, RefCell};
 use std::sync::Wait;
@@ -12,7 +12,7 @@ use std::test::Fail;
 use thread_local_base::bucket_size;
 use thread_local_bucket_pointers::Block;
 use thread_local_buckets::Buckets;
-use thread_local_ids::{HeldId, Ids, Lock, Reached, Right, Tenure};
+use thread_local_ids::{Reached, Taken};
 use thread_local_shared_buckets::{Claim, Shared};
 use thread_local_test_helpers::memory::take_all_but;
 
@@ -59,10 +59,8 @@ impl<'a, T: Drop> Early<'a, T> {
 }
 
 /// Claims an id that was taken.
-fn claim_early<T>(shared: &Shared<T>, taken: (HeldId, Right, Tenure)) -> Early<'_, T>
-    requires table { (taken.1.table ≡ shared.now.table) × (taken.0.mark.table ≡ shared.now.table) }
-    requires id { taken.1.id ≡ taken.0.id }
-    requires tenure { (taken.2.table ≡ shared.now.table) × (taken.0.id ≡ taken_id taken.2.before) }
+fn claim_early<T>(shared: &Shared<T>, taken: Taken) -> Early<'_, T>
+    requires { IsHeldIn shared.now.table taken }
 {
     let (held, right, tenure) = taken;
     Early {
@@ -77,12 +75,12 @@ fn claim_early<T>(shared: &Shared<T>, taken: (HeldId, Right, Tenure)) -> Early<'
 /// often it did.
 fn offer_by_all<R: Wait>(
     shared: &Shared<u64>,
-    ids: &Lock<Ids>,
+    table: &Table,
     rt: &R,
     alloc: &Global,
     count: u64,
 ) -> u64
-    requires { ids.now.tag ≡ shared.now.table }
+    requires { table.now.ids.table ≡ shared.now.table }
 {
     let mut offered = 0u64;
     let Ok(heap) = alloc.clone() else {
@@ -90,7 +88,7 @@ fn offer_by_all<R: Wait>(
     };
     let mut claims = Vec::new(heap);
     for _ in 0..count {
-        let Ok(taken) = ids.lock(rt).take() else {
+        let Ok(taken) = table.take(rt) else {
             return offered;
         };
         if claims.push(claim_early(shared, taken)).is_err() {
@@ -119,15 +117,14 @@ fn slots_and_values(shared: Shared<u64>) -> (usize, usize) {
 // published in the block that came first.
 #[test]
 fn blocks_that_come_second_are_freed(rt: HostRuntime) -> Result<(), Fail> {
-    let mut ids = Ids::new(rt.alloc());
-    let shared = share(Buckets::new(rt.alloc()), &ids.table_right());
+    let table = Table::new(rt.alloc());
+    let shared = share(Buckets::new(rt.alloc()), &table.right);
     for _ in 0..1_048_575 {
-        let _held = take(&mut ids)?;
+        let _held = table.take_id(&rt)?;
     }
-    let ids = Lock::new(ids);
     let alloc = rt.alloc();
     let taken = take_all_but(alloc, 1 << 30)?;
-    let offered = offer_by_all(&shared, &ids, &rt, &alloc, 1000);
+    let offered = offer_by_all(&shared, &table, &rt, &alloc, 1000);
     drop(taken);
     assert_eq!(rt;
         (offered, slots_and_values(shared)),
@@ -185,11 +182,11 @@ fn offer_two(
 // published in the first's block.
 #[test]
 fn the_second_of_two_blocks_gives_way(rt: HostRuntime) -> Result<(), Fail> {
-    let mut ids = Ids::new(rt.alloc());
-    let shared = share(Buckets::new(rt.alloc()), &ids.table_right());
-    let _first = take(&mut ids)?;
-    let second = claim_early(&shared, ids.take()?);
-    let third = claim_early(&shared, ids.take()?);
+    let table = Table::new(rt.alloc());
+    let shared = share(Buckets::new(rt.alloc()), &table.right);
+    let _first = table.take_id(&rt)?;
+    let second = claim_early(&shared, table.take(&rt)?);
+    let third = claim_early(&shared, table.take(&rt)?);
     let offered = offer_two(&shared, second, third, &rt.alloc());
     assert_eq!(rt;
         offered,
@@ -214,11 +211,11 @@ fn publish_late(early: Early<'_, u32>, value: u32) -> bool {
 
 #[test]
 fn an_early_claim_finds_its_bucket_later(rt: HostRuntime) -> Result<(), Fail> {
-    let mut ids = Ids::new(rt.alloc());
-    let shared = share(Buckets::new(rt.alloc()), &ids.table_right());
-    let _first = take(&mut ids)?;
-    let second = claim_early(&shared, ids.take()?);
-    let third = claim_early(&shared, ids.take()?);
+    let table = Table::new(rt.alloc());
+    let shared = share(Buckets::new(rt.alloc()), &table.right);
+    let _first = table.take_id(&rt)?;
+    let second = claim_early(&shared, table.take(&rt)?);
+    let third = claim_early(&shared, table.take(&rt)?);
     let offered = third.offer(&rt.alloc(), 7);
     let published = publish_late(second, 5);
     assert_eq!(rt;
@@ -251,11 +248,11 @@ fn publish_in_room(early: Early<'_, u32>, alloc: &Global, value: u32) -> bool {
 
 #[test]
 fn an_early_claim_makes_no_block_where_its_bucket_stands(rt: HostRuntime) -> Result<(), Fail> {
-    let mut ids = Ids::new(rt.alloc());
-    let shared = share(Buckets::new(rt.alloc()), &ids.table_right());
-    let _first = take(&mut ids)?;
-    let second = claim_early(&shared, ids.take()?);
-    let third = claim_early(&shared, ids.take()?);
+    let table = Table::new(rt.alloc());
+    let shared = share(Buckets::new(rt.alloc()), &table.right);
+    let _first = table.take_id(&rt)?;
+    let second = claim_early(&shared, table.take(&rt)?);
+    let third = claim_early(&shared, table.take(&rt)?);
     let offered = third.offer(&rt.alloc(), 7);
     let published = publish_in_room(second, &rt.alloc(), 5);
     assert_eq!(rt; (offered, published), (true, true));
@@ -287,9 +284,9 @@ fn make_and_release(early: Early<'_, u32>, alloc: &Global) -> [bool; 2] {
 
 #[test]
 fn room_for_a_value_installs_nothing(rt: HostRuntime) -> Result<(), Fail> {
-    let mut ids = Ids::new(rt.alloc());
-    let shared = share(Buckets::new(rt.alloc()), &ids.table_right());
-    let first = claim_early(&shared, ids.take()?);
+    let table = Table::new(rt.alloc());
+    let shared = share(Buckets::new(rt.alloc()), &table.right);
+    let first = claim_early(&shared, table.take(&rt)?);
     let made = make_and_release(first, &rt.alloc());
     assert_eq!(rt; (made, left(shared)), ([true; 2], (0, [None; 3])));
     Ok(())

@@ -1,10 +1,9 @@
 //! A look finds the value of its own slot.
 
-use crate::steps::{look, share};
+use crate::steps::{Table, look, share};
 use std::test::Fail;
 use thread_local_base::Thread;
 use thread_local_buckets::Buckets;
-use thread_local_ids::Ids;
 use thread_local_shared_buckets::Shared;
 
 /// What a walker finds at three ids, each in a bucket of its own, the last at neither end of its
@@ -15,7 +14,7 @@ fn seen(shared: &Shared<u32>) -> [Option<u32>; 3] {
 
 #[test]
 fn a_look_finds_what_was_put_into_its_slot(rt: HostRuntime) -> Result<(), Fail> {
-    let mut ids = Ids::new(rt.alloc());
+    let table = Table::new(rt.alloc());
     let mut buckets = Buckets::new(rt.alloc());
     let inserted = [
         buckets.insert(Thread::new(0), 5).is_ok(),
@@ -23,7 +22,7 @@ fn a_look_finds_what_was_put_into_its_slot(rt: HostRuntime) -> Result<(), Fail> 
         buckets.insert(Thread::new(1234), 7).is_ok(),
     ];
     assert_eq!(rt; inserted, [true; 3]);
-    let mut shared = share(buckets, &ids.table_right());
+    let mut shared = share(buckets, &table.right);
     let before = seen(&shared);
     let slots = shared.owner().slots();
     let values = [Some(5), Some(6), Some(7)];

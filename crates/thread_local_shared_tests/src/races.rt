@@ -1,38 +1,36 @@
 //! Threads race to install buckets and to publish.
 ghost use Rattle.std.specs.Prelude.{◌≡◌};
 
-use crate::steps::{publish, share};
+use crate::steps::{Table, publish, share};
 use std::alloc::Global;
 use std::sync::Wait;
 use std::test::Fail;
 use std::thread;
 use std::thread::Threads;
 use thread_local_buckets::Buckets;
-use thread_local_ids::{Ids, Lock};
 use thread_local_shared_buckets::Shared;
 
-/// Shared buckets, and the lock over their ids.
+/// Shared buckets, and their ids.
 #[derive(Drop)]
 struct Racing {
     shared: Shared<usize>,
-    ids: Lock<Ids>,
-    ghost tied: { ids.tag ≡ shared.table },
+    table: Table,
+    ghost tied: { table.ids.table ≡ shared.table },
 }
 
 impl Racing {
     /// Empty buckets, and no id held.
     fn new(alloc: Global) -> Racing {
-        let mut ids = Ids::new(alloc);
-        let shared = share(Buckets::new(alloc), &ids.table_right());
-        let ids = Lock::new(ids);
-        Racing { shared, ids }
+        let table = Table::new(alloc);
+        let shared = share(Buckets::new(alloc), &table.right);
+        Racing { shared, table }
     }
 
     /// Takes 16 ids, and publishes each one's own number at it. Answers how often it did.
     fn publish_own<R: Wait>(&self, rt: &R, alloc: Global) -> u64 {
         let mut published = 0u64;
         for _ in 0..16 {
-            let Ok((held, right, tenure)) = self.ids.lock(rt).take() else {
+            let Ok((held, right, tenure)) = self.table.take(rt) else {
                 return published;
             };
             let id = held.id;
@@ -57,7 +55,7 @@ fn publish_by_eight<R: Wait + Threads + Sync>(racing: &Racing, rt: &R, alloc: Gl
 
 /// Whether an owner's walk gives 0 to 127, in order.
 fn gives_all(racing: Racing) -> bool {
-    let Racing { shared, ids: _ } = racing;
+    let Racing { shared, table: _ } = racing;
     let mut next = 0usize;
     for value in shared.into_buckets_and_book().0 {
         if value != next {

@@ -1,26 +1,57 @@
 //! What a test does with one id of a table.
 ghost use Rattle.std.specs.Prelude.{◌≡◌, ◌-◌, ◌^◌, ◌<◌, IfOk, IsSome};
 ghost use Rattle.thread_local_judged.specs.Judged.{Judged};
-ghost use Rattle.thread_local_ids.specs.Rights.{taken_id};
+ghost use Rattle.thread_local_ids.specs.Taken.{IsHeldIn};
 ghost use Rattle.thread_local_base.specs.Bits.{is_set};
 
 use std::alloc::Global;
+use std::sync::Wait;
 use thread_local_base::{LocalError, Thread, bucket_size};
 use thread_local_bucket_pointers::flag_word_at;
 use thread_local_buckets::Buckets;
-use thread_local_ids::{HeldId, Ids, Right, Tenure, TokenList};
+use thread_local_ids::{HeldId, Ids, Page, Right, Room, SharedIds, Taken, Tenure, TokenList};
 use thread_local_shared_buckets::{Claim, Shared};
 
-/// Takes an id that isn't given back.
-pub fn take(ids: &mut Ids) -> Result<(HeldId, Right), LocalError>
-    ensures taken { IfOk result (λ taken.
-        (taken.1.table ≡ ids.old.table)
-        × (taken.0.mark.table ≡ ids.old.table)
-        × (taken.1.id ≡ taken.0.id)) }
-    ensures table { ids.new.table ≡ ids.old.table }
-{
-    let (held, right, _) = ids.take()?;
-    Ok((held, right))
+/// The ids of a table, with the table's right, its first page and its room.
+#[derive(Drop)]
+pub struct Table {
+    pub ids: SharedIds,
+    pub right: Right,
+    start: Page,
+    room: Room,
+    ghost of_one: { (right.table ≡ ids.table) × (start.table ≡ ids.table) × (room.table ≡ ids.table) },
+}
+
+impl Table {
+    /// None of the ids is held.
+    pub fn new(alloc: Global) -> Table {
+        let mut ids = Ids::new(alloc);
+        let right = ids.table_right();
+        let start = ids.page();
+        let room = ids.room();
+        Table {
+            ids: ids.into_shared(),
+            right,
+            start,
+            room,
+        }
+    }
+
+    /// Takes an id that isn't given back.
+    pub fn take<R: Wait>(&self, rt: &R) -> Result<Taken, LocalError>
+        ensures { IfOk result (λ taken. IsHeldIn self.now.ids.table taken) }
+    {
+        self.ids.take(rt, &mut self.start.again(), &self.room)
+    }
+
+    /// The same without its tenure.
+    pub fn take_id<R: Wait>(&self, rt: &R) -> Result<(HeldId, Right), LocalError>
+        ensures right { IfOk result (λ taken. (taken.1.table ≡ self.now.ids.table) × (taken.1.id ≡ taken.0.id)) }
+        ensures mark { IfOk result (λ taken. taken.0.mark.table ≡ self.now.ids.table) }
+    {
+        let (held, right, _) = self.take(rt)?;
+        Ok((held, right))
+    }
 }
 
 /// Lets threads share an owner's buckets. The sharing may have any name.
@@ -64,9 +95,7 @@ pub fn publish<T: Drop>(
     alloc: Global,
     value: T,
 ) -> ((HeldId, Right), bool)
-    requires table { (held.1.table ≡ shared.now.table) × (held.0.mark.table ≡ shared.now.table) }
-    requires id { held.1.id ≡ held.0.id }
-    requires tenure { (tenure.now.table ≡ shared.now.table) × (held.0.id ≡ taken_id tenure.now.before) }
+    requires { IsHeldIn shared.now.table (held.0, held.1, tenure.now) }
     ensures table { (result.0.1.table ≡ shared.now.table) × (result.0.0.mark.table ≡ shared.now.table) }
     ensures id { (result.0.0.id ≡ held.0.id) × (result.0.1.id ≡ held.0.id) }
 {

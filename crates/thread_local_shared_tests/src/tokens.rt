@@ -1,16 +1,16 @@
 //! What slots were published with, as tokens say it: to claims, to walkers and to an owner.
 ghost use Rattle.std.specs.Prelude.{◌≡◌, ◌≢◌, ◌-◌, ◌<◌, Some, IfSome, IsSome};
-ghost use Rattle.thread_local_ids.specs.Rights.{taken_id};
+ghost use Rattle.thread_local_ids.specs.Taken.{IsHeldIn};
 ghost use Rattle.thread_local_base.specs.Buckets.{values};
 ghost use Rattle.thread_local_base.specs.Learnt.{Vacant};
 
-use crate::steps::{publish, share, take};
+use crate::steps::{Table, publish, share};
 use std::alloc::Global;
 use std::cell::Cell;
 use std::test::Fail;
 use thread_local_base::Thread;
 use thread_local_buckets::Buckets;
-use thread_local_ids::{HeldId, Ids, Right, Tenure, Token};
+use thread_local_ids::{HeldId, Right, Tenure, Token};
 use thread_local_judged::{Judge, judge_sync};
 use thread_local_shared_buckets::{Claim, Shared};
 
@@ -22,9 +22,7 @@ fn told<T: Drop>(
     alloc: Global,
     value: T,
 ) -> ((HeldId, Right), Option<Token<T>>)
-    requires table { (held.1.table ≡ shared.now.table) × (held.0.mark.table ≡ shared.now.table) }
-    requires id { held.1.id ≡ held.0.id }
-    requires tenure { (tenure.now.table ≡ shared.now.table) × (held.0.id ≡ taken_id tenure.now.before) }
+    requires { IsHeldIn shared.now.table (held.0, held.1, tenure.now) }
     ensures table { (result.0.1.table ≡ shared.now.table) × (result.0.0.mark.table ≡ shared.now.table) }
     ensures id { (result.0.0.id ≡ held.0.id) × (result.0.1.id ≡ held.0.id) }
     ensures token { IfSome result.1 (λ token.
@@ -128,13 +126,13 @@ fn found_by_two(
 
 #[test]
 fn a_token_says_what_was_published(rt: HostRuntime) -> Result<(), Fail> {
-    let mut ids = Ids::new(rt.alloc());
-    let shared = share(Buckets::new(rt.alloc()), &ids.table_right());
-    let (held, right, tenure) = ids.take()?;
+    let table = Table::new(rt.alloc());
+    let shared = share(Buckets::new(rt.alloc()), &table.right);
+    let (held, right, tenure) = table.take(&rt)?;
     let (held, token) = told(&shared, (held, right), &tenure, rt.alloc(), 7u32);
     let token = token.expect(&rt, "a token");
     let seen = held_again(&shared, held, &token);
-    let (second, right, tenure) = ids.take()?;
+    let (second, right, tenure) = table.take(&rt)?;
     let (_, other) = told(&shared, (second, right), &tenure, rt.alloc(), 8);
     let other = other.expect(&rt, "a token");
     are_one(&token, &token.again());
@@ -150,9 +148,9 @@ fn a_token_says_what_was_published(rt: HostRuntime) -> Result<(), Fail> {
 
 #[test]
 fn a_vacant_slot_has_no_token(rt: HostRuntime) -> Result<(), Fail> {
-    let mut ids = Ids::new(rt.alloc());
-    let shared = share::<u32>(Buckets::with_capacity(rt.alloc(), 1)?, &ids.table_right());
-    let (held, right) = take(&mut ids)?;
+    let table = Table::new(rt.alloc());
+    let shared = share::<u32>(Buckets::with_capacity(rt.alloc(), 1)?, &table.right);
+    let (held, right) = table.take_id(&rt)?;
     let mut claim = shared.claim(held, right);
     let before = claim.token().is_none();
     let after = if claim.is_missing() || claim.get().is_some() {
@@ -168,10 +166,10 @@ fn a_vacant_slot_has_no_token(rt: HostRuntime) -> Result<(), Fail> {
 
 #[test]
 fn a_text_is_read_by_its_token(rt: HostRuntime) -> Result<(), Fail> {
-    let mut ids = Ids::new(rt.alloc());
+    let table = Table::new(rt.alloc());
     judge_sync::<String>();
-    let shared = share(Buckets::new(rt.alloc()), &ids.table_right());
-    let (held, right, tenure) = ids.take()?;
+    let shared = share(Buckets::new(rt.alloc()), &table.right);
+    let (held, right, tenure) = table.take(&rt)?;
     let text = String::new(rt.alloc());
     let (_, token) = told(&shared, (held, right), &tenure, rt.alloc(), text);
     let len = token.map(|token| read(&shared, &token).len());
@@ -189,12 +187,11 @@ fn cells(alloc: Global, own: &Right) -> Shared<Cell<u32>>
 
 #[test]
 fn renewed_buckets_keep_their_values(rt: HostRuntime) -> Result<(), Fail> {
-    let mut ids = Ids::new(rt.alloc());
-    let own = ids.table_right();
-    let mut shared = cells(rt.alloc(), &own);
-    let (held, right, tenure) = ids.take()?;
+    let table = Table::new(rt.alloc());
+    let mut shared = cells(rt.alloc(), &table.right);
+    let (held, right, tenure) = table.take(&rt)?;
     let (held, first) = told(&shared, (held, right), &tenure, rt.alloc(), Cell::new(3));
-    renewed(&mut shared, &own);
+    renewed(&mut shared, &table.right);
     let (_, second) = told(&shared, held, &tenure, rt.alloc(), Cell::new(4));
     let slots = shared.slots_reached().0;
     let values = shared

@@ -12,5 +12,5 @@ invariant_of-result g c =
     (makes_local (thread_local_view c.table.inside.buckets c.table.inside.room.ids) made.result c.args.tenure given.id made.ensures.same_slot.0
     made.ensures.same_slot.1 made.ensures.same_slot.2 given.in_range made.ensures.learnt
     made.ensures.reserved
-    (c.requires.table.2 ∙ sym (ap (λ (t : ThreadLocalView). t.table) c.table.view_is))
-    c.requires.id.1)
+    (c.requires.tenure ∙ sym (ap (λ (t : ThreadLocalView). t.table) c.table.view_is))
+    c.requires.least)

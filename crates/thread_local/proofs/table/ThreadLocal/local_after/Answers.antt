@@ -4,20 +4,20 @@ use Rattle.std.specs.Prelude.{List, Bool}
 use Rattle.thread_local_base.specs.Held.{least, held_count, HoldsAllBelow}
 use Rattle.thread_local_base.specs.IdMoves.{IdMove, held_after}
 use Rattle.thread_local.proofs.Counted.{all_below_count}
+use Rattle.thread_local_ids.specs.Taken.{IsHeldIn}
 use Rattle.thread_local.proofs.table.ThreadLocal.local_after.Goals as goal
 
--- The search for these takes a second.
+-- The search for this takes a second.
 pub new-requires : goal.new-requires
 new-requires g c =
-    let taken = c.in_ok-held.ensures in
     let table : c.self.inside.ids.table ≡ c.args.self.now.table =
     c.self.invariant.0 ∙ ap (λ (t : ThreadLocalView). t.table) c.self.view_is
-    in (lit< tt, ((taken.right.0 ∙ table, taken.mark ∙ table, taken.tenure ∙ table), (taken.right.1, taken.least)))
+    in (lit< tt, subst (λ (n : ℕ). IsHeldIn n (c.in_ok-held.held, c.in_ok-held.right, c.in_ok-held.tenure)) table c.in_ok-held.ensures.taken.held)
 
 pub returns-clause-least : goal.returns-clause-least
 returns-clause-least g c =
     c.new.ensures.id.0
-    ∙ c.in_ok-held.ensures.least
+    ∙ c.in_ok-held.ensures.taken.held.least
     ∙ ap (λ (before : List IdMove). least (held_after before))
     (sym c.new.ensures.id.1)
 
