@@ -1,5 +1,6 @@
-//! The ids of a table, each with its right, the history of their takes and returns, and the lock under
-//! which a table keeps them; and tokens, which say what the slots of ids were published with.
+//! The ids of a table, each with its right, and the history of their takes and returns. The first 58
+//! are bits of a word, and the others lie under a lock. Tokens, which say what the slots of ids were
+//! published with.
 #![tactic(auto)]
 
 pub mod book;

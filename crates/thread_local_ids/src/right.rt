@@ -1,6 +1,6 @@
 //! The right to an id is out, as a `Right` with one holder, or it is in the table's `Rights`. The
-//! same holds of numbers that are no ids, which marks, the table's own right, its history and its
-//! room are to. Neither type has bytes, and no call does anything at run time.
+//! same holds of numbers that are no ids, which marks, the table's own right, its history, its room
+//! and its log are to. Neither type has bytes, and no call does anything at run time.
 ghost use Rattle.std.specs.Prelude.{◌≡◌, ◌≢◌, ℕ, ◌==◌, ◌^◌, ◌-◌, true, false, List, [], if◌then◌else◌};
 ghost use types.Logic.{sem};
 ghost use Rattle.thread_local_ids.specs.Rights.{is_out, right_owns, rights_own};

@@ -18,8 +18,9 @@ use std::marker::Model;
 use std::sync::Wait;
 use thread_local_base::LocalError;
 
-/// Gives out the least id that isn't held, and takes ids back, while threads share it. The first 58
-/// ids take no lock.
+/// Gives out the least id that isn't held, and takes ids back, while threads share it. An id below 58
+/// is given back without the lock, and taken without it unless other threads take or return ids at
+/// the same time. Only `take` may take memory.
 pub struct SharedIds {
     pub(crate) first: FirstIds,
     pub(crate) further: Lock<Further>,
@@ -41,7 +42,9 @@ impl Model for SharedIds {
 impl SharedIds {
     /// Takes the least id that isn't held, with its right, and leaves the page of all that was done
     /// so far, where it is refused too. It waits only where all of the first ids are held, or where
-    /// other threads take and give at the same time.
+    /// other threads take or return ids at the same time. `Memory` means out of memory, where all ids
+    /// from 58 on are held that there is room for; the first 64 need none. `Exhausted` means that
+    /// all 2^63 - 1 ids are held.
     #[inline]
     pub fn take<R: Wait>(&self, rt: &R, page: &mut Page, room: &Room) -> Result<Taken, LocalError>
         requires { (page.old.table ≡ self.now.table) × (room.now.table ≡ self.now.table) }
