@@ -122,16 +122,6 @@ module _ {V : Type 0} where
         counted = omega (arith, before, first);
       }
 
-  -- or one that doesn't
-  pub counted_absent : (c : Contents V) (count left rest b : ℕ) (so : IsCounted c left count) → Takes c rest so.from b
-      → row c b ≡ [] → IsCounted c rest count
-  counted_absent c count left rest b so taken absent = record {
-    from = b + 1;
-    low = (let low = taken.in_table in omega arith);
-    ahead = taken.ahead;
-    counted = counted_up c count rest so.from b taken so.counted ∙ sym (count_below-absent c b absent);
-  }
-
   pub counted_fits : (c : Contents V) (left count : ℕ) → IsCounted c left count → count < 2 ^ 63
   counted_fits c left count so =
       let fits = count_below-fits (values c) so.from so.low in omega (arith, fits, so.counted)

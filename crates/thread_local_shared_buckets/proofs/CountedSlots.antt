@@ -40,9 +40,6 @@ module _ (reserved left rest slots bucket : ℕ) (so : Counted reserved left slo
   taken : Takes {V = ℕ} no_rows rest so.from bucket
   taken = takes no_rows left rest so.from bucket so.ahead low but
 
-  pub in_table : bucket < 63
-  in_table = taken.in_table
-
   -- all that is counted lies before the bucket
   few : slots ≤ 2 ^ bucket - 1
   few = let up : 2 ^ so.from ≤ 2 ^ bucket = pow_mono taken.after in let most = so.most in omega (arith, up, most)
@@ -55,13 +52,6 @@ module _ (reserved left rest slots bucket : ℕ) (so : Counted reserved left slo
       let low : bucket < 63 = taken.in_table in
       let all = so.all in
       record { from = bucket + 1; in_table = omega (arith, low); ahead = taken.ahead; most = omega (arith, twice, some, few, is); all = omega (arith, all) }
-
-  -- or it doesn't
-  pub none : Counted reserved rest slots
-  none =
-      let twice : 2 ^ (bucket + 1) ≡ 2 ^ bucket + 2 ^ bucket = rw add-one (two-pow-succ bucket) in
-      let low : bucket < 63 = taken.in_table in
-      record { from = bucket + 1; in_table = omega (arith, low); ahead = taken.ahead; most = omega (arith, twice, few); all = so.all }
 
   -- what it shows where it stands allows for all slots up to it
   allowed_by : (t : Bool) (size ids : ℕ) → nat_lt (id_at bucket 0) reserved ≡ t → size ≡ 2 ^ bucket → ids ≡ ids_shown true t bucket
@@ -78,11 +68,3 @@ module _ (reserved left rest slots bucket : ℕ) (so : Counted reserved left slo
   pub allowed : (size ids : ℕ) → size ≡ 2 ^ bucket → ids ≡ ids_shown true (nat_lt (id_at bucket 0) reserved) bucket
       → slots + size ≤ max reserved (2 * ids - 1)
   allowed size ids = allowed_by (nat_lt (id_at bucket 0) reserved) size ids refl
-
--- all counted slots are those of the 63 buckets at most
-pub fits : (reserved left slots : ℕ) → Counted reserved left slots → slots < 2 ^ 63
-fits reserved left slots so =
-    let up : 2 ^ so.from ≤ 2 ^ 63 = pow_mono so.in_table in
-    let some = pow_pos so.from in
-    let most = so.most in
-    omega (arith, up, some, most)

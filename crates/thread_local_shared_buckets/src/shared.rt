@@ -199,9 +199,9 @@ impl<T> Shared<T> {
     }
 
     /// How many slots the buckets have that stand, and that so many ids of the table were held at
-    /// once, as these slots show. It loads which buckets are announced, and then the pointer of each
-    /// of them that isn't reserved, one after another. So a bucket that is installed meanwhile may be
-    /// counted or not.
+    /// once, as these slots show. It loads which buckets are announced, and then the pointers of
+    /// those that aren't reserved, one after another. So a bucket that is installed meanwhile may
+    /// be counted or not.
     pub fn slots_reached(&self) -> (usize, Reached)
         ensures reserved { self.now.reserved ≤ result.0 }
         ensures most { result.0 < 2 ^ 63 }

@@ -9,6 +9,7 @@ use Rattle.thread_local_base.proofs.Names.{pass_all, free_all, look_at, get, thr
 use Rattle.thread_local_base.proofs.Names.{yes, RattleType, owns, types_at, plain, block_ptr, nothing}
 use Rattle.thread_local_base.proofs.Names.{unhide, param, layouts, RefOf, shr_vals, shr_Tells, Stays, stay_dropped}
 use Rattle.thread_local_base.proofs.Names.{walk_of, Goes-dropped, proved, leaves, fm, found, finds, tail}
+use Rattle.thread_local_base.proofs.Walking.{knows, lends_token, returns_token}
 use Rattle.std.proofs.raw_atomic.Calls as calls
 use Rattle.std.proofs.raw_atomic.Calls.{seq_cst}
 use Rattle.std.proofs.Common.{◌≡◌, true, false}
@@ -20,7 +21,6 @@ use denote.Steps.{heard}
 use types.Kit.{feq_l, split3}
 use Rattle.thread_local_base.specs.Bits.{is_set}
 use Rattle.thread_local_base.specs.Fact.{fact as said_fact}
-use Rattle.thread_local_base.proofs.Walking.{knows, lends_token, returns_token}
 use Rattle.thread_local_ids.specs.Views.{TokenView}
 use Rattle.thread_local_ids.specs.TokenLists.{tell_each}
 use Rattle.thread_local_ids.specs.contracts.token_list.TokenList as TokenList

@@ -16,11 +16,13 @@ give-requires g c =
     ∙ sym c.self.invariant.table
     in
     record {
-      right = given.table.0 ∙ sym table;
-      mark = given.table.1 ∙ sym table;
-      tenure = c.self.invariant.of_table ∙ sym c.self.invariant.table ∙ sym table;
-      id = given.id.1 ∙ sym given.id.0;
-      least = given.id.0 ∙ c.self.invariant.least;
+      held = record {
+        right = given.table.0 ∙ sym table;
+        mark = given.table.1 ∙ sym table;
+        tenure = c.self.invariant.of_table ∙ sym c.self.invariant.table ∙ sym table;
+        id = given.id.1 ∙ sym given.id.0;
+        least = given.id.0 ∙ c.self.invariant.least;
+      };
     }
 
 pub returns-clause-moves : goal.returns-clause-moves

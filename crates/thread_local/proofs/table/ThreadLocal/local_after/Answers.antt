@@ -1,4 +1,4 @@
-use Rattle.std.proofs.Common.{rules, arith, ◌≤◌, ◌≡◌, ◌∙◌, sym, ap, lit<}
+use Rattle.std.proofs.Common.{rules, arith, ◌≤◌, ◌≡◌, ◌∙◌, ℕ, sym, ap, subst, lit<}
 use Rattle.thread_local.specs.Tables.{ThreadLocalView}
 use Rattle.std.specs.Prelude.{List, Bool}
 use Rattle.thread_local_base.specs.Held.{least, held_count, HoldsAllBelow}

@@ -1,5 +1,4 @@
 -- `set` is one atomic or of the word: the bit is set, so the bucket is announced for good.
-use Rattle.thread_local_base.proofs.Walking.{lends_token, returns_token}
 use Rattle.thread_local_base.proofs.Names.{ℕ, ◌+◌, ◌^◌, [], ◌∷◌, refl, lit<, w64, named, Val}
 use Rattle.thread_local_base.proofs.Names.{vint, vptr, SProp, via, Lft, Share, Fml}
 use Rattle.thread_local_base.proofs.Names.{ftrue, fsep, flft, ‵, raw, ◌⊛◌, mean, at_ret, ◌$◌, ◌∵◌}
@@ -10,6 +9,7 @@ use Rattle.thread_local_base.proofs.Names.{pass_all, free_all, look_at, get, thr
 use Rattle.thread_local_base.proofs.Names.{yes, RattleType, owns, types_at, plain, block_ptr, nothing}
 use Rattle.thread_local_base.proofs.Names.{unhide, RefOf, shr_vals, shr_Tells, Stays, stay_dropped}
 use Rattle.thread_local_base.proofs.Names.{walk_of, Goes-dropped, proved, leaves, fm, found, finds, tail}
+use Rattle.thread_local_base.proofs.Walking.{lends_token, returns_token}
 use Rattle.std.proofs.raw_atomic.Calls as calls
 use Rattle.std.proofs.raw_atomic.Calls.{seq_cst}
 use Rattle.std.proofs.Common.{◌≡◌, ◌*◌, ◌%◌, ◌<◌}

@@ -1,6 +1,5 @@
 -- `exchange` lends the block for a lifetime of its own, and ends that lifetime if another block was
 -- installed first. Then the claim finds its slot empty, and else it holds the block's value.
-use Rattle.thread_local_base.proofs.Walking.{lends_token, returns_token}
 use Rattle.thread_local_base.proofs.Names.{fpack, vint, w64, usize, uint_vals, uint_Tells, yes, ◌≡◌, ℕ, ◌+◌, ◌^◌}
 use Rattle.thread_local_base.proofs.Names.{false, sem, List, [], ◌∷◌, refl, sym, ap, ◌∙◌, lit<, Option, None, Some}
 use Rattle.thread_local_base.proofs.Names.{Body, a_type, Val, vptr, vcons, vnil, inst_fn, dnil, SProp, emp, via}
@@ -16,6 +15,7 @@ use Rattle.thread_local_base.proofs.Names.{fact_i, no, RattleType, owns, types_a
 use Rattle.thread_local_base.proofs.Names.{block_of, count_of, at_block, InBlock, ptr_val, nothing, heard, param}
 use Rattle.thread_local_base.proofs.Names.{layout, Stays, stay_dropped, walk_of, Goes-dropped, proved, leaves, fm}
 use Rattle.thread_local_base.proofs.Names.{after, u64}
+use Rattle.thread_local_base.proofs.Walking.{lends_token, returns_token}
 use Rattle.std.proofs.Common.{zero, suc, ◌++◌, ◌-◌, arith, IfSome, IsSome, length, length-set, ◌*◌, ◌<◌, ◌≤◌, subst}
 use Rattle.std.specs.Prelude.{MatchOption, slice_set}
 use Rattle.std.proofs.lemmas.List.{length-replicate}
