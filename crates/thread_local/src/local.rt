@@ -252,8 +252,8 @@ impl<'a, T, R: Wait> Local<'a, T, R> {
         self.get().is_some()
     }
 
-    /// Fills the slot if it is empty: finds its bucket or makes a block for it, then calls the
-    /// closure and publishes its value.
+    /// Fills the slot if it is empty.
+    #[inline]
     fn fill<F: FnOnce() -> T + Drop>(&mut self, create: F) -> Result<(), AllocError>
         requires { self.old.value ≡ None → F.pre create }
         ensures ok { OnOk result (IsFilled ⊤ (F.post create) self.old self.new) }
@@ -261,12 +261,27 @@ impl<'a, T, R: Wait> Local<'a, T, R> {
         ensures granted { self.old.known ≡ true → IsOk result }
         ensures has_value { IsSome self.old.value → IsOk result }
     {
-        if !self.is_published() {
-            let table = self.table;
-            let thread = self.place();
-            let block = self.room(&table.alloc, thread)?;
-            self.publish_in(&table.alloc, thread, block, create());
+        if self.is_published() {
+            return Ok(());
         }
+        self.fill_empty(create)
+    }
+
+    /// Fills the slot, which is empty: finds its bucket or makes a block for it, then calls the
+    /// closure and publishes its value. It is never inlined, so that a call that finds a value is
+    /// short.
+    #[inline(never)]
+    fn fill_empty<F: FnOnce() -> T + Drop>(&mut self, create: F) -> Result<(), AllocError>
+        requires empty { self.old.value ≡ None }
+        requires { F.pre create }
+        ensures ok { OnOk result (IsFilled ⊤ (F.post create) self.old self.new) }
+        ensures err { OnErr result (IsRefused ⊤ self.old self.new) }
+        ensures granted { self.old.known ≡ true → IsOk result }
+    {
+        let table = self.table;
+        let thread = self.place();
+        let block = self.room(&table.alloc, thread)?;
+        self.publish_in(&table.alloc, thread, block, create());
         Ok(())
     }
 

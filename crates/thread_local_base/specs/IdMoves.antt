@@ -1,5 +1,4 @@
--- The history of a table's ids: what was done with them, in the order in which it was done under the
--- table's lock.
+-- The history of a table's ids: what was done with them, in the order of its atomic steps.
 use Rattle.std.specs.Prelude.{ℕ, Bool, List, [], ◌∷◌, ◌++◌, Option, None, Some, refl, ◌≡◌}
 use Rattle.std.specs.Coded.{Coded, coded_option, coded_ℕ, code_by}
 use base.Stored.{coded_list}

@@ -17,7 +17,7 @@ use denote.Sharing.{said, beside, some, ends, always, within}
 use Rattle.thread_local_base.specs.Fact.{fact}
 use Rattle.thread_local_base.specs.SharedWord.{word_invariant}
 
--- what a contract sees of a lock: the tag of its value, which never changes
+-- what a contract sees of a lock: the tag of its value, which stays while threads share the lock
 pub record LockView : Type 0 where
   pub tag : ℕ
 

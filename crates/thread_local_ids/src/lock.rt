@@ -15,7 +15,7 @@ mod lends;
 
 /// What a lock keeps true of its value.
 pub trait Fits {
-    /// A number of the value that stays as it was when the lock was made.
+    /// A number of the value that stays as it is while threads share the lock.
     ghost tag: { Self → ℕ };
 
     /// What holds of the value whenever the lock is free.
@@ -44,7 +44,7 @@ const YIELDS: u64 = 99;
 /// A contract sees the tag of the value.
 ///
 /// Only `lock` may wait, and no call takes memory, whatever a drop of the value does. A guard that
-/// is forgotten leaves the lock taken until its owner takes it apart.
+/// is forgotten leaves the lock taken until its owner calls `get_mut` or takes it apart.
 pub struct Lock<V: Fits> {
     word: u64,
     value: V,
@@ -180,7 +180,7 @@ impl<V: Fits> Lock<V> {
 }
 
 impl<V: Fits> LockGuard<'_, V> {
-    /// Forgets the guard: the lock stays taken until its owner takes it apart.
+    /// Forgets the guard: the lock stays taken until its owner calls `get_mut` or takes it apart.
     pub fn forget(self) {
         let Self { lock: _, marker: _ } = self;
     }
