@@ -261,10 +261,10 @@ impl<'a, T, R: Wait> Local<'a, T, R> {
         ensures granted { self.old.known ≡ true → IsOk result }
         ensures has_value { IsSome self.old.value → IsOk result }
     {
-        if self.is_published() {
-            return Ok(());
+        if !self.is_published() {
+            self.fill_empty(create)?;
         }
-        self.fill_empty(create)
+        Ok(())
     }
 
     /// Fills the slot, which is empty: finds its bucket or makes a block for it, then calls the
@@ -273,7 +273,7 @@ impl<'a, T, R: Wait> Local<'a, T, R> {
     #[inline(never)]
     fn fill_empty<F: FnOnce() -> T + Drop>(&mut self, create: F) -> Result<(), AllocError>
         requires empty { self.old.value ≡ None }
-        requires { F.pre create }
+        requires callable { F.pre create }
         ensures ok { OnOk result (IsFilled ⊤ (F.post create) self.old self.new) }
         ensures err { OnErr result (IsRefused ⊤ self.old self.new) }
         ensures granted { self.old.known ≡ true → IsOk result }

@@ -24,7 +24,6 @@ pub use announcements::Announcements;
 pub use claim::Claim;
 pub use entries::Entries;
 pub use iter::Iter;
-pub use replaced::replace_with;
 pub use row::Row;
 pub use seen::Seen;
 pub use shared::Shared;
