@@ -10,7 +10,7 @@ use Rattle.thread_local_base.specs.Place.{id_at}
 use Rattle.thread_local_base.specs.Buckets.{Contents, row, values}
 use Rattle.thread_local_base.specs.Rows.{value_in}
 use Rattle.thread_local_base.specs.Owner.{NoneBelow}
-use Rattle.thread_local_bucket_pointers.specs.Cursor.{at_bucket, AreFlagsAt, IsAt}
+use Rattle.thread_local_bucket_pointers.specs.Cursor.{at_bucket, behind_next, AreFlagsAt, IsAt}
 use Rattle.thread_local_bucket_pointers.specs.declared.cursor.RawIter.{RawIter}
 use Rattle.thread_local_base.proofs.TakingLaws.{NoneBelow-slot}
 
@@ -107,28 +107,19 @@ module _ {V : Type 0} where
         first = rw at_bit low;
       }
 
-  -- the flags of a chunk are those of the 64 slots from its first on
-  pub chunk_read : (c : Contents V) (raw from : RawIter) (chunk word : ℕ) → from ≡ raw
-      → ((bit : ℕ) → bit < 64
-      → is_set word bit ≡ is_some (value_in c from.bucket (chunk * 64 + bit)))
-      → AreFlagsAt c raw.bucket (chunk * 64) word
-  chunk_read c raw from chunk word same read =
-      let here : chunk * 64 / 64 ≡ chunk = omega arith in
-      rw (here, ← same) read
-
   -- behind a chunk whose flags were read
-  pub behind_chunk : (c : Contents V) (raw : RawIter) (chunk word : ℕ) → IsAt c raw 0
-      → length (row c raw.bucket) ≡ raw.bucket_size → chunk * 64 < raw.bucket_size
-      → NoneBelow (values c) (id_at raw.bucket (chunk * 64)) → AreFlagsAt c raw.bucket (chunk * 64) word
-      → IsAt c (record { yielded = raw.yielded; bucket = raw.bucket; bucket_size = raw.bucket_size; index = (chunk + 1) * 64 }) word
-  behind_chunk c raw chunk word at whole inside none flags =
-      let from : (chunk + 1) * 64 - 64 ≡ chunk * 64 = omega arith in
+  pub behind_chunk : (c : Contents V) (raw : RawIter) (word : ℕ) → IsAt c raw 0 → raw.index < raw.bucket_size
+      → length (row c raw.bucket) ≡ raw.bucket_size → AreFlagsAt c raw.bucket raw.index word
+      → IsAt c (behind_next raw) word
+  behind_chunk c raw word at inside whole flags =
+      let from : raw.index + 64 - 64 ≡ raw.index = omega arith in
+      let round = at.round in
       record {
         in_table = at.in_table;
         size = at.size;
         round = omega arith;
         within = omega arith;
-        behind = rw from none;
+        behind = rw from (none_at_hand c raw raw.index at (omega arith) (omega arith));
         whole = λ _. whole;
         flags = λ _. rw from flags;
         none = λ start. absurd (omega arith);

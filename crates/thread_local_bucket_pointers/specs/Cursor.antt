@@ -14,6 +14,11 @@ use Rattle.thread_local_bucket_pointers.specs.declared.cursor.OwnerCursor.{Owner
 abbrev pub at_bucket : RawIter → ℕ → RawIter
 at_bucket raw bucket = record { yielded = raw.yielded; bucket = bucket; bucket_size = 2 ^ bucket; index = 0 }
 
+-- the walk behind the next chunk of its bucket
+abbrev pub behind_next : RawIter → RawIter
+behind_next raw =
+    record { yielded = raw.yielded; bucket = raw.bucket; bucket_size = raw.bucket_size; index = raw.index + 64 }
+
 -- these are the flags of the chunk that a place is in, a bit each
 abbrev pub AreFlagsAt : {V : Type 0} → Contents V → ℕ → ℕ → ℕ → Type 0
 AreFlagsAt contents bucket index flags =

@@ -45,8 +45,6 @@ pub(crate) fn bytes_of_block<T>(len: usize) -> usize
 pub(crate) fn fits<T>(len: usize) -> bool
     ensures { result ≡ true → Fits T.row len }
 {
-    match len.checked_mul(value_size::<T>()) {
-        Some(bytes) => bytes < VALUES_LIMIT,
-        None => false,
-    }
+    let size = value_size::<T>();
+    size == 0 || len <= (VALUES_LIMIT - 1) / size
 }

@@ -8,7 +8,7 @@ ghost use Rattle.thread_local_base.specs.Rows.{value_in, with_slot};
 ghost use Rattle.thread_local_base.specs.Walk.{walk, paired};
 ghost use Rattle.thread_local_base.specs.Owner.{NoneBelow};
 ghost use Rattle.thread_local_bucket_pointers.specs.Announced.{AreAhead};
-ghost use Rattle.thread_local_bucket_pointers.specs.Cursor.{at_bucket, read_to, slot_at, values_left, AreFlagsAt};
+ghost use Rattle.thread_local_bucket_pointers.specs.Cursor.{at_bucket, behind_next, read_to, slot_at, values_left, AreFlagsAt};
 ghost use Rattle.thread_local_bucket_pointers.specs.Cursor.{HasRead, IsAt, IsOwnerWalk, MayRead};
 
 use crate::take_first;
@@ -94,43 +94,65 @@ pub fn write_struct<W: fmt::Write, D: fmt::Debug>(
     f.debug_struct(name).field(field, value).finish()
 }
 
-/// Advances past the bucket's next flags that aren't 0 and returns them, or returns 0 where there
-/// are none.
-fn flags_in_bucket<P: FlagSource>(source: &mut P, raw: &mut RawIter) -> u64
+/// Reads the flags of the bucket's next chunk, and goes behind it.
+#[inline]
+fn next_chunk<P: FlagSource>(source: &mut P, raw: &mut RawIter) -> u64
     requires at { IsAt (P.contents source.old) raw.old 0 }
+    requires inside { raw.old.index < raw.old.bucket_size }
     requires whole { length (row (P.contents source.old) raw.old.bucket) ≡ raw.old.bucket_size }
     requires ahead { P.given source.old ≤ read_to raw.old }
     ensures same { source.new ≡ source.old }
-    ensures found { 0 < result → IsAt (P.contents source.old) raw.new result }
+    ensures at { IsAt (P.contents source.old) raw.new result }
+    ensures behind { raw.new ≡ behind_next raw.old }
+{
+    let flags = source.flags(raw.bucket, raw.index / 64);
+    raw.index += 64;
+    flags
+}
+
+/// Advances past the bucket's next flags that aren't 0 and returns them, or returns 0 where there
+/// are none. The bucket must have flags that aren't read.
+#[inline]
+fn flags_in_bucket<P: FlagSource>(source: &mut P, raw: &mut RawIter) -> u64
+    requires at { IsAt (P.contents source.old) raw.old 0 }
+    requires inside { raw.old.index < raw.old.bucket_size }
+    requires whole { length (row (P.contents source.old) raw.old.bucket) ≡ raw.old.bucket_size }
+    requires ahead { P.given source.old ≤ read_to raw.old }
+    ensures same { source.new ≡ source.old }
+    ensures at { IsAt (P.contents source.old) raw.new result }
     ensures ahead { P.given source.old ≤ read_to raw.new }
     ensures yielded { raw.new.yielded ≡ raw.old.yielded }
     ensures bucket { raw.new.bucket ≡ raw.old.bucket }
     ensures behind { result ≡ 0
         → NoneBelow (values (P.contents source.old)) (id_at raw.old.bucket raw.old.bucket_size) }
 {
-    for chunk in raw.index / 64..(raw.bucket_size + 63) / 64 {
-        let flags = source.flags(raw.bucket, chunk);
+    'chunks: loop {
+        let flags = next_chunk(source, raw);
         if flags != 0 {
-            raw.index = (chunk + 1) * 64;
             return flags;
         }
+        if raw.index >= raw.bucket_size {
+            return 0;
+        }
     }
-    0
 }
 
-/// `flags_in_bucket` where the bucket stands, and else 0.
+/// `flags_in_bucket` where the bucket stands and has flags that aren't read, and else 0.
 #[inline]
 fn flags_here<P: FlagSource>(source: &mut P, raw: &mut RawIter) -> u64
     requires at { IsAt (P.contents source.old) raw.old 0 }
     requires ahead { P.given source.old ≤ read_to raw.old }
     ensures same { source.new ≡ source.old }
-    ensures found { 0 < result → IsAt (P.contents source.old) raw.new result }
+    ensures at { IsAt (P.contents source.old) raw.new result }
     ensures ahead { P.given source.old ≤ read_to raw.new }
     ensures yielded { raw.new.yielded ≡ raw.old.yielded }
     ensures bucket { raw.new.bucket ≡ raw.old.bucket }
     ensures before { P.given source.old ≤ id_at (raw.old.bucket + 1) 0 }
     ensures behind { result ≡ 0 → NoneBelow (values (P.contents source.old)) (id_at (raw.old.bucket + 1) 0) }
 {
+    if raw.index >= raw.bucket_size {
+        return 0;
+    }
     if !source.stands(raw.bucket) {
         return 0;
     }

@@ -4,6 +4,7 @@ ghost use Rattle.thread_local_base.specs.Place.{id_at};
 ghost use Rattle.thread_local_base.specs.Buckets.{row, values};
 ghost use Rattle.thread_local_base.specs.Walk.{walk};
 ghost use Rattle.thread_local_base.specs.Counting.{count_below};
+ghost use Rattle.thread_local_bucket_pointers.specs.Announced.{AreAhead};
 
 use super::BucketPointers;
 use crate::{FlagSource, take_first};
@@ -87,6 +88,29 @@ impl<T> BucketPointers<T> {
         count
     }
 
+    /// How many values there are, where so many are in the first seven buckets, and these are the
+    /// further buckets that are announced. It is never inlined, so that the count of a table without
+    /// such buckets is short.
+    #[cold]
+    #[inline(never)]
+    fn count_further(&mut self, counted: usize, further: u64) -> usize
+        requires counted { counted ≡ count_below (values self.old) (id_at 7 0) }
+        requires ahead { AreAhead self.old further 7 }
+        ensures same { self.new ≡ self.old }
+        ensures counted { result ≡ length (walk (values self.old)) }
+        ensures fits { result < 2 ^ 63 }
+    {
+        let mut count = counted;
+        let mut left = further;
+        'buckets: while left != 0 {
+            let bucket = take_first(&mut left);
+            if self.stands(bucket) {
+                count += self.count_in_bucket(bucket, bucket_size(bucket));
+            }
+        }
+        count
+    }
+
     /// How many values there are. It reads the flags of all slots of the buckets that stand. Behind
     /// the first seven buckets only announced ones are looked at.
     #[inline(never)]
@@ -95,14 +119,11 @@ impl<T> BucketPointers<T> {
         ensures counted { result ≡ length (walk (values self.old)) }
         ensures fits { result < 2 ^ 63 }
     {
-        let mut count = self.count_in_first();
-        let mut left = self.further();
-        'buckets: while left != 0 {
-            let bucket = take_first(&mut left);
-            if self.stands(bucket) {
-                count += self.count_in_bucket(bucket, bucket_size(bucket));
-            }
+        let count = self.count_in_first();
+        let further = self.further();
+        if further == 0 {
+            return count;
         }
-        count
+        self.count_further(count, further)
     }
 }

@@ -11,6 +11,7 @@ use thread_local_bucket_pointers::OwnerCursor;
 
 impl<T> Buckets<T> {
     /// The cursor of a walk over all values, which it counts.
+    #[inline]
     pub(crate) fn begin_walk(&mut self) -> OwnerCursor
         ensures same { self.new ≡ self.old }
         ensures walk { IsOwnerWalk self.old.contents result }

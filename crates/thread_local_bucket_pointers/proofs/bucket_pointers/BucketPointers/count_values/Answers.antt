@@ -1,32 +1,27 @@
-use Rattle.std.proofs.Common.{◌+◌, ◌∙◌, arith}
-use Rattle.thread_local_bucket_pointers.proofs.Counting.{counted_more, counted_fits, counted_all}
+use Rattle.std.proofs.Common.{arith, subst}
+use Rattle.thread_local_base.specs.Buckets.{Contents}
+use Rattle.thread_local_bucket_pointers.specs.Announced.{AreAhead}
+use Rattle.thread_local_bucket_pointers.proofs.Counting.{counted_fits, counted_all}
 use Rattle.thread_local_bucket_pointers.proofs.bucket_pointers.BucketPointers.count_values.Goals as goal
 
-pub overflow_add-count : goal.overflow_add-count
-overflow_add-count g c =
-    let so = c.buckets.invariant.counted in
-    let next =
-    counted_more c.stands.new.self c.args.self.now c.buckets.count c.count_in_bucket-count.result c.buckets.left
-    c.take_first-bucket.new.buckets c.take_first-bucket.result so c.take_first-bucket.ensures.first
-    c.take_first-bucket.ensures.rest (c.stands.ensures.same ∙ c.buckets.invariant.same)
-    c.count_in_bucket-count.ensures.counted in
-    let fits = counted_fits c.args.self.now c.take_first-bucket.new.buckets (c.buckets.count + c.count_in_bucket-count.result) next in
-    omega (arith, fits)
+pub returns-then-further-eq0-clause-counted : goal.returns-then-further-eq0-clause-counted
+returns-then-further-eq0-clause-counted g c =
+    let first = c.count_in_first-count in
+    let further = c.further-further in
+    counted_all c.args.self.now further.result first.result (record {
+      from = 7;
+      low = omega arith;
+      ahead = subst (λ (w : Contents g.row.T.Denot). AreAhead w further.result 7) first.ensures.same further.ensures.ahead;
+      counted = first.ensures.counted;
+    }) c.if-further-eq0.true
 
-pub buckets-preserved-then-stands : goal.buckets-preserved-then-stands
-buckets-preserved-then-stands g c =
-    record {
-      counted =
-          counted_more c.stands.new.self c.args.self.now c.buckets.count c.count_in_bucket-count.result c.buckets.left
-          c.take_first-bucket.new.buckets c.take_first-bucket.result c.buckets.invariant.counted
-          c.take_first-bucket.ensures.first c.take_first-bucket.ensures.rest
-          (c.stands.ensures.same ∙ c.buckets.invariant.same) c.count_in_bucket-count.ensures.counted;
-      same = c.count_in_bucket-count.ensures.same ∙ c.stands.ensures.same ∙ c.buckets.invariant.same;
-    }
-
-pub returns-clause-counted : goal.returns-clause-counted
-returns-clause-counted g c =
-    counted_all c.args.self.now c.buckets.left c.buckets.count c.buckets.invariant.counted c.buckets-test.false
-
-pub returns-clause-fits : goal.returns-clause-fits
-returns-clause-fits g c = counted_fits c.args.self.now c.buckets.left c.buckets.count c.buckets.invariant.counted
+pub returns-then-further-eq0-clause-fits : goal.returns-then-further-eq0-clause-fits
+returns-then-further-eq0-clause-fits g c =
+    let first = c.count_in_first-count in
+    let further = c.further-further in
+    counted_fits c.args.self.now further.result first.result (record {
+      from = 7;
+      low = omega arith;
+      ahead = subst (λ (w : Contents g.row.T.Denot). AreAhead w further.result 7) first.ensures.same further.ensures.ahead;
+      counted = first.ensures.counted;
+    })

@@ -1,6 +1,6 @@
 use Rattle.std.proofs.Common.{◌≡◌}
 use Rattle.thread_local_bucket_pointers.proofs.Counting.{IsCounted}
-use Rattle.thread_local_bucket_pointers.proofs.bucket_pointers.BucketPointers.count_values.Given as goal
+use Rattle.thread_local_bucket_pointers.proofs.bucket_pointers.BucketPointers.count_further.Given as goal
 
 -- the values of the buckets that are taken out of the word are counted
 abbrev pub invariant-buckets : goal.invariant-buckets
