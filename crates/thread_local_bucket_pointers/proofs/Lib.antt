@@ -10,6 +10,7 @@ pub mod CountingLaws
 pub mod FlagLaws
 pub mod NextValue
 pub mod Each
+pub mod ChunkFlags
 pub mod Flags
 pub mod Rooms
 pub mod Slots

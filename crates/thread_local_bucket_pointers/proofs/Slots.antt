@@ -1,6 +1,6 @@
 -- Taking a slot and its chunk's word out of a block, and putting them back. Assumes `Logic`.
-use Rattle.thread_local_base.proofs.Names.{◌≡◌, ◌≢◌, ℕ, ◌+◌, ◌*◌, ◌^◌, ◌<◌, List, [], ◌∷◌, length, length-set, set}
-use Rattle.thread_local_base.proofs.Names.{get_or, refl, sym, ap, ◌∙◌, subst, arith, lit<, T, false, Option, Some}
+use Rattle.thread_local_base.proofs.Names.{◌≡◌, ℕ, ◌+◌, ◌*◌, ◌^◌, ◌<◌, List, [], ◌∷◌, length, length-set, set}
+use Rattle.thread_local_base.proofs.Names.{get_or, refl, sym, ap, ◌∙◌, subst, arith, lit<, T, Option, Some}
 use Rattle.thread_local_base.proofs.Names.{None, is_some, Ura, Ty, ty_ptr, has_ty, WT, SProp, ex, all}
 use Rattle.thread_local_base.proofs.Names.{all_e, guard, apply∗, Fml, ftrue, Logic, ‵, raw, ◌⊛◌, ◌$◌, ◌∵◌, ! }
 use Rattle.thread_local_base.proofs.Names.{qed, by, move, drop, split, fsplit, fsplit3, fjoin3, fpick, fpack, check}
@@ -8,12 +8,12 @@ use Rattle.thread_local_base.proofs.Names.{show, frame, each as for_each, assume
 use Rattle.thread_local_base.proofs.Names.{RattleType, Ptr, block_ptr, null_ptr, ptr_val, block_of, count_of, InBlock}
 use Rattle.thread_local_base.proofs.Names.{nothing}
 use Rattle.std.specs.Prelude.{◌/◌, ◌%◌, IsSome}
-use Rattle.std.proofs.Common.{true≢false, ⊎_elim}
-use Rattle.std.proofs.lemmas.Bool.{eq-eqb, ne_eqb, cases_eq}
-use Rattle.std.proofs.lemmas.List.{get_or-set_same, get_or-set_other, set-get_or}
+use Rattle.std.proofs.Common.{true≢false}
+use Rattle.std.proofs.lemmas.List.{set-get_or}
 use Rattle.thread_local_base.specs.Bits.{is_set, IsWordBut}
 use Rattle.thread_local_bucket_pointers.specs.Slots.{slot_value, chunks, stride, value_words, Fits, flag_word_at, AreFlags, each}
 use Rattle.thread_local_bucket_pointers.specs.Slots.{flags_at, slot, back, flags_own, block_ty, block_owns}
+use Rattle.thread_local_bucket_pointers.proofs.ChunkFlags.{HasFlags}
 use Rattle.thread_local_bucket_pointers.proofs.Each.{Put, each_at}
 use Rattle.thread_local_bucket_pointers.proofs.Flags.{in_chunks, chunk_in, word_near, value_near, number_is, flag_read, flags_set}
 use Rattle.thread_local_base.proofs.Signs.{signs}
@@ -30,7 +30,7 @@ ptr_good null_ptr = (tt, record { fits = lit< tt })
 -- a word whose bits are the flags of a chunk of these slots
 pub record IsWordOf {X : Type 0} (slots : List (Option X)) (chunk word : ℕ) : Type 0 where
   pub fits : word < 2 ^ 64
-  pub flags : (bit : ℕ) → bit < 64 → is_set word bit ≡ is_some (slot_value slots (chunk * 64 + bit))
+  pub flags : HasFlags slots chunk word
 
 -- a chunk's word is inside a block of n slots, and code finds it
 pub record IsWordNear (R : RattleType) (n chunk : ℕ) : Type 0 where
@@ -63,25 +63,6 @@ module _ {X : Type 0} (slots : List (Option X)) where
   slot_flag j word is =
       let same : j / 64 * 64 + j % 64 ≡ j = omega arith in
       is.flags (j % 64) (omega arith) ∙ ap (λ (i : ℕ). is_some (slot_value slots i)) same
-
-  -- a word with the flags of a chunk, but for one slot's, is the chunk's word but for that slot's
-  -- bit
-  pub leaves_slot : (j word new : ℕ) → j < length slots → IsWordOf slots (j / 64) word
-      → ((bit : ℕ) → bit < 64
-      → is_set new bit ≡ is_some (slot_value (set slots j None) (j / 64 * 64 + bit)))
-      → IsWordBut new word (j % 64) false
-  leaves_slot j word new near is leaves bit within =
-      let at : ℕ = j / 64 * 64 + bit in
-      leaves bit within
-      ∙ ⊎_elim
-      (λ (here : j % 64 ≡ bit).
-      let same : at ≡ j = omega arith in
-      rw (same, here, eq-eqb bit bit refl) (ap is_some (get_or-set_same slots j None None near)))
-      (λ (apart : j % 64 ≢ bit).
-      let other : at ≢ j = λ e. apart (omega arith) in
-      rw (ne_eqb (j % 64) bit apart)
-      (ap is_some (get_or-set_other slots j at None None other) ∙ sym (is.flags bit within)))
-      (cases_eq (j % 64) bit)
 
   pub word_of : (ns : List ℕ) (c : ℕ) → AreFlags ns slots → IsWordOf slots c (get_or ns c 0)
   word_of ns c are = record { fits = are.words c; flags = λ bit within. flag_read ns slots c bit are within }

@@ -83,11 +83,27 @@ impl<T> BucketPointer<T> {
         requires empty { slot_value self.old.slots index ≡ None }
         ensures { self.new.slots ≡ slice_set self.old.slots index (Some value) }
     {
+        let flags = self.flags(index / 64, flag_word);
+        self.publish_and_store(index, flag_word, flags | 1 << (index % 64), value);
+    }
+
+    /// Puts a value into an empty slot, and then stores `flags` as the word of this number, which is
+    /// the slot's. `flags` are those of the slot's chunk, with this slot's set.
+    #[inline]
+    pub fn publish_and_store(&mut self, index: usize, flag_word: usize, flags: u64, value: T)
+        requires in_block { index < length self.old.slots }
+        requires flag_word { flag_word ≡ flag_word_at T.row (length self.old.slots) (index / 64) }
+        requires empty { slot_value self.old.slots index ≡ None }
+        requires flags { (bit : ℕ)
+            → bit < 64
+            → is_set flags bit
+            ≡ is_some (slot_value (slice_set self.old.slots index (Some value)) (index / 64 * 64 + bit)) }
+        ensures { self.new.slots ≡ slice_set self.old.slots index (Some value) }
+    {
         let at = self.at;
         unsafe {
             (at as *mut T).add(index).write(value);
-            let flags = (at as *mut u64).add(flag_word);
-            *flags |= 1 << (index % 64);
+            (at as *mut u64).add(flag_word).write(flags);
         }
     }
 

@@ -13,10 +13,10 @@ use Rattle.thread_local_base.proofs.Names.{block_ptr, block_of, count_of, at_blo
 use Rattle.thread_local_base.proofs.Names.{peeks, shows, param, layout, layouts, param_laws, usize, u64, mut_vals}
 use Rattle.thread_local_base.proofs.Names.{mut_Tells, uint_vals, uint_Tells, Stays, stay_dropped, stay_ref, walk_of}
 use Rattle.thread_local_base.proofs.Names.{Goes-dropped, Goes-ref, cell_at, Member, proved, leaves, after, spread}
-use Rattle.std.specs.Prelude.{◌/◌, ◌%◌, is_some, IsSome}
-use Rattle.thread_local_base.specs.Bits.{is_set}
+use Rattle.std.specs.Prelude.{◌/◌, IsSome}
 use Rattle.thread_local_bucket_pointers.specs.Slots.{slot_value, stride, value_words, flag_word_at, value_offset, content_at, heap_token}
-use Rattle.thread_local_bucket_pointers.proofs.Slots.{IsSlotIn, Change, flags_of, slot_of, value_of, leaves_slot}
+use Rattle.thread_local_bucket_pointers.proofs.Slots.{IsSlotIn, Change, flags_of, slot_of, value_of}
+use Rattle.thread_local_bucket_pointers.proofs.ChunkFlags.{HasFlags, bit_changed}
 use Rattle.thread_local_bucket_pointers.proofs.Flags.{uncapped}
 use Rattle.thread_local_bucket_pointers.specs.PointerOwns.{pointer_owns}
 use Rattle.thread_local_bucket_pointers.specs.contracts.bucket_pointer.BucketPointer as one_pointer
@@ -59,19 +59,18 @@ take_and_store_spec 𝓤 𝓛 𝓜 𝓡 wired T L =
     let j : ℕ = a.1.0 in let w : ℕ = a.1.1.0 in
     let new : ℕ = a.1.1.1.0 in
     let others : Fml = fsep (flft κs.1.0 qs.1.0) ftrue in let b : ℕ = block_of p in let k : ℕ = j / 64 in
-    let i : ℕ = j % 64 in
     let at : ℕ = value_offset R (count_of p) j in
     let s : Option T.Denot = slot_value cs j in
     let LR = (param_laws 0 T L).lawful 𝓛 in let m : Member = record { row = R; ty = layout T } in
-    let RetiredBlock : Type 0 = (bit : ℕ) → bit < 64 → is_set new bit ≡ is_some (slot_value (set cs j None) (k * 64 + bit)) in
+    let Cleared : Type 0 = HasFlags (set cs j None) k new in
     qed 𝓛 (((‵ (flft κs.0 qs.0) ⊛ ‵ others) ⊛ ‵ (owns (types_at En.signature.params κs) a y.0.4))
     ∷ raw (fact 𝓤 _)
     ∷ (raw (fact 𝓤 (j < length cs)) ⊛ raw (fact 𝓤 (w ≡ flag_word_at R (length cs) k))
-    ⊛ raw (fact 𝓤 (IsSome s)) ⊛ raw (fact 𝓤 RetiredBlock))
+    ⊛ raw (fact 𝓤 (IsSome s)) ⊛ raw (fact 𝓤 Cleared))
     ∷ []) ∵
     keep ! (2 ∷ 0 ∷ []) $ split3 ! $ heard ! (j < length cs) (λ near.
     heard ! (w ≡ flag_word_at R (length cs) k) (λ numbered. split ! $ heard ! (IsSome s) (λ full.
-    heard ! RetiredBlock (λ leaving.
+    heard ! Cleared (λ cleared.
     let x : T.Denot = (value_of s full).0 in
     let lies : s ≡ Some x = (value_of s full).1 in
     split ! $ split ! $ move ! (2 ∷ []) $ fsplit ! $ fsplit3 ! $ keep ! (1 ∷ 2 ∷ 4 ∷ 5 ∷ []) $
@@ -92,7 +91,6 @@ take_and_store_spec 𝓤 𝓛 𝓜 𝓡 wired T L =
     let number_at : w ≡ value_words R (length cs) + k = numbered ∙ so.place.number in
     let small : w * 8 < 2 ^ 64 = subst (λ (m : ℕ). m * 8 < 2 ^ 64) (sym number_at) so.place.near in
     let near_value : j * stride R < 2 ^ 64 = so.value_near in
-    let read : n < 2 ^ 64 = so.is_word.fits in
     let seen : us ≡ pointer_val (block_ptr b (count_of p)) ∷ [] =
     told R p us known.0 ∙ ap (λ (u : Ptr). pointer_val u ∷ []) (at_block p so.lies) in
     let Cell = λ (ws : List Val). ‵ (cell_at full_share PointerRow.mir ws b' o') in
@@ -106,7 +104,7 @@ take_and_store_spec 𝓤 𝓛 𝓜 𝓡 wired T L =
       new = new;
       value = None;
       fits = fits;
-      but = leaves_slot cs j n new near so.is_word leaving;
+      but = bit_changed cs j None n new near so.is_word.flags cleared;
     } in
     sets ! (of_opd ! (load ! (through ! refl (fld ! refl (stop !))) (look_in ! 5 (sub ! 0 refl (whole !))))) refl (tt, tt) $
     first ! $ blocks ! $ sets ! (of_opd ! (get ! refl)) refl (tt, tt) $
