@@ -90,7 +90,7 @@ impl<T> BucketPointer<T> {
     /// Puts a value into an empty slot, and then stores `flags` as the word of this number, which is
     /// the slot's. `flags` are those of the slot's chunk, with this slot's set.
     #[inline]
-    pub fn publish_and_store(&mut self, index: usize, flag_word: usize, flags: u64, value: T)
+    fn publish_and_store(&mut self, index: usize, flag_word: usize, flags: u64, value: T)
         requires in_block { index < length self.old.slots }
         requires flag_word { flag_word ≡ flag_word_at T.row (length self.old.slots) (index / 64) }
         requires empty { slot_value self.old.slots index ≡ None }
@@ -105,6 +105,17 @@ impl<T> BucketPointer<T> {
             (at as *mut T).add(index).write(value);
             (at as *mut u64).add(flag_word).write(flags);
         }
+    }
+
+    /// `publish` where all slots of the block are empty, so that no flags need be read.
+    #[inline]
+    pub fn publish_first(&mut self, index: usize, flag_word: usize, value: T)
+        requires in_block { index < length self.old.slots }
+        requires flag_word { flag_word ≡ flag_word_at T.row (length self.old.slots) (index / 64) }
+        requires empty { (slot : ℕ) → slot_value self.old.slots slot ≡ None }
+        ensures { self.new.slots ≡ slice_set self.old.slots index (Some value) }
+    {
+        self.publish_and_store(index, flag_word, 1 << (index % 64), value);
     }
 
     /// Clears the flag of a slot, in the word of this number, and then moves its value out.
