@@ -198,6 +198,7 @@ impl<'a, T, R: Wait> Local<'a, T, R> {
     }
 
     /// Makes room for a value in the slot, which is empty: finds its bucket, or makes a block for it.
+    #[inline(always)]
     fn room(
         &mut self,
         alloc: &Global,
@@ -213,6 +214,7 @@ impl<'a, T, R: Wait> Local<'a, T, R> {
     }
 
     /// Publishes a value in the slot, where there is room for it.
+    #[inline(always)]
     fn publish_in(
         &mut self,
         alloc: &Global,
@@ -267,11 +269,27 @@ impl<'a, T, R: Wait> Local<'a, T, R> {
         Ok(())
     }
 
-    /// Fills the slot, which is empty: finds its bucket or makes a block for it, then calls the
-    /// closure and publishes its value. It is never inlined, so that a call that finds a value is
-    /// short.
-    #[inline(never)]
+    /// Fills the slot, which is empty, with the closure's value.
+    #[inline]
     fn fill_empty<F: FnOnce() -> T + Drop>(&mut self, create: F) -> Result<(), AllocError>
+        requires empty { self.old.value ≡ None }
+        requires callable { F.pre create }
+        ensures ok { OnOk result (IsFilled ⊤ (F.post create) self.old self.new) }
+        ensures err { OnErr result (IsRefused ⊤ self.old self.new) }
+        ensures granted { self.old.known ≡ true → IsOk result }
+    {
+        if self.claim.is_missing() {
+            return self.fill_missing(create);
+        }
+        let thread = self.place();
+        self.claim.publish(thread, create());
+        Ok(())
+    }
+
+    /// `fill_empty` where the bucket was missing: finds it or makes a block for it, then calls the
+    /// closure and publishes its value. It is never inlined, so that other calls are short.
+    #[inline(never)]
+    fn fill_missing<F: FnOnce() -> T + Drop>(&mut self, create: F) -> Result<(), AllocError>
         requires empty { self.old.value ≡ None }
         requires callable { F.pre create }
         ensures ok { OnOk result (IsFilled ⊤ (F.post create) self.old self.new) }

@@ -116,7 +116,7 @@ impl<'a, T> Claim<'a, T> {
     /// Makes room for a value in a slot that is empty. It looks again for a bucket that was missing, and
     /// where it is missing still, makes a block for it: the one request for memory. Where it answers no
     /// block, the slot is vacant.
-    #[inline]
+    #[inline(always)]
     pub fn room(
         &mut self,
         alloc: &Global,
@@ -139,8 +139,7 @@ impl<'a, T> Claim<'a, T> {
     }
 
     /// `room` where the bucket was missing.
-    #[cold]
-    #[inline(never)]
+    #[inline(always)]
     fn make_room(
         &mut self,
         alloc: &Global,
@@ -164,7 +163,7 @@ impl<'a, T> Claim<'a, T> {
 
     /// Publishes a value where there is room for it: in the block that was made, or in the bucket that
     /// stands. All ids up to this one were held at once.
-    #[inline]
+    #[inline(always)]
     pub fn publish_in(
         &mut self,
         alloc: &Global,
@@ -191,8 +190,7 @@ impl<'a, T> Claim<'a, T> {
     /// Puts a value into a block, announces the claim's bucket, which was missing, and installs the
     /// block by one compare and exchange, which publishes the value, too. Where another block was
     /// installed first, that one stays, the value is published there, and this block is freed.
-    #[cold]
-    #[inline(never)]
+    #[inline(always)]
     pub fn install(
         &mut self,
         alloc: &Global,
@@ -381,7 +379,7 @@ fn filled<T>(block: Block<T, Global>, alloc: &Global, thread: Thread, value: T) 
 {
     let mut pointer = BucketPointer::default();
     pointer.lay(block);
-    pointer.publish(thread.index, flag_word_of::<T>(thread), value);
+    pointer.publish_first(thread.index, flag_word_of::<T>(thread), value);
     pointer.lift(alloc)
 }
 

@@ -19,6 +19,6 @@ without {V = V} cs n i v is =
 pub returns-clause-others : goal.returns-clause-others
 returns-clause-others g c =
     without c.lift.result.slots (2 ^ c.args.thread.bucket) c.args.thread.index (Some c.args.value)
-    (c.lift.ensures.block.1 ∙ c.publish.ensures
+    (c.lift.ensures.block.1 ∙ c.publish_first.ensures
     ∙ ap (λ (ys : List (Option g.row.T.Denot)). slice_set ys c.args.thread.index (Some c.args.value))
     (c.lay.ensures ∙ c.requires.block.0))
