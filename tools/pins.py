@@ -27,7 +27,7 @@ def defined():
     for crate in CRATES:
         for path in sorted(glob.glob(f"{TOP}/crates/{crate}/specs/*.antt")):
             with open(path, encoding="utf-8") as it:
-                for name in re.findall(r"^(?:abbrev |unfoldable |data |record )*pub (?:abbrev |unfoldable )?([A-Za-z_]\w*) :", it.read(), re.M):
+                for name in re.findall(r"^(?:abbrev |unfoldable |data |record )*pub (?:abbrev |unfoldable |record )?([A-Za-z_]\w*)(?: [{(][^\n]*)? :", it.read(), re.M):
                     words[name] = os.path.relpath(path, f"{TOP}/crates")
     return words
 
