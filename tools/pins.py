@@ -21,13 +21,17 @@ CRATES = ("thread_local_base", "thread_local_schedule")
 LOGIC = {"IsTrue", "IsSome", "IsSomeAnd", "IfSome", "IfOk", "MatchOption", "AllByRecursion", "IsOk", "Contains"}
 
 
+# How a definition of specs/ begins, a record with its parameters.
+WORD = re.compile(r"^(?:abbrev |unfoldable |data |record )*pub (?:abbrev |unfoldable |record )?([A-Za-z_]\w*)(?: [{(].*)? :", re.M)
+
+
 def defined():
     """The words, each with the file that defines it."""
     words = {}
     for crate in CRATES:
         for path in sorted(glob.glob(f"{TOP}/crates/{crate}/specs/*.antt")):
             with open(path, encoding="utf-8") as it:
-                for name in re.findall(r"^(?:abbrev |unfoldable |data |record )*pub (?:abbrev |unfoldable |record )?([A-Za-z_]\w*)(?: [{(][^\n]*)? :", it.read(), re.M):
+                for name in WORD.findall(it.read()):
                     words[name] = os.path.relpath(path, f"{TOP}/crates")
     return words
 
