@@ -233,7 +233,7 @@ impl<T> Buckets<T> {
         ensures would_stand { WouldStand self.old }
         ensures would_be_published { WouldBePublished self.old }
     {
-        let cursor = self.begin_walk();
+        let cursor = self.pointers.begin_walk();
         EntriesMut {
             loan: self.lend(),
             cursor,
@@ -242,12 +242,16 @@ impl<T> Buckets<T> {
 
     /// A walk over the values by ascending id, each moved out with its id. It begins with a count
     /// of the values. Rust's crate has no such walk.
-    pub fn into_entries(mut self) -> IntoEntries<T>
+    pub fn into_entries(self) -> IntoEntries<T>
         ensures { result ≡ walk (paired (values self.contents)) }
     {
-        let cursor = self.begin_walk();
+        let Buckets {
+            mut pointers,
+            reserved,
+        } = self;
+        let cursor = pointers.begin_walk();
         IntoEntries {
-            buckets: self,
+            buckets: Buckets { pointers, reserved },
             cursor,
         }
     }
@@ -272,7 +276,7 @@ impl<T> Buckets<T> {
         ensures would_stand { (bucket : ℕ)
             → stands (owned_emptied self.old).contents bucket ≡ stands self.old.contents bucket }
     {
-        let cursor = self.begin_walk();
+        let cursor = self.pointers.begin_walk();
         Drain {
             buckets: self,
             cursor,

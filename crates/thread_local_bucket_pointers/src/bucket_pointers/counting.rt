@@ -4,10 +4,12 @@ ghost use Rattle.thread_local_base.specs.Place.{id_at};
 ghost use Rattle.thread_local_base.specs.Buckets.{row, values};
 ghost use Rattle.thread_local_base.specs.Walk.{walk};
 ghost use Rattle.thread_local_base.specs.Counting.{count_below};
+ghost use Rattle.thread_local_base.specs.Owner.{emptied};
 ghost use Rattle.thread_local_bucket_pointers.specs.Announced.{AreAhead};
+ghost use Rattle.thread_local_bucket_pointers.specs.Cursor.{values_left, IsOwnerWalk};
 
 use super::BucketPointers;
-use crate::{FlagSource, take_first};
+use crate::{FlagSource, OwnerCursor, take_first};
 use thread_local_base::bucket_size;
 
 impl<T> BucketPointers<T> {
@@ -125,5 +127,17 @@ impl<T> BucketPointers<T> {
             return count;
         }
         self.count_further(count, further)
+    }
+    /// The cursor of a walk over all values, which it counts.
+    #[inline]
+    pub fn begin_walk(&mut self) -> OwnerCursor
+        ensures same { self.new ≡ self.old }
+        ensures walk { IsOwnerWalk self.old result }
+        ensures raw { result.raw ≡ record { yielded = 0; bucket = 0; bucket_size = 1; index = 0 } }
+        ensures rest { result.rest ≡ 0 }
+        ensures ends { values_left result ≡ 0 → emptied self.old ≡ self.old }
+    {
+        let announced = self.announced();
+        OwnerCursor::new(self.count_values(), announced)
     }
 }

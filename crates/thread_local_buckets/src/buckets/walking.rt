@@ -10,19 +10,6 @@ use super::Buckets;
 use thread_local_bucket_pointers::OwnerCursor;
 
 impl<T> Buckets<T> {
-    /// The cursor of a walk over all values, which it counts.
-    #[inline]
-    pub(crate) fn begin_walk(&mut self) -> OwnerCursor
-        ensures same { self.new ≡ self.old }
-        ensures walk { IsOwnerWalk self.old.contents result }
-        ensures raw { result.raw ≡ record { yielded = 0; bucket = 0; bucket_size = 1; index = 0 } }
-        ensures rest { result.rest ≡ 0 }
-        ensures ends { values_left result ≡ 0 → emptied self.old.contents ≡ self.old.contents }
-    {
-        let announced = self.pointers.announced();
-        OwnerCursor::new(self.pointers.count_values(), announced)
-    }
-
     /// Moves out the next value of a walk, of which there must be one, and returns it with its id.
     /// Its flag is cleared before it moves out.
     #[inline]
@@ -56,7 +43,7 @@ impl<T> Buckets<T> {
         if left == 0 {
             return;
         }
-        let mut cursor = self.begin_walk();
+        let mut cursor = self.pointers.begin_walk();
         for _ in 0..cursor.len() {
             let (_, value) = self.take_next(&mut cursor);
             drop(value);

@@ -19,15 +19,25 @@ still_stand {V} c b =
     ap (λ (r : List (Option V)). nat_lt 0 (length r)) (get_or-map (map none) c.rows b [])
     ∙ ap (nat_lt 0) (length-map (row c b) none)
 
+-- the buckets as they are once their values are counted, and as they came
+counted : (g : _) (c : goal.After-result-1 g)
+    → ◌≡◌ {A = Owned g.row.T.Denot} (record { contents = c.begin_walk-cursor.new.self; reserved = c.self.inside.reserved })
+    c.args.self.now
+counted g c =
+    ap (λ (w : Contents g.row.T.Denot).
+    let s : Owned g.row.T.Denot = record { contents = w; reserved = c.self.inside.reserved } in s)
+    c.begin_walk-cursor.ensures.same
+    ∙ c.self.view_is
+
 pub returns-clause-ready : goal.returns-clause-ready
 returns-clause-ready g c = let begun = c.begin_walk-cursor in
-    subst (λ (s : Owned _). IsOwnerWalk s.contents begun.result) (sym begun.ensures.same) begun.ensures.walk
+    subst (λ (w : Contents _). IsOwnerWalk w begun.result) (sym begun.ensures.same) begun.ensures.walk
 
 pub returns-clause-rest : goal.returns-clause-rest
-returns-clause-rest g c = ap (λ (s : Owned _). walk (values s.contents)) c.begin_walk-cursor.ensures.same
+returns-clause-rest g c = ap (λ (s : Owned _). walk (values s.contents)) (counted g c)
 
 pub returns-clause-leaves : goal.returns-clause-leaves
-returns-clause-leaves g c = ap (λ (s : Owned _). owned_emptied s) c.begin_walk-cursor.ensures.same
+returns-clause-leaves g c = ap (λ (s : Owned _). owned_emptied s) (counted g c)
 
 pub returns-clause-stays : goal.returns-clause-stays
 returns-clause-stays g c = keeps_along _

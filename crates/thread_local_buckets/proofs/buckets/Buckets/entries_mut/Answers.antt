@@ -8,7 +8,11 @@ use Rattle.thread_local_buckets.proofs.buckets.Buckets.entries_mut.Goals as goal
 
 pub returns : goal.returns
 returns g c =
-    let counted = c.begin_walk-cursor.ensures.same in (
+    let counted =
+    ap (λ (w : Contents g.row.T.Denot).
+    let s : Owned g.row.T.Denot = record { contents = w; reserved = c.self.inside.reserved } in s)
+    c.begin_walk-cursor.ensures.same
+    ∙ c.self.view_is in (
       (refl, λ w. ap (λ (s : Owned _). owned_refilled s w) counted),
       record {
         writes_back = tt;
