@@ -245,6 +245,7 @@ impl<T> Buckets<T> {
     pub fn into_entries(self) -> IntoEntries<T>
         ensures { result ≡ walk (paired (values self.contents)) }
     {
+        // Taken apart first: a count in place would have the compiler copy the pointers once more.
         let Buckets {
             mut pointers,
             reserved,
