@@ -13,6 +13,7 @@ pub mod StepLaws
 pub mod MoveLaws
 pub mod WalkLaws
 pub mod BitLaws
+mod BlockLaws
 pub mod OwnLaws
 pub mod PassLaws
 pub mod LookLaws
