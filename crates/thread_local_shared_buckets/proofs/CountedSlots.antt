@@ -35,6 +35,14 @@ begins reserved word first none_past =
       all = omega arith;
     }
 
+-- all buckets have fewer slots than 2^63
+pub counted_below : {reserved left slots : ℕ} → Counted reserved left slots → slots < 2 ^ 63
+counted_below so =
+    let up : 2 ^ so.from ≤ 2 ^ 63 = pow_mono so.in_table in
+    let some = pow_pos so.from in
+    let most = so.most in
+    omega (arith, up, some, most)
+
 module _ (reserved left rest slots bucket : ℕ) (so : Counted reserved left slots) (low : IsLowestSet left bucket)
     (but : IsWordBut rest left bucket false) where
   taken : Takes {V = ℕ} no_rows rest so.from bucket
@@ -52,6 +60,14 @@ module _ (reserved left rest slots bucket : ℕ) (so : Counted reserved left slo
       let low : bucket < 63 = taken.in_table in
       let all = so.all in
       record { from = bucket + 1; in_table = omega (arith, low); ahead = taken.ahead; most = omega (arith, twice, some, few, is); all = omega (arith, all) }
+
+  -- the bucket is missing
+  pub missed : Counted reserved rest slots
+  missed =
+      let most = few in
+      let twice : 2 ^ (bucket + 1) ≡ 2 ^ bucket + 2 ^ bucket = rw add-one (two-pow-succ bucket) in
+      let low : bucket < 63 = taken.in_table in
+      record { from = bucket + 1; in_table = omega (arith, low); ahead = taken.ahead; most = omega (arith, twice, most); all = so.all }
 
   -- what it shows where it stands allows for all slots up to it
   allowed_by : (t : Bool) (size ids : ℕ) → nat_lt (id_at bucket 0) reserved ≡ t → size ≡ 2 ^ bucket → ids ≡ ids_shown true t bucket

@@ -1,10 +1,10 @@
-use Rattle.std.proofs.Common.{◌≤◌, ◌-◌, ◌*◌, ℕ, Bool, sym, ap, ◌∙◌, subst, bit_and}
+use Rattle.std.proofs.Common.{◌≤◌, ◌<◌, ◌^◌, ◌+◌, arith, ◌-◌, ◌*◌, ℕ, Bool, sym, ap, ◌∙◌, subst, bit_and}
 use Rattle.std.specs.Prelude.{max, nat_lt}
 use Rattle.std.specs.Int.{w64, bit_not}
 use Rattle.std.proofs.Math.Nat.{le-max_left}
 use Rattle.thread_local_base.specs.Place.{id_at}
 use Rattle.thread_local_shared_buckets.specs.Shared.{ids_shown}
-use Rattle.thread_local_shared_buckets.proofs.CountedSlots.{Counted, begins, more, allowed}
+use Rattle.thread_local_shared_buckets.proofs.CountedSlots.{Counted, begins, more, missed, allowed, counted_below}
 use Rattle.thread_local_shared_buckets.proofs.shared.Shared.slots_reached.Goals as goal
 
 pub buckets-init : goal.buckets-init
@@ -37,3 +37,38 @@ buckets-preserved-in-Some g c =
           (c.in-Some.ensures.shown.1 ∙ (λ j. ids_shown (at.grown j) (at.reserved j) (at.number j))
           ∙ ap (λ (t : Bool). ids_shown t (nat_lt (id_at bucket 0) reserved) bucket) grown);
     }
+
+pub buckets-preserved : goal.buckets-preserved
+buckets-preserved g c = record {
+  counted =
+      missed c.args.self.now.reserved c.buckets.left c.take_first-bucket.new.buckets c.buckets.slots c.take_first-bucket.result
+      c.buckets.invariant.counted c.take_first-bucket.ensures.first c.take_first-bucket.ensures.rest;
+  table = c.buckets.invariant.table;
+  grown = c.buckets.invariant.grown;
+}
+
+pub buckets-smaller : goal.buckets-smaller
+buckets-smaller g c = c.take_first-bucket.ensures.fewer
+
+pub buckets-smaller-in-Some : goal.buckets-smaller-in-Some
+buckets-smaller-in-Some g c = c.take_first-bucket.ensures.fewer
+
+pub overflow_add-slots : goal.overflow_add-slots
+overflow_add-slots g c =
+    let below : c.buckets.slots + c.bucket_size-slots.result < 2 ^ 63 =
+    counted_below (more c.args.self.now.reserved c.buckets.left c.take_first-bucket.new.buckets c.buckets.slots c.take_first-bucket.result
+    c.buckets.invariant.counted c.take_first-bucket.ensures.first c.take_first-bucket.ensures.rest c.bucket_size-slots.result
+    c.bucket_size-slots.ensures) in
+    omega (arith, below)
+
+pub returns-clause-reserved : goal.returns-clause-reserved
+returns-clause-reserved g c = c.buckets.invariant.counted.all
+
+pub returns-clause-most : goal.returns-clause-most
+returns-clause-most g c = counted_below c.buckets.invariant.counted
+
+pub returns-clause-table : goal.returns-clause-table
+returns-clause-table g c = c.buckets.invariant.table
+
+pub returns-clause-grown : goal.returns-clause-grown
+returns-clause-grown g c = c.buckets.invariant.grown
