@@ -1,10 +1,10 @@
 -- The list of a table's 63 buckets, and which of an owner's pointers fit it, as a whole and one by
 -- one.
 use Rattle.std.proofs.Common.{◌≡◌, ℕ, zero, suc, ◌+◌, ◌^◌, ◌<◌, ◌≤◌, Bool, true, false, List, [], ◌∷◌, length, refl}
-use Rattle.std.proofs.Common.{sym, ap, ◌∙◌, subst, arith, pow_pos, Option, map}
+use Rattle.std.proofs.Common.{sym, ap, ◌∙◌, subst, arith, pow_pos, Option, map, get_or}
 use Rattle.std.specs.Prelude.{slice_index_or, nat_lt, IsTrue, ◌⊎◌}
 use Rattle.std.proofs.lemmas.Bool.{lt-ltb, ltb-true, ltb-false}
-use Rattle.std.proofs.lemmas.List.{length-map, get_or_past}
+use Rattle.std.proofs.lemmas.List.{length-map, get_or_past, get_or_default}
 use Rattle.std.proofs.lemmas.List.FromFn.{length-map-range_with_len, get_or-map-range_with_len}
 use Rattle.std.specs.List.{range_with_len}
 use mathlib.Core.Logic.{inl, inr}
@@ -50,6 +50,12 @@ table_seen s w =
       grown_by_ids = d.grown_by_ids;
     })
     (table_bucket s w 0 (omega arith))
+
+-- the bucket at a number in a table's list
+pub listed_bucket : (ds : List BucketView) (w : Announcing) (reserved b : ℕ) (d : BucketView) (s : TableView) → length ds ≡ 63
+    → b < 63 → AreBuckets ds w reserved → table_view_of ds reserved ≡ s → get_or ds b d ≡ bucket_view s w b
+listed_bucket ds w reserved b d s long near named is =
+    get_or_default ds b d _ (subst (λ (n : ℕ). b < n) (sym long) near) ∙ named b near ∙ ap (λ (v : TableView). bucket_view v w b) is
 
 -- these are a table's buckets from this number on
 abbrev pub AreOf : TableView → Announcing → ℕ → List BucketView → Type 0
