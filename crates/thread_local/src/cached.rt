@@ -1,11 +1,9 @@
 //! `CachedThreadLocal`, a deprecated wrapper of `ThreadLocal`: once a faster table, now as fast,
 //! and with fewer calls.
-ghost use Rattle.std.specs.Prelude.{◌≡◌, ◌≢◌, ◌-◌, ◌^◌, ◌<◌, length, true, Some, IfSome, IfOk, IsSome};
-ghost use Rattle.std.specs.Iterator.{YieldsFirst, YieldsFirstMut, UpTo, item_count};
-ghost use Rattle.std.specs.Iterator.SizeHint.{IsWithinCount};
+ghost use Rattle.std.specs.Prelude.{◌≡◌, ◌≢◌, ◌-◌, ◌^◌, ◌<◌, true, IfOk, IsSome};
 ghost use Rattle.thread_local_base.specs.Held.{least};
 ghost use Rattle.thread_local_base.specs.IdMoves.{held_after};
-ghost use Rattle.thread_local_buckets.specs.IterMut.{iter_mut_rest, iter_mut_given};
+ghost use Rattle.thread_local_buckets.specs.IterMut.{iter_mut_given};
 ghost use Rattle.thread_local_judged.specs.Judged.{Judged};
 
 use crate::local::Local;
@@ -70,9 +68,7 @@ impl<T> CachedThreadLocal<T> {
     pub fn iter_mut(&mut self) -> CachedIterMut<'_, T>
         ensures fresh { iter_mut_given result ≡ 0 }
     {
-        CachedIterMut {
-            walk: self.table.iter_mut(),
-        }
+        self.table.iter_mut()
     }
 
     /// Drops the values and takes the ids back, as `ThreadLocal::clear`.
@@ -110,9 +106,7 @@ impl<T: Drop> IntoIterator for CachedThreadLocal<T> {
 
     /// The values by ascending id, each moved out.
     fn into_iter(self) -> CachedIntoIter<T> {
-        CachedIntoIter {
-            walk: self.table.into_iter(),
-        }
+        self.table.into_iter()
     }
 }
 
@@ -129,91 +123,8 @@ impl<'a, T> IntoIterator for &'a mut CachedThreadLocal<T> {
     }
 }
 
-/// The walk of `CachedThreadLocal::iter_mut`. Deprecated: use `IterMut`. It takes no lock and no
-/// memory. Contracts see what they see of an `IterMut`.
-#[derive(Drop)]
-pub struct CachedIterMut<'a, T> {
-    walk: IterMut<'a, T>,
-}
+/// The walk of `CachedThreadLocal::iter_mut`, by its deprecated name.
+pub type CachedIterMut<'a, T> = IterMut<'a, T>;
 
-impl<'a, T> Model for CachedIterMut<'a, T> {
-    ghost use Rattle.std.specs.Prelude.{ℕ, List};
-    ghost use base.Fml.{GName};
-
-    ghost Value = { List T × (GName × ℕ) };
-
-    ghost view = { λ it. it.walk };
-}
-
-impl<'a, T> Iterator for CachedIterMut<'a, T> {
-    type Item = &'a mut T;
-
-    ghost next_gives = { YieldsFirstMut iter_mut_rest };
-
-    ghost remaining = { item_count iter_mut_rest };
-
-    /// The next value of the table's walk.
-    fn next(&mut self) -> Option<&'a mut T> {
-        self.walk.next()
-    }
-
-    /// How many values are still to come, on both sides.
-    fn size_hint(&self) -> (usize, Option<usize>)
-        ensures exact { result ≡ (length (iter_mut_rest self.now), Some (length (iter_mut_rest self.now))) }
-        ensures lower { IsWithinCount result.0 (item_count iter_mut_rest self.now) }
-        ensures upper { IfSome result.1 (UpTo (item_count iter_mut_rest self.now)) }
-    {
-        self.walk.size_hint()
-    }
-}
-
-impl<T> ExactSizeIterator for CachedIterMut<'_, T> {
-    /// How many values are still to come.
-    fn len(&self) -> usize {
-        self.walk.len()
-    }
-}
-
-/// The walk of `CachedThreadLocal` by value. Deprecated: use `IntoIter`. It takes no lock and no
-/// memory; the drop of a walk drops the values still to come. Contracts see those values.
-#[derive(Drop)]
-pub struct CachedIntoIter<T> {
-    walk: IntoIter<T>,
-}
-
-impl<T> Model for CachedIntoIter<T> {
-    ghost use Rattle.std.specs.Prelude.{List};
-
-    ghost Value = { List T };
-
-    ghost view = { λ it. it.walk };
-}
-
-impl<T: Drop> Iterator for CachedIntoIter<T> {
-    type Item = T;
-
-    ghost next_gives = { YieldsFirst (λ rest. rest) };
-
-    ghost remaining = { item_count (λ rest. rest) };
-
-    /// The next value of the table's walk.
-    fn next(&mut self) -> Option<T> {
-        self.walk.next()
-    }
-
-    /// How many values are still to come, on both sides.
-    fn size_hint(&self) -> (usize, Option<usize>)
-        ensures exact { result ≡ (length self.now, Some (length self.now)) }
-        ensures lower { IsWithinCount result.0 (item_count (λ rest. rest) self.now) }
-        ensures upper { IfSome result.1 (UpTo (item_count (λ rest. rest) self.now)) }
-    {
-        self.walk.size_hint()
-    }
-}
-
-impl<T: Drop> ExactSizeIterator for CachedIntoIter<T> {
-    /// How many values are still to come.
-    fn len(&self) -> usize {
-        self.walk.len()
-    }
-}
+/// The walk of `CachedThreadLocal` by value, by its deprecated name.
+pub type CachedIntoIter<T> = IntoIter<T>;
