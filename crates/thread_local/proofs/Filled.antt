@@ -103,6 +103,17 @@ fills_by {V} E makes old new there filled held =
     let same : filled.value ≡ there = cc in
     subst (λ (value : V). Fills E makes old new value) same filled.fills
 
+-- what makes the value may be said in other words
+pub filled_as : {V : Type 0} (E : Type 0) {makes says : V → Type 0} (old new : LocalView V) → ((value : V) → makes value → says value)
+    → IsFilled E makes old new
+    → IsFilled E says old new
+filled_as E old new leads filled =
+    let fills = filled.fills in
+    record {
+      value = filled.value;
+      fills = record { says = fills.says; made = λ none. leads filled.value (fills.made none); same = fills.same };
+    }
+
 pub answered : {V E : Type 0} {makes : V → Type 0} {old new : LocalView V} {there : V}
     → Fills E makes old new there
     → IsAnswered E makes old there

@@ -201,41 +201,41 @@ impl<'a, T, R: Wait> Local<'a, T, R> {
     #[inline(always)]
     fn room(
         &mut self,
-        alloc: &Global,
+        alloc: Global,
         thread: Thread,
     ) -> Result<Option<Block<T, Global>>, AllocError>
         requires empty { self.old.value ≡ None }
         requires place { IsPlaceOf thread.bucket thread.index self.old.id }
-        ensures ok { IfOk result (HasRoom alloc.now thread.bucket (learnt_by (knows self.new))) }
+        ensures ok { IfOk result (HasRoom alloc thread.bucket (learnt_by (knows self.new))) }
         ensures err { OnErr result ((self.old.known ≡ false) × (self.new ≡ self.old)) }
         ensures leaves { StaysEmpty self.old self.new }
     {
-        self.claim.room(alloc, thread)
+        self.claim.room(&alloc, thread)
     }
 
     /// Publishes a value in the slot, where there is room for it.
     #[inline(always)]
     fn publish_in(
         &mut self,
-        alloc: &Global,
+        alloc: Global,
         thread: Thread,
         block: Option<Block<T, Global>>,
         value: T,
     )
-        requires room { HasRoom alloc.now thread.bucket (learnt_by (knows self.old)) block }
+        requires room { HasRoom alloc thread.bucket (learnt_by (knows self.old)) block }
         requires place { IsPlaceOf thread.bucket thread.index self.old.id }
         ensures { self.new ≡ knowing self.old (holding value) }
     {
         let reached = self.tenure.reached();
-        self.claim.publish_in(alloc, thread, block, value, reached);
+        self.claim.publish_in(&alloc, thread, block, value, reached);
     }
 
     /// Frees the block that was made for a value, where there is one.
-    fn release_room(&self, alloc: &Global, thread: Thread, block: Option<Block<T, Global>>)
-        requires room { HasRoom alloc.now thread.bucket (learnt_by (knows self.now)) block }
+    fn release_room(&self, alloc: Global, thread: Thread, block: Option<Block<T, Global>>)
+        requires room { HasRoom alloc thread.bucket (learnt_by (knows self.now)) block }
     {
         if let Some(block) = block {
-            block.release(alloc, bucket_size(thread.bucket));
+            block.release(&alloc, bucket_size(thread.bucket));
         }
     }
 
@@ -264,7 +264,7 @@ impl<'a, T, R: Wait> Local<'a, T, R> {
         ensures has_value { IsSome self.old.value → IsOk result }
     {
         if !self.is_published() {
-            self.fill_empty(create)?;
+            return self.fill_empty(create);
         }
         Ok(())
     }
@@ -297,24 +297,11 @@ impl<'a, T, R: Wait> Local<'a, T, R> {
         ensures granted { self.old.known ≡ true → IsOk result }
     {
         let table = self.table;
-        let thread = self.place();
-        let block = self.room(&table.alloc, thread)?;
-        self.publish_in(&table.alloc, thread, block, create());
-        Ok(())
-    }
-
-    /// `fill`, with the value that `T::made_with` makes.
-    fn fill_default(&mut self) -> Result<(), AllocError>
-    where
-        T: MadeWith<Global>,
-        ensures ok { OnOk result (IsFilled ⊤ T.is_made_with self.old self.new) }
-        ensures err { OnErr result (IsRefused ⊤ self.old self.new) }
-        ensures granted { self.old.known ≡ true → IsOk result }
-        ensures has_value { IsSome self.old.value → IsOk result }
-    {
-        let table = self.table;
         let alloc = table.alloc;
-        self.fill(|| T::made_with(alloc))
+        let thread = self.place();
+        let block = self.room(alloc, thread)?;
+        self.publish_in(alloc, thread, block, create());
+        Ok(())
     }
 
     /// Publishes a value that is at hand, where the slot is empty. `Occupied` gives it back where
@@ -333,10 +320,11 @@ impl<'a, T, R: Wait> Local<'a, T, R> {
             return Err(SetError::Occupied(value));
         }
         let table = self.table;
+        let alloc = table.alloc;
         let thread = self.place();
-        match self.room(&table.alloc, thread) {
+        match self.room(alloc, thread) {
             Ok(block) => {
-                self.publish_in(&table.alloc, thread, block, value);
+                self.publish_in(alloc, thread, block, value);
                 Ok(())
             }
             Err(_) => Err(SetError::Memory(value)),
@@ -385,15 +373,16 @@ impl<'a, T, R: Wait> Local<'a, T, R> {
             return Ok(());
         }
         let table = self.table;
+        let alloc = table.alloc;
         let thread = self.place();
-        let block = self.room(&table.alloc, thread)?;
+        let block = self.room(alloc, thread)?;
         match create() {
             Ok(value) => {
-                self.publish_in(&table.alloc, thread, block, value);
+                self.publish_in(alloc, thread, block, value);
                 Ok(())
             }
             Err(error) => {
-                self.release_room(&table.alloc, thread, block);
+                self.release_room(alloc, thread, block);
                 Err(TryError::Create(error))
             }
         }

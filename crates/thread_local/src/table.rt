@@ -104,18 +104,6 @@ impl<T> ThreadLocal<T> {
         ensures room { result.room ≡ 0 }
         ensures grown { result.grown_by_ids ≡ true }
     {
-        ThreadLocal::empty(alloc)
-    }
-
-    /// As `new`, for callers that can't show `T: Send`: a trait's method doesn't know the bounds of
-    /// its impl.
-    fn empty(alloc: Global) -> ThreadLocal<T>
-        requires judged { Judged T.row }
-        ensures sharing { IsSome result.sharing }
-        ensures reserved { result.reserved ≡ 0 }
-        ensures room { result.room ≡ 0 }
-        ensures grown { result.grown_by_ids ≡ true }
-    {
         ThreadLocal::of(alloc, Buckets::new(alloc), Ids::new(alloc))
     }
 
@@ -182,8 +170,7 @@ impl<T> ThreadLocal<T> {
         ensures least { IfOk result (λ local. local.id ≡ least (held_after local.before)) }
     {
         let mut page = self.page();
-        let (held, right, tenure) = self.ids.take(rt, &mut page, &self.room)?;
-        Ok(Local::new(rt, self, held, right, tenure))
+        self.local_after(rt, &mut page)
     }
 
     /// The page of the table's ids from before any was taken, for a first `local_after`. At run
@@ -429,7 +416,7 @@ impl<T: Judge + Send> MadeWith<Global> for ThreadLocal<T> {
     /// judged.
     fn made_with(alloc: Global) -> ThreadLocal<T> {
         T::judge();
-        ThreadLocal::empty(alloc)
+        ThreadLocal::of(alloc, Buckets::new(alloc), Ids::new(alloc))
     }
 }
 

@@ -61,7 +61,9 @@ impl<'a, T, R: Wait> Local<'a, T, R> {
         ensures granted { self.old.known ≡ true → IsOk result }
         ensures has_value { IsSome self.old.value → IsOk result }
     {
-        self.fill_default()?;
+        let table = self.table;
+        let alloc = table.alloc;
+        self.fill(|| T::made_with(alloc))?;
         Ok(self.value())
     }
 }

@@ -23,7 +23,7 @@ never_missing learnt value is missing = cc
 
 pub publish_in-requires-clause-room : goal.publish_in-requires-clause-room
 publish_in-requires-clause-room g c =
-    subst (λ (learnt : Learnt g.row.T.Denot). HasRoom c.args.alloc.now c.args.thread.bucket learnt c.args.block)
+    subst (λ (learnt : Learnt g.row.T.Denot). HasRoom c.args.alloc c.args.thread.bucket learnt c.args.block)
     (has_learnt c.self.inside.table.now c.self.inside.claim c.args.self.now c.self.inside.tenure.before c.self.invariant.known
     c.self.view_is)
     c.requires.room

@@ -1,4 +1,4 @@
-use Rattle.std.proofs.Common.{rules, arith, ◌≤◌, ◌≡◌, ◌∙◌, ℕ, sym, ap, subst, lit<}
+use Rattle.std.proofs.Common.{rules, arith, ◌≤◌, ◌<◌, ◌-◌, ◌^◌, ◌≡◌, ◌∙◌, ℕ, sym, ap, subst, lit<}
 use Rattle.thread_local.specs.Tables.{ThreadLocalView}
 use Rattle.std.specs.Prelude.{List, Bool}
 use Rattle.thread_local_base.specs.Held.{least, held_count, HoldsAllBelow}
@@ -28,3 +28,6 @@ returns-in_err-held-clause-granted g c = λ few refused.
     let full : HoldsAllBelow c.args.self.now.room held = search (rules, refused) in
     let many : c.args.self.now.room ≤ held_count held = all_below_count c.args.self.now.room held full in
     omega (arith, few, many)
+
+pub returns-clause-in_range : goal.returns-clause-in_range
+returns-clause-in_range g c = subst (λ (id : ℕ). id < 2 ^ 63 - 1) (sym c.new.ensures.id.0) c.in_ok-held.held.in_range
