@@ -2,7 +2,9 @@ use Rattle.std.proofs.Common.{rules, arith, ◌≤◌, ◌<◌, ◌-◌, ◌^◌
 use Rattle.thread_local.specs.Tables.{ThreadLocalView}
 use Rattle.std.specs.Prelude.{List, Bool}
 use Rattle.thread_local_base.specs.Held.{least, held_count, HoldsAllBelow}
-use Rattle.thread_local_base.specs.IdMoves.{IdMove, held_after}
+use Rattle.thread_local_base.specs.IdMoves.{IdMove, Take, held_after, noted}
+use mathlib.Core.List.{IsPrefix}
+use Rattle.thread_local.proofs.Told.{ok_not_err}
 use Rattle.thread_local.proofs.Counted.{all_below_count}
 use Rattle.thread_local_ids.specs.Taken.{IsHeldIn}
 use Rattle.thread_local.proofs.table.ThreadLocal.local_after.Goals as goal
@@ -31,3 +33,24 @@ returns-in_err-held-clause-granted g c = λ few refused.
 
 pub returns-clause-in_range : goal.returns-clause-in_range
 returns-clause-in_range g c = subst (λ (id : ℕ). id < 2 ^ 63 - 1) (sym c.new.ensures.id.0) c.in_ok-held.held.in_range
+
+pub returns-clause-table : goal.returns-clause-table
+returns-clause-table g c = c.new.ensures.table
+
+pub returns-clause-early : goal.returns-clause-early
+returns-clause-early g c = c.take.ensures.early
+
+pub returns-clause-since : goal.returns-clause-since
+returns-clause-since g c = subst (λ (before : List IdMove). IsPrefix c.args.page.now.moves before) (sym c.new.ensures.id.1) c.in_ok-held.ensures.taken.since
+
+pub returns-clause-moves : goal.returns-clause-moves
+returns-clause-moves g c = c.in_ok-held.ensures.taken.moves ∙ ap (λ (before : List IdMove). noted before Take) (sym c.new.ensures.id.1)
+
+pub returns-clause-memory : goal.returns-clause-memory
+returns-clause-memory g c = λ told. absurd (ok_not_err told)
+
+pub returns-clause-granted : goal.returns-clause-granted
+returns-clause-granted g c = λ few told. ok_not_err told
+
+pub returns-clause-exhausted : goal.returns-clause-exhausted
+returns-clause-exhausted g c = λ told. absurd (ok_not_err told)
