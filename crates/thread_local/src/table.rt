@@ -170,7 +170,8 @@ impl<T> ThreadLocal<T> {
         ensures least { IfOk result (λ local. local.id ≡ least (held_after local.before)) }
     {
         let mut page = self.page();
-        self.local_after(rt, &mut page)
+        let (held, right, tenure) = self.ids.take(rt, &mut page, &self.room)?;
+        Ok(Local::new(rt, self, held, right, tenure))
     }
 
     /// The page of the table's ids from before any was taken, for a first `local_after`. At run
