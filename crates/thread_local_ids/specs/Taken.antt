@@ -1,10 +1,13 @@
 -- What takes answer and returns ask for: a held id, with its right and its tenure.
-use Rattle.std.specs.Prelude.{◌≡◌, ℕ, List}
+use Rattle.std.specs.Prelude.{◌≡◌, ℕ, ◌-◌, ◌^◌, List, Option, Some, None, Result, Ok, Err, alloc_error}
 use mathlib.Core.List.{IsPrefix}
-use Rattle.thread_local_base.specs.IdMoves.{IdMove, Take, noted}
+use Rattle.thread_local_base.specs.Held.{HoldsAllBelow}
+use Rattle.thread_local_base.specs.IdMoves.{IdMove, Take, held_after, noted}
+use Rattle.thread_local_base.specs.declared.manager.LocalError.{LocalError}
 use Rattle.thread_local_ids.specs.Rights.{taken_id}
 use Rattle.thread_local_ids.specs.declared.held.HeldId.{HeldId}
 use Rattle.thread_local_ids.specs.declared.right.Right.{Right}
+use Rattle.thread_local_ids.specs.declared.page.Page.{Page}
 use Rattle.thread_local_ids.specs.declared.page.Tenure.{Tenure}
 
 abbrev pub Taken : Type 0
@@ -24,3 +27,21 @@ pub record IsTakenAfter (table : ℕ) (early later : List IdMove) (taken : Taken
   pub held : IsHeldIn table taken
   pub since : IsPrefix early taken.2.before
   pub moves : later ≡ noted taken.2.before Take
+
+-- no id was taken: after the moves of `later`, which extend those of `early`, all ids are held that
+-- there is room for, or all that there are
+pub record IsRefusedAfter (room : ℕ) (early later : Page) (error : LocalError) : Type 0 where
+  pub since : IsPrefix early.moves later.moves
+  pub memory : error ≡ LocalError.Memory alloc_error → HoldsAllBelow room (held_after later.moves)
+  pub exhausted : error ≡ LocalError.Exhausted → HoldsAllBelow (2 ^ 63 - 1) (held_after later.moves)
+
+-- what a take answers that goes on under the lock
+abbrev pub IsTake : (table room : ℕ) (early later : Page) → Result Taken LocalError → Type 0
+IsTake table room early later (Ok taken) = IsTakenAfter table early.moves later.moves taken
+IsTake table room early later (Err error) = IsRefusedAfter room early later error
+
+-- what one try under the lock answers: it leaves the page as it is where it takes none
+abbrev pub IsTry : (table room : ℕ) (early later : Page) → Result (Option Taken) LocalError → Type 0
+IsTry table room early later (Ok (Some taken)) = IsTakenAfter table early.moves later.moves taken
+IsTry table room early later (Ok None) = later ≡ early
+IsTry table room early later (Err error) = IsRefusedAfter room early later error

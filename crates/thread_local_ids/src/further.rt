@@ -3,7 +3,7 @@ ghost use Rattle.std.specs.Prelude.{◌≡◌, ◌+◌, ◌-◌, ◌^◌, ◌≤
 ghost use mathlib.Core.List.{IsPrefix};
 ghost use Rattle.thread_local_base.specs.IdMoves.{held_after};
 ghost use Rattle.thread_local_base.specs.Held.{HoldsAllBelow, NeedsMemory, IsExhausted};
-ghost use Rattle.thread_local_ids.specs.Taken.{IsHeldIn, IsTakenAfter};
+ghost use Rattle.thread_local_ids.specs.Taken.{IsHeldIn, IsTry};
 ghost use Rattle.thread_local_ids.specs.FirstIds.{IsReturn, IsSameBeyond};
 ghost use Rattle.thread_local_ids.specs.Filled.{IsFilled, TakesFurther};
 
@@ -62,15 +62,8 @@ impl Further {
         room: &Room,
     ) -> Result<Option<Taken>, LocalError>
         requires { (first.now.table ≡ self.old.table) × (page.old.table ≡ self.old.table) × (room.now.table ≡ self.old.table) }
-        ensures taken { IfOk result (λ some. IfSome some (λ taken.
-            IsTakenAfter self.old.table page.old.moves page.new.moves taken)) }
+        ensures take { IsTry first.now.table room.now.ids page.old page.new result }
         ensures table { (self.new.table ≡ self.old.table) × (page.new.table ≡ page.old.table) }
-        ensures none { result ≡ Ok None → page.new ≡ page.old }
-        ensures early { OnErr result (IsPrefix page.old.moves page.new.moves) }
-        ensures memory { result ≡ Err (LocalError.Memory alloc_error)
-            → HoldsAllBelow room.now.ids (held_after page.new.moves) }
-        ensures exhausted { result ≡ Err LocalError.Exhausted
-            → HoldsAllBelow (2 ^ 63 - 1) (held_after page.new.moves) }
     {
         self.room.agrees(room);
         match alloc(&mut self.manager) {

@@ -3,7 +3,7 @@ ghost use Rattle.std.specs.Prelude.{◌≡◌, ◌+◌, ◌-◌, ◌^◌, ◌≤
 ghost use mathlib.Core.List.{IsPrefix};
 ghost use Rattle.thread_local_base.specs.IdMoves.{held_after};
 ghost use Rattle.thread_local_base.specs.Held.{HoldsAllBelow};
-ghost use Rattle.thread_local_ids.specs.Taken.{IsHeldIn, IsTakenAfter};
+ghost use Rattle.thread_local_ids.specs.Taken.{IsHeldIn, IsTakenAfter, IsTake, IsTry};
 ghost use Rattle.thread_local_ids.specs.FirstIds.{IsReturn};
 
 use crate::first::{FIRST_IDS, FirstIds};
@@ -72,23 +72,35 @@ impl SharedIds {
         room: &Room,
     ) -> Result<Taken, LocalError>
         requires { (page.old.table ≡ self.now.table) × (room.now.table ≡ self.now.table) }
-        ensures taken { IfOk result (λ taken. IsTakenAfter self.now.table page.old.moves page.new.moves taken) }
-        ensures early { IsPrefix page.old.moves page.new.moves }
+        ensures take { IsTake self.now.table room.now.ids page.old page.new result }
         ensures table { page.new.table ≡ page.old.table }
-        ensures memory { result ≡ Err (LocalError.Memory alloc_error)
-            → HoldsAllBelow room.now.ids (held_after page.new.moves) }
-        ensures exhausted { result ≡ Err LocalError.Exhausted
-            → HoldsAllBelow (2 ^ 63 - 1) (held_after page.new.moves) }
     {
         for _ in rt.forever() {
-            if let Some(taken) = self.further.lock(rt).take(&self.first, page, room)? {
-                return Ok(taken);
+            match self.try_further(rt, page, room) {
+                Ok(Some(taken)) => return Ok(taken),
+                Ok(None) => {}
+                Err(error) => return Err(error),
             }
             if let Some(taken) = self.first.take(page) {
                 return Ok(taken);
             }
         }
         unreachable!()
+    }
+
+    /// Takes the least id under the lock, where all of the first ids are held.
+    #[inline]
+    fn try_further<R: Wait>(
+        &self,
+        rt: &R,
+        page: &mut Page,
+        room: &Room,
+    ) -> Result<Option<Taken>, LocalError>
+        requires { (page.old.table ≡ self.now.table) × (room.now.table ≡ self.now.table) }
+        ensures take { IsTry self.now.table room.now.ids page.old page.new result }
+        ensures table { page.new.table ≡ page.old.table }
+    {
+        self.further.lock(rt).take(&self.first, page, room)
     }
 
     /// Takes an id back, and answers the page that ends with its return. It waits only for the lock of

@@ -1,9 +1,12 @@
 use Rattle.std.proofs.Common.{◌≡◌, ◌∙◌, ℕ, ◌+◌, ◌-◌, ◌^◌, ◌≤◌, ap, sym, subst, arith, length, List}
+use Rattle.std.specs.Prelude.{Err}
+use mathlib.Core.List.{IsPrefix}
 use Rattle.thread_local_base.specs.Held.{HoldsAllBelow}
 use Rattle.thread_local_base.specs.IdMoves.{IdMove, Take, held_after, noted}
 use Rattle.thread_local_ids.specs.FirstIds.{IsSameBeyond}
+use Rattle.thread_local_ids.specs.Rights.{taken_id}
 use Rattle.thread_local_ids.proofs.FirstLaws.{full_holds}
-use Rattle.thread_local_ids.proofs.FurtherLaws.{is_least, same_after, peak_after, all_held, same_error, if_took}
+use Rattle.thread_local_ids.proofs.FurtherLaws.{is_least, same_after, peak_after, all_held, if_took}
 use Rattle.thread_local_ids.proofs.further.Further.take.Goals as goal
 
 pub invariant_of-result : goal.invariant_of-result
@@ -40,24 +43,43 @@ invariant_of-self-in-Ok c =
       room_table = c.self.invariant.room_table ∙ sym log.0;
     }
 
-pub returns-else-not-is_full-2-clause-memory : goal.returns-else-not-is_full-2-clause-memory
-returns-else-not-is_full-2-clause-memory c = λ refused.
-    let before = c.look-word-in-Err.result.1.before in
-    let full = full_holds c.look-word-in-Err.result.0 (held_after before) c.look-word-in-Err.ensures.word
-    (sym c.is_full-in-Err.ensures ∙ c.if-not-is_full-2.false) in
-    let needs = c.in-Err.ensures.memory (same_error _ _ refused) in
-    let few : c.args.room.now.ids ≤ length c.alloc.new.manager.held =
-    omega (arith, c.agrees.ensures, c.self.invariant.room, c.in-Err.ensures.room, needs.no_room) in
-    subst (λ (l : List IdMove). HoldsAllBelow c.args.room.now.ids (held_after l)) (sym c.into_page.ensures.1)
-    (all_held c.args.room.now.ids (length c.alloc.new.manager.held) c.self.inside.log.moves before c.self.inside.manager c.alloc.new.manager
-    c.self.invariant.beyond c.in-Err.ensures.err c.look-word-in-Err.ensures.beyond full needs.full few)
+pub returns-else-not-is_full-clause-take : goal.returns-else-not-is_full-clause-take
+returns-else-not-is_full-clause-take c =
+    let is = is_least c.self.inside.log.moves c.look-word.result.1.before c.self.inside.manager c.alloc.new.manager c.in-Ok.id c.in-Ok.ensures.ok
+    c.self.invariant.beyond c.look-word.ensures.beyond
+    (full_holds c.look-word.result.0 (held_after c.look-word.result.1.before) c.look-word.ensures.word
+    (sym c.is_full.ensures ∙ c.if-not-is_full.false)) in
+    let taken = c.into_taken-right.ensures in
+    let before = taken.before in
+    record {
+      held = record {
+        right = taken.tables.0 ∙ c.look-word.ensures.table;
+        mark = taken.tables.1 ∙ c.look-word.ensures.table;
+        tenure = taken.tables.2 ∙ c.look-word.ensures.table;
+        id = taken.ids.0 ∙ sym is;
+        least = is ∙ ap (λ (l : List IdMove). taken_id l) (sym before);
+      };
+      since = subst (λ (l : List IdMove). IsPrefix c.args.page.now.moves l) (sym before) c.look-word.ensures.early;
+      moves = c.page.ensures.1;
+    }
 
-pub returns-else-not-is_full-2-clause-exhausted : goal.returns-else-not-is_full-2-clause-exhausted
-returns-else-not-is_full-2-clause-exhausted c = λ refused.
+pub returns-else-not-is_full-2-clause-take : goal.returns-else-not-is_full-2-clause-take
+returns-else-not-is_full-2-clause-take c =
     let before = c.look-word-in-Err.result.1.before in
+    let moves = sym c.into_page.ensures.1 in
     let full = full_holds c.look-word-in-Err.result.0 (held_after before) c.look-word-in-Err.ensures.word
     (sym c.is_full-in-Err.ensures ∙ c.if-not-is_full-2.false) in
-    let none = c.in-Err.ensures.exhausted (same_error _ _ refused) in
-    subst (λ (l : List IdMove). HoldsAllBelow (2 ^ 63 - 1) (held_after l)) (sym c.into_page.ensures.1)
-    (all_held (2 ^ 63 - 1) (2 ^ 63 - 1) c.self.inside.log.moves before c.self.inside.manager c.alloc.new.manager
-    c.self.invariant.beyond c.in-Err.ensures.err c.look-word-in-Err.ensures.beyond full none.full (omega arith))
+    let all : (n m : ℕ) → HoldsAllBelow m c.alloc.new.manager.held → n ≤ m → HoldsAllBelow n (held_after c.into_page.result.moves) = λ n m held few.
+    subst (λ (l : List IdMove). HoldsAllBelow n (held_after l)) moves
+    (all_held n m c.self.inside.log.moves before c.self.inside.manager c.alloc.new.manager
+    c.self.invariant.beyond c.in-Err.ensures.err c.look-word-in-Err.ensures.beyond full held few) in
+    record {
+      since = subst (λ (l : List IdMove). IsPrefix c.args.page.now.moves l) moves c.look-word-in-Err.ensures.early;
+      memory = λ refused.
+          let needs = c.in-Err.ensures.memory (ap Err refused) in
+          all c.args.room.now.ids (length c.alloc.new.manager.held) needs.full
+          (omega (arith, c.agrees.ensures, c.self.invariant.room, c.in-Err.ensures.room, needs.no_room));
+      exhausted = λ refused.
+          let none = c.in-Err.ensures.exhausted (ap Err refused) in
+          all (2 ^ 63 - 1) (2 ^ 63 - 1) none.full (omega arith);
+    }
