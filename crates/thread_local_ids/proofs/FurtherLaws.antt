@@ -1,14 +1,19 @@
 -- What the manager of the further ids and the history of a table say of each other.
-use Rattle.std.proofs.Common.{◌≡◌, ◌≢◌, ℕ, ◌+◌, ◌-◌, ◌<◌, ◌≤◌, ◌==◌, max, Bool, true, false, cond, eqb, List, length}
+use Rattle.std.proofs.Common.{◌≡◌, ◌≢◌, ℕ, ◌+◌, ◌-◌, ◌^◌, ◌<◌, ◌≤◌, ◌==◌, max, Bool, true, false, cond, eqb, List, [], ◌∷◌, length}
 use Rattle.std.proofs.Common.{if◌then◌else◌, refl, sym, ap, subst, ◌∙◌, arith, ⊎_elim, IfOk}
-use Rattle.std.specs.Prelude.{Result, Ok, Err}
+use Rattle.std.specs.Prelude.{Result, Ok, Err, alloc_error}
 use Rattle.std.proofs.lemmas.Bool.{eq-eqb, ne_eqb, cases_eq, cases_lt}
+use mathlib.Core.List.{IsPrefix}
 use Rattle.thread_local_base.specs.Held.{Manager, is_held, least, with_least, HoldsAllBelow, Takes}
 use Rattle.thread_local_base.specs.IdMoves.{IdMove, Take, held_after, noted}
 use Rattle.thread_local_base.proofs.HeldLaws.{least_free, least_only, least_lower, least_bounded, is_held-with_least, length-with_least}
 use Rattle.thread_local_base.proofs.IdMoveLaws.{after_take}
 use Rattle.thread_local_ids.specs.FirstIds.{IsSameBeyond, HasFurther}
 use Rattle.thread_local_ids.specs.Filled.{IsFilled, TakesFurther}
+use Rattle.thread_local_ids.proofs.Logs.{O}
+use Rattle.thread_local_ids.specs.Taken.{Taken, IsTakenAfter, IsTake}
+use Rattle.thread_local_ids.specs.declared.page.Page.{Page}
+use Rattle.thread_local_base.specs.declared.manager.LocalError.{LocalError}
 
 -- where every id below a number is held, the least that isn't is no less
 least_over : (held : List Bool) (n : ℕ) → HoldsAllBelow n held → n ≤ least held
@@ -62,10 +67,23 @@ error_of : {A E : Type 0} → E → Result A E → E
 error_of d (Ok x) = d
 error_of d (Err e) = e
 
--- equal errors are equal in any answer
-pub same_error : {A B E : Type 0} (e d : E) → ◌≡◌ {A = Result A E} (Err e) (Err d) → ◌≡◌ {A = Result B E} (Err e) (Err d)
+-- a take extends the page
+taken_early : (table : ℕ) (early later : List IdMove) (taken : Taken) → IsTakenAfter table early later taken → IsPrefix early later
+taken_early table early later taken is =
+    subst (λ (l : List IdMove). IsPrefix early l) (sym is.moves)
+    (O.trans early taken.2.before (noted taken.2.before Take) is.since (Take ∷ [], refl))
+
+-- what a take says, by the clauses of `SharedIds::take`
+pub take_tells : (table room : ℕ) (early later : Page) (result : Result Taken LocalError) → IsTake table room early later result
+    → IfOk result (λ taken. IsTakenAfter table early.moves later.moves taken)
+    × IsPrefix early.moves later.moves
+    × (result ≡ Err (LocalError.Memory alloc_error) → HoldsAllBelow room (held_after later.moves))
+    × (result ≡ Err LocalError.Exhausted → HoldsAllBelow (2 ^ 63 - 1) (held_after later.moves))
 unfolding error_of
-same_error e d same = ap Err (ap (error_of d) same)
+take_tells table room early later (Ok taken) is =
+    (is, taken_early table early.moves later.moves taken is, λ no. cc, λ no. cc)
+take_tells table room early later (Err error) is =
+    (tt, is.since, λ same. is.memory (ap (error_of error) same), λ same. is.exhausted (ap (error_of error) same))
 
 -- what the manager takes next is the least id, where all of the first ids are held
 pub is_least : (log moves : List IdMove) (old new : Manager) (id : ℕ) → TakesFurther old new id
