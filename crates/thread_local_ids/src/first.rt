@@ -125,9 +125,7 @@ impl FirstIds {
             }
             let (found, trace) = self.try_take(seen, word_with(seen, id as u64), id, page);
             if found == seen {
-                let ((right, mark), tenure) = trace.into_taken();
-                *page = tenure.page();
-                return Some((HeldId { id, mark }, right, tenure));
+                return Some(trace.into_taken(id, page));
             }
         }
         None
@@ -231,8 +229,21 @@ impl FirstIds {
 }
 
 impl Trace {
+    /// The id that a step took, with its right. The page becomes that of the moves with the take.
+    pub(crate) fn into_taken(self, id: usize, page: &mut Page) -> Taken
+        requires took { (self.took ≡ true) × (self.table ≡ page.old.table) }
+        requires id { (id ≡ taken_id self.before) × (id < 2 ^ 63 - 1) }
+        requires early { IsPrefix page.old.moves self.before }
+        ensures taken { IsTakenAfter self.table page.old.moves page.new.moves result }
+        ensures table { page.new.table ≡ page.old.table }
+    {
+        let ((right, mark), tenure) = self.into_rights();
+        *page = tenure.page();
+        (HeldId { id, mark }, right, tenure)
+    }
+
     /// Takes out what a step that took an id left.
-    pub(crate) fn into_taken(self) -> ((Right, Right), Tenure)
+    fn into_rights(self) -> ((Right, Right), Tenure)
         requires { self.took ≡ true }
         ensures tables { (result.0.0.table ≡ self.table) × (result.0.1.table ≡ self.table) × (result.1.table ≡ self.table) }
         ensures ids { (result.0.0.id ≡ taken_id self.before) × (result.0.1.id ≡ taken_id self.before + 2 ^ 63) }

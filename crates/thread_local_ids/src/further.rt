@@ -73,10 +73,8 @@ impl Further {
                     self.manager.free(id);
                     return Ok(None);
                 }
-                let ((right, mark), tenure) = trace.into_taken();
                 self.reached = self.reached.max(id - (FIRST_IDS - 1));
-                *page = tenure.page();
-                Ok(Some((HeldId { id, mark }, right, tenure)))
+                Ok(Some(trace.into_taken(id, page)))
             }
             Err(error) => {
                 let (word, trace) = first.look(&mut self.log, page, false);

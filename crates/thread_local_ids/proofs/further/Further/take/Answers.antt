@@ -4,18 +4,19 @@ use mathlib.Core.List.{IsPrefix}
 use Rattle.thread_local_base.specs.Held.{HoldsAllBelow}
 use Rattle.thread_local_base.specs.IdMoves.{IdMove, Take, held_after, noted}
 use Rattle.thread_local_ids.specs.FirstIds.{IsSameBeyond}
-use Rattle.thread_local_ids.specs.Rights.{taken_id}
+use Rattle.thread_local_ids.specs.Taken.{IsTakenAfter}
 use Rattle.thread_local_ids.proofs.FirstLaws.{full_holds}
 use Rattle.thread_local_ids.proofs.FurtherLaws.{is_least, same_after, peak_after, all_held, if_took}
 use Rattle.thread_local_ids.proofs.further.Further.take.Goals as goal
 
-pub invariant_of-result : goal.invariant_of-result
-invariant_of-result c =
+pub into_taken-requires-clause-id : goal.into_taken-requires-clause-id
+into_taken-requires-clause-id c =
     let before = c.look-word.result.1.before in
-    let full = full_holds c.look-word.result.0 (held_after before) c.look-word.ensures.word (sym c.is_full.ensures ∙ c.if-not-is_full.false) in
-    let is = is_least c.self.inside.log.moves before c.self.inside.manager c.alloc.new.manager c.in-Ok.id c.in-Ok.ensures.ok c.self.invariant.beyond
-    c.look-word.ensures.beyond full in
-    record { marked = c.into_taken-right.ensures.ids.1 ∙ ap (λ (k : ℕ). k + 2 ^ 63) (sym is); in_range = c.in-Ok.ensures.ok.in_range }
+    let full = full_holds c.look-word.result.0 (held_after before) c.look-word.ensures.word (sym c.is_full.ensures ∙ c.if-not-is_full.false) in (
+      is_least c.self.inside.log.moves before c.self.inside.manager c.alloc.new.manager c.in-Ok.id c.in-Ok.ensures.ok c.self.invariant.beyond
+          c.look-word.ensures.beyond full,
+      c.in-Ok.ensures.ok.in_range,
+    )
 
 pub invariant_of-self-in-Ok : goal.invariant_of-self-in-Ok
 invariant_of-self-in-Ok c =
@@ -45,23 +46,8 @@ invariant_of-self-in-Ok c =
 
 pub returns-else-not-is_full-clause-take : goal.returns-else-not-is_full-clause-take
 returns-else-not-is_full-clause-take c =
-    let is = is_least c.self.inside.log.moves c.look-word.result.1.before c.self.inside.manager c.alloc.new.manager c.in-Ok.id c.in-Ok.ensures.ok
-    c.self.invariant.beyond c.look-word.ensures.beyond
-    (full_holds c.look-word.result.0 (held_after c.look-word.result.1.before) c.look-word.ensures.word
-    (sym c.is_full.ensures ∙ c.if-not-is_full.false)) in
-    let taken = c.into_taken-right.ensures in
-    let before = taken.before in
-    record {
-      held = record {
-        right = taken.tables.0 ∙ c.look-word.ensures.table;
-        mark = taken.tables.1 ∙ c.look-word.ensures.table;
-        tenure = taken.tables.2 ∙ c.look-word.ensures.table;
-        id = taken.ids.0 ∙ sym is;
-        least = is ∙ ap (λ (l : List IdMove). taken_id l) (sym before);
-      };
-      since = subst (λ (l : List IdMove). IsPrefix c.args.page.now.moves l) (sym before) c.look-word.ensures.early;
-      moves = c.page.ensures.1;
-    }
+    subst (λ (t : ℕ). IsTakenAfter t c.args.page.now.moves c.into_taken.new.page.moves c.into_taken.result) c.look-word.ensures.table
+    c.into_taken.ensures.taken
 
 pub returns-else-not-is_full-2-clause-take : goal.returns-else-not-is_full-2-clause-take
 returns-else-not-is_full-2-clause-take c =

@@ -1,4 +1,4 @@
--- `into_taken` hands out what a step that took an id left.
+-- `into_rights` hands out what a step that took an id left.
 use Rattle.std.proofs.Common.{ℕ, ◌+◌, ◌^◌, Bool, [], ◌∷◌, refl}
 use base.Fml.{ftrue}
 use mir.Val.{Val}
@@ -21,15 +21,15 @@ use Rattle.thread_local_ids.proofs.Facts.{tells, tells_last}
 use Rattle.thread_local_ids.specs.contracts.first.Trace as trace
 use Rattle.thread_local_ids.specs.contracts.right.Right as right
 use Rattle.thread_local_ids.specs.contracts.page.Tenure as tenure
-use Rattle.thread_local_ids.specs.contracts.first.Trace.into_taken as f
-use Rattle.thread_local_ids.proofs.first.Trace.into_taken.Statement.{statement}
-use Rattle.thread_local_ids.proofs.first.Trace.into_taken.Code as code
+use Rattle.thread_local_ids.specs.contracts.first.Trace.into_rights as f
+use Rattle.thread_local_ids.proofs.first.Trace.into_rights.Statement.{statement}
+use Rattle.thread_local_ids.proofs.first.Trace.into_rights.Code as code
 
 abbrev stayed : Stays f.ended.signature.params f.ended.kept
 stayed = (stay_dropped (plain (λ _. trace.the_row)) yes, tt)
 
-pub into_taken_spec : {M : Type 1} → statement M
-into_taken_spec 𝓤 𝓛 𝓜 𝓡 wired =
+pub into_rights_spec : {M : Type 1} → statement M
+into_rights_spec 𝓤 𝓛 𝓜 𝓡 wired =
     let c = f.clauses 𝓛 𝓜.mem 𝓡.returns in let W = walk_of 𝓛 f.ended stayed c in
     let Ri : RattleType = right.the_row in
     let Te : RattleType = tenure.the_row in
