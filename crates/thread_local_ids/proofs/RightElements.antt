@@ -1,9 +1,7 @@
 -- The elements that rights own: how they are made, split, joined and compared. Assumes `Logic`.
 use Rattle.std.proofs.Common.{◌≡◌, ◌≢◌, ℕ, ◌==◌, Bool, true, false, not, List, [], ◌∷◌, if◌then◌else◌}
-use Rattle.std.proofs.Common.{refl, subst, arith}
-use Rattle.std.proofs.lemmas.Bool.Decides.{nat_tests}
-use Rattle.std.proofs.lemmas.Grind.{common_steps}
-use Rattle.std.proofs.lemmas.Bool.{eqb-true, eq-eqb}
+use Rattle.std.proofs.Common.{refl, subst, sym, ap, ◌∙◌}
+use Rattle.std.proofs.lemmas.Bool.{eqb-true, eq-eqb, ne_eqb}
 use native.Mathlib.Decide.{ℕ_discrete}
 use mathlib.Core.Logic.{dite}
 use mathlib.Core.Option.{Option, some}
@@ -23,12 +21,33 @@ use types.Owned.{own_new, own_sum, own_glued, own_join}
 use Rattle.thread_local_ids.specs.Rights.{is_out, less, telling, Element, element_if, right_owns, rights_own}
 use Rattle.thread_local_base.proofs.Signs.{signs}
 
+-- one test more, at the id itself and at another one
+at_same : (ij xj r tail : Bool) → xj ≡ ij → r ≡ (if ij then false else tail) → r ≡ (if ij then false else (if xj then true else tail))
+at_same true xj r tail same rest = rest
+at_same false true r tail same rest = cc
+at_same false false r tail same rest = rest
+
+at_other : (ij xj r tail : Bool) → (xj ≡ true → ij ≡ false) → r ≡ (if ij then false else tail)
+    → (if xj then true else r) ≡ (if ij then false else (if xj then true else tail))
+at_other true true r tail apart rest = apart refl
+at_other true false r tail apart rest = rest
+at_other false true r tail apart rest = refl
+at_other false false r tail apart rest = rest
+
+less_more : (x id j : ℕ) (out left : List ℕ) (t : Bool) → (x == id) ≡ t → is_out left j ≡ (if id == j then false else is_out out j)
+    → is_out (if t then left else x ∷ left) j ≡ (if id == j then false else is_out (x ∷ out) j)
+less_more x id j out left true e rest =
+    at_same (id == j) (x == j) (is_out left j) (is_out out j) (ap (λ (k : ℕ). k == j) (eqb-true x id e)) rest
+less_more x id j out left false e rest =
+    at_other (id == j) (x == j) (is_out left j) (is_out out j)
+    (λ is. subst (λ (k : ℕ). (id == k) ≡ false) (eqb-true x j is)
+    (ne_eqb id x (λ same. let no : false ≡ true = sym e ∙ eq-eqb x id (sym same) in cc)))
+    rest
+
 -- what is out once an id's right is put back
 pub is_out-less : (out : List ℕ) (id j : ℕ) → is_out (less out id) j ≡ (if id == j then false else is_out out j)
 is_out-less [] id j = elim (id == j) as (λ t. false ≡ (if t then false else false)) [ true ↦ refl | false ↦ refl ]
-is_out-less (x ∷ out) id j =
-    let rest : is_out (less out id) j ≡ (if id == j then false else is_out out j) = is_out-less out id j in
-    grind (arith, common_steps, nat_tests)
+is_out-less (x ∷ out) id j = less_more x id j out (less out id) (x == id) refl (is_out-less out id j)
 
 abbrev whole : Element
 whole = (some full_share, [])

@@ -1,4 +1,4 @@
-use Rattle.std.proofs.Common.{◌≡◌, ◌∙◌, ℕ, ◌+◌, ◌-◌, ◌^◌, ◌≤◌, ap, sym, subst, arith, length, List}
+use Rattle.std.proofs.Common.{◌≡◌, ◌∙◌, ℕ, ◌-◌, ◌^◌, ◌≤◌, ap, sym, subst, arith, length, List}
 use Rattle.std.specs.Prelude.{Err}
 use mathlib.Core.List.{IsPrefix}
 use Rattle.thread_local_base.specs.Held.{HoldsAllBelow}
@@ -6,8 +6,12 @@ use Rattle.thread_local_base.specs.IdMoves.{IdMove, Take, held_after, noted}
 use Rattle.thread_local_ids.specs.FirstIds.{IsSameBeyond}
 use Rattle.thread_local_ids.specs.Taken.{IsTakenAfter}
 use Rattle.thread_local_ids.proofs.FirstLaws.{full_holds}
-use Rattle.thread_local_ids.proofs.FurtherLaws.{is_least, same_after, peak_after, all_held, if_took}
+use Rattle.thread_local_ids.proofs.FurtherLaws.{is_least, has_further, same_after, peak_after, all_held, if_took}
 use Rattle.thread_local_ids.proofs.further.Further.take.Goals as goal
+
+pub look-word-requires-clause-further : goal.look-word-requires-clause-further
+look-word-requires-clause-further c = λ _.
+    has_further c.self.inside.log.moves c.self.inside.manager c.alloc.new.manager c.in-Ok.id c.in-Ok.ensures.ok c.self.invariant.beyond
 
 pub into_taken-requires-clause-id : goal.into_taken-requires-clause-id
 into_taken-requires-clause-id c =
