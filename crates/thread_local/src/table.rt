@@ -10,6 +10,7 @@ ghost use Rattle.thread_local_judged.specs.Judged.{Judged};
 ghost use Rattle.thread_local_base.specs.Held.{least, held_count, HoldsAllBelow};
 ghost use Rattle.thread_local_base.specs.IdMoves.{Take, held_after, noted};
 ghost use mathlib.Core.List.{IsPrefix};
+ghost use Rattle.thread_local_ids.specs.SharedIds.{AreNew};
 ghost use Rattle.thread_local_shared_buckets.specs.Grown.{only_reserved};
 ghost use Rattle.thread_local_shared_buckets.specs.Walks.{fresh, fresh_with};
 
@@ -22,7 +23,7 @@ use thread_local_base::LocalError;
 use thread_local_base::walk::walk_lists_the_map;
 pub use thread_local_buckets::CapacityError;
 use thread_local_buckets::{Buckets, EntriesMut, IntoEntries, IntoIter, IterMut};
-use thread_local_ids::{Ids, Right, Room, SharedIds};
+use thread_local_ids::{Right, Room, SharedIds};
 pub use thread_local_ids::{Book, Page, Token, Told};
 pub use thread_local_judged::{Judge, judge_sync, judge_value};
 use thread_local_shared_buckets::{Entries, Iter, Shared, Tokens};
@@ -104,24 +105,26 @@ impl<T> ThreadLocal<T> {
         ensures room { result.room ≡ 0 }
         ensures grown { result.grown_by_ids ≡ true }
     {
-        ThreadLocal::of(alloc, Buckets::new(alloc), Ids::new(alloc))
+        ThreadLocal::of(alloc, Buckets::new(alloc), SharedIds::new(alloc))
     }
 
-    /// Makes a table of an owner's buckets and of ids of which nothing was done yet.
-    fn of(alloc: Global, buckets: Buckets<T>, mut ids: Ids) -> ThreadLocal<T>
+    /// Makes a table of an owner's buckets and of new ids.
+    fn of(
+        alloc: Global,
+        buckets: Buckets<T>,
+        made: (SharedIds, Right, Page, Room),
+    ) -> ThreadLocal<T>
         requires judged { Judged T.row }
-        requires ids { (ids.table_right_is_out ≡ false) × (ids.moves ≡ []) }
+        requires ids { AreNew made }
         ensures sharing { IsSome result.sharing }
         ensures reserved { result.reserved ≡ buckets.reserved }
-        ensures room { result.room ≡ ids.room }
+        ensures room { result.room ≡ made.3.ids }
         ensures grown { result.grown_by_ids ≡ only_reserved buckets }
     {
-        let table_right = ids.table_right();
-        let first = ids.page();
-        let room = ids.room();
+        let (ids, table_right, first, room) = made;
         ThreadLocal {
             buckets: Shared::new(buckets, &table_right),
-            ids: ids.into_shared(),
+            ids,
             table_right,
             first,
             room,
@@ -148,7 +151,7 @@ impl<T> ThreadLocal<T> {
         ensures not_too_large { result ≡ Err CapacityError.TooLarge → 2 ^ 63 ≤ capacity }
     {
         let buckets = Buckets::with_capacity(alloc, capacity)?;
-        let ids = Ids::with_room(alloc, capacity)?;
+        let ids = SharedIds::with_room(alloc, capacity)?;
         Ok(ThreadLocal::of(alloc, buckets, ids))
     }
 
@@ -417,7 +420,7 @@ impl<T: Judge + Send> MadeWith<Global> for ThreadLocal<T> {
     /// judged.
     fn made_with(alloc: Global) -> ThreadLocal<T> {
         T::judge();
-        ThreadLocal::of(alloc, Buckets::new(alloc), Ids::new(alloc))
+        ThreadLocal::of(alloc, Buckets::new(alloc), SharedIds::new(alloc))
     }
 }
 

@@ -1,5 +1,4 @@
 pub mod Returns
-pub mod Tied
 pub mod Guarded
 pub mod Locking
 pub mod Told

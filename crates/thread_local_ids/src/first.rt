@@ -17,10 +17,16 @@ ghost use Rattle.thread_local_ids.specs.FirstIds.{is_full as is_full_word, word_
 use crate::held::{HeldId, Taken};
 use crate::page::{History, Page, Tenure};
 use crate::right::{Right, Rights};
+use crate::room::Room;
 use crate::word::exchange;
 use std::marker::{Brand, Model, Move, Owns, PhantomData};
 use std::sync::atomic::Ordering::SeqCst;
 use std::sync::atomic::raw;
+use thread_local_base::ThreadIdManager;
+use thread_local_base::manager::IDS;
+
+/// The right to this number becomes the history of the table. It is no id and no mark.
+const HISTORY: usize = usize::MAX;
 
 /// How many ids have a bit in the word.
 pub(crate) const FIRST_IDS: usize = 58;
@@ -94,8 +100,27 @@ impl Rights {
 }
 
 impl FirstIds {
+    /// The first ids of a new table whose further ids the manager gives out. Beside them are the log,
+    /// the table's right, to the number that lies between the ids and their marks, the page from
+    /// before any id is taken, and the room.
+    pub(crate) fn begun(manager: &ThreadIdManager) -> (FirstIds, Log, (Right, Page, Room))
+        ensures log { (result.1.table ≡ result.0.table) × (result.1.moves ≡ []) × (result.1.whole ≡ false) }
+        ensures right { (result.2.0.table ≡ result.0.table) × (result.2.0.id ≡ 2 ^ 63 - 1) }
+        ensures page { (result.2.1.table ≡ result.0.table) × (result.2.1.moves ≡ []) }
+        ensures room { (result.2.2.table ≡ result.0.table) × (result.2.2.ids ≡ manager.now.room) }
+    {
+        let mut rights = Rights::new();
+        let history = rights.take(HISTORY).into_history();
+        let page = history.page();
+        let room = rights.note_room(manager);
+        let mut log = rights.note_log();
+        let right = rights.take(IDS);
+        let first = FirstIds::new(rights, history, &mut log);
+        (first, log, (right, page, room))
+    }
+
     /// The first ids of a table, none of them held. One half of the log stays with them.
-    pub(crate) fn new(rights: Rights, history: History, log: &mut Log) -> FirstIds
+    fn new(rights: Rights, history: History, log: &mut Log) -> FirstIds
         requires tables { (history.table ≡ rights.table) × (log.old.table ≡ rights.table) }
         requires begun { (history.moves ≡ []) × (log.old.moves ≡ []) × (log.old.whole ≡ true) }
         requires out { AreOutOf rights.out [] }

@@ -9,13 +9,11 @@ ghost use Rattle.thread_local_ids.specs.Filled.{IsFilled, TakesFurther};
 
 use crate::first::{FIRST_IDS, FirstIds, Log, is_full, peak};
 use crate::held::{HeldId, Taken};
-use crate::ids::begun;
 use crate::lock::Fits;
 use crate::page::{Page, Tenure};
 use crate::right::Right;
 use crate::room::Room;
 use std::marker::Model;
-use thread_local_base::manager::IDS;
 use thread_local_base::{LocalError, ThreadIdManager};
 
 /// Gives out the further ids. Its manager has all ids of the table: the first ones count as held
@@ -129,14 +127,12 @@ impl Further {
         ensures held { self.new.manager.held ≡ [] }
     {
         self.manager.clear();
-        let (mut rights, history, room, mut log) = begun(&self.manager);
-        let right = rights.take(IDS);
-        let page = history.page();
-        *first = FirstIds::new(rights, history, &mut log);
+        let (begun, log, (right, page, room)) = FirstIds::begun(&self.manager);
+        *first = begun;
         self.log = log;
-        self.room = room;
+        self.room = room.again();
         self.reached = 0;
-        (right, page, self.room.again())
+        (right, page, room)
     }
 }
 

@@ -7,7 +7,6 @@ pub mod book;
 mod first;
 mod further;
 pub mod held;
-pub mod ids;
 pub mod lock;
 pub mod page;
 pub mod reached;
@@ -22,7 +21,6 @@ pub mod word;
 
 pub use book::Book;
 pub use held::{HeldId, Taken};
-pub use ids::Ids;
 pub use lock::{Fits, Lock, LockGuard};
 pub use page::{History, Page, Tenure};
 pub use reached::Reached;

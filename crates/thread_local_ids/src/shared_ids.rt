@@ -1,8 +1,9 @@
 //! The ids of a table while threads share it.
-ghost use Rattle.std.specs.Prelude.{◌≡◌, ◌+◌, ◌-◌, ◌^◌, ◌≤◌, IfOk, Err, alloc_error, length, [], false};
+ghost use Rattle.std.specs.Prelude.{◌≡◌, ◌+◌, ◌-◌, ◌^◌, ◌<◌, ◌≤◌, min, IsOk, IfOk, Err, alloc_error, length, [], false};
 ghost use mathlib.Core.List.{IsPrefix};
 ghost use Rattle.thread_local_base.specs.IdMoves.{held_after};
 ghost use Rattle.thread_local_base.specs.Held.{HoldsAllBelow};
+ghost use Rattle.thread_local_ids.specs.SharedIds.{AreNew};
 ghost use Rattle.thread_local_ids.specs.Taken.{IsHeldIn, IsTakenAfter, IsTake, IsTry};
 ghost use Rattle.thread_local_ids.specs.FirstIds.{IsReturn};
 
@@ -14,9 +15,10 @@ use crate::page::{Page, Tenure};
 use crate::reached::Reached;
 use crate::right::Right;
 use crate::room::Room;
+use std::alloc::{AllocError, Global};
 use std::marker::Model;
 use std::sync::Wait;
-use thread_local_base::LocalError;
+use thread_local_base::{LocalError, ThreadIdManager};
 
 /// Gives out the least id that isn't held, and takes ids back, while threads share it. An id below 58
 /// is given back without the lock, and taken without it unless other threads take or return ids at
@@ -40,6 +42,52 @@ impl Model for SharedIds {
 }
 
 impl SharedIds {
+    /// The ids of a new table, none of them held. For contracts there are beside them the table's own
+    /// right, the page from before any id is taken, and the room. Whoever has the right can show that
+    /// another table has another name. The first 64 ids need no memory.
+    pub fn new(alloc: Global) -> (SharedIds, Right, Page, Room)
+        ensures new { AreNew result }
+        ensures room { result.3.ids ≡ 0 }
+    {
+        SharedIds::of(ThreadIdManager::new(alloc))
+    }
+
+    /// The ids of a new table as from `new`, with room for `ids` of them, or for every id where that is
+    /// less. It asks for memory once, and not at all where `ids` is at most 64. It refuses where that
+    /// memory isn't given.
+    pub fn with_room(
+        alloc: Global,
+        ids: usize,
+    ) -> Result<(SharedIds, Right, Page, Room), AllocError>
+        ensures new { IfOk result AreNew }
+        ensures room { IfOk result (λ made. min ids (2 ^ 63 - 1) ≤ made.3.ids) }
+        ensures few { IfOk result (λ made. made.3.ids < min ids (2 ^ 63 - 1) + 64) }
+        ensures room_in_range { IfOk result (λ made. made.3.ids ≤ 2 ^ 63 - 1) }
+        ensures no_ids { ids ≡ 0 → IsOk result }
+    {
+        Ok(SharedIds::of(ThreadIdManager::with_room(alloc, ids)?))
+    }
+
+    /// The ids of a new table, which the manager gives out from the 58th on.
+    fn of(manager: ThreadIdManager) -> (SharedIds, Right, Page, Room)
+        requires { manager.held ≡ [] }
+        ensures new { AreNew result }
+        ensures room { result.3.ids ≡ manager.room }
+    {
+        let (first, log, (right, page, room)) = FirstIds::begun(&manager);
+        let further = Further {
+            manager,
+            log,
+            room: room.again(),
+            reached: 0,
+        };
+        let ids = SharedIds {
+            first,
+            further: Lock::new(further),
+        };
+        (ids, right, page, room)
+    }
+
     /// Takes the least id that isn't held, with its right, and leaves the page of all that was done
     /// so far, where it is refused too. It waits only where all of the first ids are held, or where
     /// other threads take or return ids at the same time. `Memory` means out of memory, where all ids

@@ -1,5 +1,6 @@
 //! Ids that threads share, also past the 58th, from which on they lie under a lock.
 ghost use Rattle.std.specs.Prelude.{◌≡◌, IfOk, []};
+ghost use Rattle.thread_local_ids.specs.SharedIds.{AreNew};
 ghost use Rattle.thread_local_ids.specs.Taken.{IsHeldIn};
 
 use crate::same::assert_same;
@@ -10,7 +11,7 @@ use std::test::Fail;
 use std::thread;
 use std::thread::Threads;
 use thread_local_base::LocalError;
-use thread_local_ids::{Ids, Page, Room, SharedIds, Taken};
+use thread_local_ids::{Page, Right, Room, SharedIds, Taken};
 
 /// The ids of a table, with its first page and its room.
 #[derive(Drop)]
@@ -24,25 +25,20 @@ pub struct Table {
 impl Table {
     /// A new table.
     pub fn new(alloc: Global) -> Table {
-        Table::of(Ids::new(alloc))
+        Table::of(SharedIds::new(alloc))
     }
 
     /// A new table with room for so many ids.
     fn with_room(alloc: Global, ids: usize) -> Result<Table, AllocError> {
-        Ok(Table::of(Ids::with_room(alloc, ids)?))
+        Ok(Table::of(SharedIds::with_room(alloc, ids)?))
     }
 
-    /// The table of ids of which nothing was done yet.
-    fn of(ids: Ids) -> Table
-        requires { ids.moves ≡ [] }
+    /// The table of new ids.
+    fn of(made: (SharedIds, Right, Page, Room)) -> Table
+        requires { AreNew made }
     {
-        let start = ids.page();
-        let room = ids.room();
-        Table {
-            ids: ids.into_shared(),
-            start,
-            room,
-        }
+        let (ids, _, start, room) = made;
+        Table { ids, start, room }
     }
 
     /// Takes an id.

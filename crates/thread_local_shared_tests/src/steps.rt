@@ -9,7 +9,7 @@ use std::sync::Wait;
 use thread_local_base::{LocalError, Thread, bucket_size};
 use thread_local_bucket_pointers::flag_word_at;
 use thread_local_buckets::Buckets;
-use thread_local_ids::{HeldId, Ids, Page, Right, Room, SharedIds, Taken, Tenure, TokenList};
+use thread_local_ids::{HeldId, Page, Right, Room, SharedIds, Taken, Tenure, TokenList};
 use thread_local_shared_buckets::{Claim, Shared};
 
 /// The ids of a table, with the table's right, its first page and its room.
@@ -25,12 +25,9 @@ pub struct Table {
 impl Table {
     /// None of the ids is held.
     pub fn new(alloc: Global) -> Table {
-        let mut ids = Ids::new(alloc);
-        let right = ids.table_right();
-        let start = ids.page();
-        let room = ids.room();
+        let (ids, right, start, room) = SharedIds::new(alloc);
         Table {
-            ids: ids.into_shared(),
+            ids,
             right,
             start,
             room,

@@ -14,7 +14,7 @@ fits capacity room large least =
 
 -- The search for these takes a second.
 pub of-requires : goal.of-requires
-of-requires g c = (lit< tt, (lit< tt, (c.requires.judged, (c.in_ok-ids.ensures.table_right, c.in_ok-ids.ensures.moves))))
+of-requires g c = (lit< tt, (lit< tt, (c.requires.judged, c.in_ok-ids.ensures.new)))
 
 pub returns-clause-too_large : goal.returns-clause-too_large
 returns-clause-too_large g c = λ large. absurd (ok_not_err (c.in_ok-buckets.ensures.too_large large))
@@ -25,8 +25,8 @@ returns-in_err-ids-clause-too_large g c = λ large. absurd (ok_not_err (c.in_ok-
 pub returns-clause-room : goal.returns-clause-room
 returns-clause-room g c =
     subst (λ (room : ℕ). c.args.capacity ≤ room) (sym c.of.ensures.room)
-    (fits c.args.capacity c.in_ok-ids.ids.room (λ large. ok_not_err (c.in_ok-buckets.ensures.too_large large))
-    c.in_ok-ids.ensures.made_room)
+    (fits c.args.capacity c.in_ok-ids.ids.3.ids (λ large. ok_not_err (c.in_ok-buckets.ensures.too_large large))
+    c.in_ok-ids.ensures.room)
 
 pub returns-clause-not_too_large : goal.returns-clause-not_too_large
 returns-clause-not_too_large g c = λ told. absurd (ok_not_err told)
