@@ -20,8 +20,8 @@ clear_bucket-requires g c =
       (
         low,
         λ reserved.
-        ap (λ (r : List (Option g.row.T.Denot)). nat_lt 0 (length r)) (c.buckets.invariant.kept b last.within last.last)
-        ∙ c.requires.standing b low reserved,
+            ap (λ (r : List (Option g.row.T.Denot)). nat_lt 0 (length r)) (c.buckets.invariant.kept b last.within last.last)
+            ∙ c.requires.standing b low reserved,
       ),
     )
 
