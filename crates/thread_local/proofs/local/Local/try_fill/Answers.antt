@@ -103,3 +103,9 @@ returns-in_err-block-clause-empty g c =
 
 pub returns-in-Err-clause-empty : goal.returns-in-Err-clause-empty
 returns-in-Err-clause-empty g c = c.in_ok-block.ensures.leaves.empty
+
+pub returns-in-Err-clause-failed : goal.returns-in-Err-clause-failed
+returns-in-Err-clause-failed g c = c.in-Err.ensures
+
+pub release_room-requires : goal.release_room-requires
+release_room-requires g c = record { room = c.in_ok-block.ensures.ok }

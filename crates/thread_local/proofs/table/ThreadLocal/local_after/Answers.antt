@@ -54,3 +54,12 @@ returns-clause-granted g c = λ few told. ok_not_err told
 
 pub returns-clause-exhausted : goal.returns-clause-exhausted
 returns-clause-exhausted g c = λ told. absurd (ok_not_err told)
+
+pub returns-clause-page : goal.returns-clause-page
+returns-clause-page g c = c.take.ensures.table
+
+pub returns-in_err-held-clause-page : goal.returns-in_err-held-clause-page
+returns-in_err-held-clause-page g c = c.take.ensures.table
+
+pub returns-in_err-held-clause-early : goal.returns-in_err-held-clause-early
+returns-in_err-held-clause-early g c = c.take.ensures.early
