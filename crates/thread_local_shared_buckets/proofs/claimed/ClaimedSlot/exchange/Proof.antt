@@ -36,6 +36,14 @@ use denote.Signature.{named_lft}
 use denote.RawPtr.{RawPtr, in_a_block}
 use denote.Param.{bounded}
 use denote.Param.Laws.{Laws, param_laws}
+use types.Kit.{Seq, Go, prop}
+use types.ByLocal.{holding, forget_but}
+use contract.Running.{Running, MachineTables}
+use prog.Model.{Model}
+use prog.Wp.{Env}
+use mir.Syntax.{Fn}
+use denote.Triple.Clauses.{Ended, Clauses}
+use denote.Ref.{NamedLft}
 use denote.Struct.Tuple.{Tuple}
 use Rattle.std.proofs.ResultValues.{and_tt}
 use Rattle.std.proofs.option.Made.{Some-of, none_of}
@@ -103,6 +111,149 @@ name_behind [] η behind (suc i) long = absurd (omega (arith, long))
 name_behind (μ ∷ before) η behind zero long = absurd (omega (arith, long))
 name_behind (μ ∷ before) η behind (suc i) long = name_behind before η behind i (omega (arith, long))
 
+-- What is left once the arms have answered, which is the same after both: the address of the slot, and the claim.
+module _ {M : Type 1} {𝓤 : Ura M} (𝓛 : Logic 𝓤) (𝓜 : Model 𝓤 𝓛.H) (𝓡 : Running 𝓤 𝓛.H 𝓜) (X : RattleType) where
+  open 𝓛 use {H}
+
+  abbrev 𝓣 : MachineTables 𝓤 H 𝓜
+  𝓣 = tables 𝓤 H 𝓜 𝓡 𝓡.env
+
+  abbrev R : RattleType
+  R = param 0 X
+
+  abbrev Bl : RattleType
+  Bl = block.the_row R heap.the_row ghosts
+
+  abbrev Back : RattleType
+  Back = Opt.the_row Bl
+
+  abbrev En : Ended
+  En = ended X
+
+  abbrev stayed : Stays En.signature.params En.kept
+  stayed =
+      let self = plain (λ κs. claim.the_row (named_lft 2 0 tt κs) R) in let number = plain (λ _. usize) in let lot = plain (λ _. Bl) in
+      let shown = plain (λ _. Reached.the_row) in
+      let known = plain (λ _. Announced.the_row) in
+      (stay_dropped self no, (stay_dropped number yes, (stay_dropped lot no, (stay_dropped shown yes, (stay_dropped known yes, tt)))))
+
+  abbrev c : Clauses 𝓤 En
+  c = clauses X 𝓛 𝓜.mem 𝓡.returns
+
+  abbrev fn : Fn
+  fn = inst_fn (bounded (a_type ∷ []) (X, tt) dnil) code.function
+
+  module _ (y : (walk_of 𝓛 En stayed c).Ghost) (l : ℕ → ℕ) where
+    abbrev β : Lft
+    β = y.0.0.0
+
+    abbrev q : Share
+    q = y.0.1.0
+
+    abbrev others : Fml
+    others = fsep (flft y.0.0.1.0 y.0.1.1.0) ftrue
+
+    abbrev ℓ : NamedLft
+    ℓ = named_lft 2 0 tt y.0.0
+
+    abbrev G : RattleType
+    G = claim.the_row ℓ R
+
+    abbrev h : G.Denot
+    h = y.0.3.0
+
+    abbrev ix : ℕ
+    ix = y.0.3.1.0
+
+    abbrev x : Bl.Denot
+    x = y.0.3.1.1.0
+
+    abbrev w : Ptr
+    w = block_ptr (block_of h.bucket) (count_of h.bucket)
+
+    abbrev Owned : Learnt X.Denot → ℕ → ℕ → ℕ → Fml
+    Owned knows state pb o =
+        claim_owns R β h.table
+        (claim_fields h.id h.index w (value_at R (block_ptr pb o) h.index) h.sharing h.word h.reserved)
+        knows state
+
+    abbrev Ev : Env 𝓤 H
+    Ev = env fn.locals l
+
+    abbrev Post : Val → SProp 𝓤
+    Post = (walk_of 𝓛 En stayed c).post y
+
+    abbrev answer : ℕ → ℕ → ℕ → Val → Val
+    answer pb o k back = vstruct (vcons (vptr pb o) (vcons (vint w64 k) (vcons back vnil)))
+
+    ends : (pb o k : ℕ) → k < 2 ^ 64 → (back : Val) → Good (layout Back) back → (opt : Back.Denot) (knows : Learnt X.Denot)
+        → ix ≡ h.index → h.index * stride R < 2 ^ 64
+        → IfSome opt (λ was. (was.heap ≡ x.heap) × (was.slots ≡ x.slots) × (was.left ≡ 0))
+        → MatchOption opt (knows ≡ found_as (slot_value x.slots h.index)) (λ _. knows ≡ Vacant)
+        → Seq (Go {0}) 𝓛 (‵ (flft β q) ∷ ‵ (Owned knows k pb o) ∷ ‵ (Back.own_val opt (back ∷ [])) ∷ ‵ others
+        ∷ holding 𝓛 Ev ((22, answer pb o k back) ∷ (2, vint w64 ix) ∷ []))
+        (prop (Wp 𝓤 H 𝓣.C 𝓣.Λ Ev (after 6 fn.body) (at_return 𝓤 H Ev Post)))
+    ends pb o k low back held opt knows is_index close same_back learns =
+        let i : ℕ = h.index in
+        let Res : Type 0 = G.Denot × Back.Denot in
+        let Out : RattleType = Tuple (G ∷ Back ∷ []) in
+        let Triple : RattleType = Tuple (RawPtr ∷ u64 ∷ Back ∷ []) in
+        let F₁ : Res → Type 0 = λ r.
+        (r.0.table ≡ h.table) × (◌≡◌ {A = Option ℕ} r.0.sharing h.sharing) × (r.0.word ≡ h.word) × (r.0.id ≡ h.id)
+        × (r.0.index ≡ h.index) in
+        let F₂ : Res → Type 0 = λ r. r.0.reserved ≡ h.reserved in
+        let F₄ : Res → Type 0 = λ r.
+        MatchOption r.1 (r.0.learnt ≡ found_as (slot_value x.slots h.index)) (λ _. r.0.learnt ≡ Vacant) in
+        let F₃ : Res → Type 0 =
+        λ r. IfSome r.1 (λ was. (was.heap ≡ x.heap) × (was.slots ≡ x.slots) × (was.left ≡ 0)) in
+        let close_at : ix * stride R < 2 ^ 64 = subst (λ (n : ℕ). n * stride R < 2 ^ 64) (sym is_index) close in
+        let answer_good : Good (layout Triple) (answer pb o k back) = (and_tt _ held.0, (tt, (record { fits = low }, (held.1, tt)))) in
+        exec ! 𝓣.C 𝓣.Λ Ev (after 6 fn.body) (at_ret Ev Post) $
+        sets ! (of_opd ! (get ! refl)) refl answer_good $
+        sets ! (of_opd ! (get_in ! (fld ! refl (stop !)) (sub ! 0 refl (whole !)))) refl (tt, tt) $
+        sets ! (of_opd ! (get_in ! (fld ! refl (stop !)) (sub ! 1 refl (whole !)))) refl (tt, record { fits = low }) $
+        sets ! (of_opd ! (get_in ! (fld ! refl (stop !)) (sub ! 2 refl (whole !)))) refl held $
+        first ! $ blocks ! $ sets ! (of_opd ! (get ! refl)) refl (tt, tt) $
+        sets !
+        (is ! (bin ! (get ! refl) (size_word !) (record { fits = spaced ix (stride R) close_at }))
+        (spaced_is ix (stride R) close_at ∙ ap (λ (n : ℕ). vint w64 (n * stride R)) is_index))
+        refl (tt, record { fits = close }) $
+        sets_last ! (bin ! (get ! refl) (get ! refl) tt) refl (tt, tt) $
+        exec ! 𝓣.C 𝓣.Λ Ev (after 11 fn.body) (at_ret Ev Post) $
+        sets ! (of_opd ! (get ! refl)) refl (tt, tt) $ sets ! (of_opd ! (get ! refl)) refl (tt, tt) $
+        let m : Kept = record { at = value_at R (block_ptr pb o) i; state = k } in let kept_good = typed m low in
+        sets ! (agg ! (no_more !)) refl (tt, tt) $
+        sets ! (agg ! (and_then ! (get ! refl) (and_then ! (get ! refl) (and_then ! (get ! refl) (no_more !))))) refl kept_good $
+        sets ! (of_opd ! (get ! refl)) refl kept_good $ sets ! (of_opd ! (get ! refl)) refl held $
+        let v : Val = both (value_of m) back in let good : Good (layout Out) v = (and_tt _ held.0, (kept_good.1, (held.1, tt))) in
+        sets ! (agg ! (and_then ! (get ! refl) (and_then ! (get ! refl) (no_more !)))) refl good $
+        returns ! (look_at ! 0 refl) $ free_all ! refl $
+        -- [the token; the claim; what comes back; the other tokens]
+        move ! (1 ∷ []) $
+        use0 𝓛 (‵ ((FieldsType ℓ R).own_val (fields_of ℓ R m) (value_of m ∷ []))) (made ℓ R 𝓛 m low) $ fjoin ! $
+        let r : G.Denot = record {
+          at = value_at R (block_ptr pb o) i;
+          state = k;
+          marker = record {};
+          bucket = w;
+          table = h.table;
+          sharing = h.sharing;
+          word = h.word;
+          id = h.id;
+          index = i;
+          reserved = h.reserved;
+          learnt = knows;
+        } in
+        move ! (0 ∷ 2 ∷ []) $
+        pair_in G Back ! r opt (value_of m) back $ move ! (1 ∷ 2 ∷ []) $ join ! $ move ! (1 ∷ []) $
+        use0 𝓛 (raw (fact 𝓤 (F₃ (r, opt)))) (fact_i 𝓤 (F₃ (r, opt)) (emp 𝓤) same_back) $
+        use0 𝓛 (raw (fact 𝓤 (F₄ (r, opt)))) (fact_i 𝓤 (F₄ (r, opt)) (emp 𝓤) learns) $ join ! $
+        use0 𝓛 (raw (fact 𝓤 (F₂ (r, opt)))) (fact_i 𝓤 (F₂ (r, opt)) (emp 𝓤) refl) $ join ! $
+        use0 𝓛 (raw (fact 𝓤 (F₁ (r, opt)))) (fact_i 𝓤 (F₁ (r, opt)) (emp 𝓤) (refl, refl, refl, refl, refl)) $ join ! $
+        nothing ! $ nothing ! $ fjoin ! $ nothing ! $ fjoin ! $ nothing ! $ fjoin ! $ nothing ! $ fjoin ! $ nothing ! $ fjoin ! $
+        keep ! (3 ∷ 0 ∷ 2 ∷ 1 ∷ []) $
+        by ! (leaves 𝓛 En stayed c y v (r, opt) (tt, (tt, (tt, (tt, (tt, tt))))) (tt, (tt, (tt, (tt, (tt, tt))))))
+
 pub exchange_spec : {M : Type 1} → statement M
 exchange_spec 𝓤 𝓛 𝓜 𝓡 wired X L =
     let H = 𝓛.H in
@@ -151,7 +302,6 @@ exchange_spec 𝓤 𝓛 𝓜 𝓡 wired X L =
     let q : Share = qs.0 in
     let others : Fml = fsep (flft κs.1.0 qs.1.0) ftrue in
     let ℓ = named_lft 2 0 tt κs in
-    let G : RattleType = claim.the_row ℓ R in
     let u₀ : Val = value_of (kept_of h) in
     let ix : ℕ = a.1.0 in
     let x : Bl.Denot = a.1.1.0 in
@@ -160,17 +310,7 @@ exchange_spec 𝓤 𝓛 𝓜 𝓡 wired X L =
     let no' : ℕ = count_of p in
     let new : Ptr = block_ptr nb no' in
     let bv : Val = fields.block_val p in
-    let Res : Type 0 = G.Denot × Back.Denot in
-    let Out : RattleType = Tuple (G ∷ Back ∷ []) in
     let Triple : RattleType = Tuple (RawPtr ∷ u64 ∷ Back ∷ []) in
-    let F₁ : Res → Type 0 = λ r.
-    (r.0.table ≡ h.table) × (◌≡◌ {A = Option ℕ} r.0.sharing h.sharing) × (r.0.word ≡ h.word) × (r.0.id ≡ h.id)
-    × (r.0.index ≡ h.index) in
-    let F₂ : Res → Type 0 = λ r. r.0.reserved ≡ h.reserved in
-    let F₄ : Res → Type 0 = λ r.
-    MatchOption r.1 (r.0.learnt ≡ found_as (slot_value x.slots h.index)) (λ _. r.0.learnt ≡ Vacant) in
-    let F₃ : Res → Type 0 =
-    λ r. IfSome r.1 (λ back. (back.heap ≡ x.heap) × (back.slots ≡ x.slots) × (back.left ≡ 0)) in
     let had = a.1.1.1.0 in
     let Had : Type 0 = (had.table ≡ h.table) × (h.id < had.ids) in
     let says = a.1.1.1.1.0 in
@@ -248,8 +388,6 @@ exchange_spec 𝓤 𝓛 𝓜 𝓡 wired X L =
     (fits_so 𝓛 R (ghosts.dealloc_token x.heap) p cs (len R d) (sym (ap length slots_are) ∙ all_long)) $
     learn ! (λ fits.
     let close : i * stride R < 2 ^ 64 = value_near R (len R d) i fits of.4 in
-    let close_at : ix * stride R < 2 ^ 64 =
-    subst (λ (n : ℕ). n * stride R < 2 ^ 64) (sym is_index) close in
     use1 𝓛 (given (InBlock p) (‵ (Blank p))) (offers.placed 𝓛 R t LR d x.heap xv i rest many p) $ learn ! (λ lies.
     let e : p ≡ new = at_block p lies in
     rewrite ! 0 (λ (u : Ptr). ‵ (Blank u)) e refl $
@@ -330,53 +468,10 @@ exchange_spec 𝓤 𝓛 𝓜 𝓡 wired X L =
     sets ! (agg ! (and_then ! (lit ! tt) (no_more !))) refl nothing_good $
     sets_last ! (agg ! (and_then ! (get ! refl) (and_then ! (lit ! tt) (and_then ! (get ! refl) (no_more !))))) refl
     triple_good $
-    exec ! 𝓣.C 𝓣.Λ Ev (after 6 fn.body) (at_ret Ev Post) $
-    sets ! (of_opd ! (get ! refl)) refl triple_good $
-    sets ! (of_opd ! (get_in ! (fld ! refl (stop !)) (sub ! 0 refl (whole !)))) refl (tt, tt) $
-    sets ! (of_opd ! (get_in ! (fld ! refl (stop !)) (sub ! 1 refl (whole !)))) refl (tt, record { fits = lit< tt }) $
-    sets ! (of_opd ! (get_in ! (fld ! refl (stop !)) (sub ! 2 refl (whole !)))) refl nothing_good $
-    first ! $ blocks ! $ sets ! (of_opd ! (get ! refl)) refl (tt, tt) $
-    sets !
-    (is ! (bin ! (get ! refl) (size_word !) (record { fits = spaced ix (stride R) close_at }))
-    (spaced_is ix (stride R) close_at ∙ ap (λ (n : ℕ). vint w64 (n * stride R)) is_index))
-    refl (tt, record { fits = close }) $
-    sets_last ! (bin ! (get ! refl) (get ! refl) tt) refl (tt, tt) $
-    exec ! 𝓣.C 𝓣.Λ Ev (after 11 fn.body) (at_ret Ev Post) $
-    sets ! (of_opd ! (get ! refl)) refl (tt, tt) $ sets ! (of_opd ! (get ! refl)) refl (tt, tt) $
-    let m : Kept = record { at = value_at R (block_ptr pb o) i; state = 2 } in let kept_good = typed m (lit< tt) in
-    sets ! (agg ! (no_more !)) refl (tt, tt) $
-    sets ! (agg ! (and_then ! (get ! refl) (and_then ! (get ! refl) (and_then ! (get ! refl) (no_more !))))) refl kept_good $
-    sets ! (of_opd ! (get ! refl)) refl kept_good $ sets ! (of_opd ! (get ! refl)) refl nothing_good $
-    let v : Val = both (value_of m) (live 0 vnil) in let good : Good (layout Out) v = (tt, (kept_good.1, (nothing_good.1, tt))) in
-    sets ! (agg ! (and_then ! (get ! refl) (and_then ! (get ! refl) (no_more !)))) refl good $
+    forget_but ! Ev (22 ∷ 2 ∷ []) refl $
     -- [the token; the claim; the other tokens]
-    move ! (1 ∷ []) $
-    use0 𝓛 (‵ ((FieldsType ℓ R).own_val (fields_of ℓ R m) (value_of m ∷ []))) (made ℓ R 𝓛 m (lit< tt)) $ fjoin ! $
-    let r : G.Denot = record {
-      at = value_at R (block_ptr pb o) i;
-      state = 2;
-      marker = record {};
-      bucket = block_ptr wb wo;
-      table = h.table;
-      sharing = h.sharing;
-      word = h.word;
-      id = h.id;
-      index = i;
-      reserved = h.reserved;
-      learnt = Holding xv;
-    } in
-    use0 𝓛 (‵ (Back.own_val None (live 0 vnil ∷ []))) (none_of 𝓛 Bl) $ move ! (1 ∷ 0 ∷ []) $
-    pair_in G Back ! r None (value_of m) (live 0 vnil) $ move ! (1 ∷ 2 ∷ []) $ join ! $
-    move ! (1 ∷ []) $
-    use0 𝓛 (raw (fact 𝓤 (F₃ (r, None)))) (fact_i 𝓤 (F₃ (r, None)) (emp 𝓤) tt) $
-    use0 𝓛 (raw (fact 𝓤 (F₄ (r, None)))) (fact_i 𝓤 (F₄ (r, None)) (emp 𝓤) (sym (ap found_as found_value.1))) $ join ! $
-    use0 𝓛 (raw (fact 𝓤 (F₂ (r, None)))) (fact_i 𝓤 (F₂ (r, None)) (emp 𝓤) refl) $ join ! $
-    use0 𝓛 (raw (fact 𝓤 (F₁ (r, None))))
-    (fact_i 𝓤 (F₁ (r, None)) (emp 𝓤) (refl, refl, refl, refl, refl)) $
-    join ! $
-    nothing ! $ nothing ! $ fjoin ! $ nothing ! $ fjoin ! $ nothing ! $ fjoin ! $ nothing ! $ fjoin ! $ nothing ! $ fjoin ! $
-    returns ! (look_at ! 0 refl) $ free_all ! refl $ keep ! (3 ∷ 0 ∷ 2 ∷ 1 ∷ []) $
-    by ! (leaves 𝓛 En hs c y v (r, None) (tt, (tt, (tt, (tt, (tt, tt))))) (tt, (tt, (tt, (tt, (tt, tt)))))))
+    use0 𝓛 (‵ (Back.own_val None (live 0 vnil ∷ []))) (none_of 𝓛 Bl) $ move ! (1 ∷ 2 ∷ []) $
+    ends 𝓛 𝓜 𝓡 X y l pb o 2 (lit< tt) (live 0 vnil) nothing_good None (Holding xv) is_index close tt (sym (ap found_as found_value.1)))
     (λ u₁. lands_last ! refl (calls.answer_good (Err u₁)) $
     exec ! 𝓣.C 𝓣.Λ Ev (after 4 fn.body) (at_ret Ev Post) $
     sets ! (of_opd ! (get ! refl)) refl (calls.answer_good (Err u₁)) $ fsplit ! $
@@ -419,42 +514,8 @@ exchange_spec 𝓤 𝓛 𝓜 𝓡 wired X L =
     sets ! (agg ! (and_then ! (lit ! tt) (and_then ! (get ! refl) (no_more !)))) refl held $
     sets_last ! (agg ! (and_then ! (get ! refl) (and_then ! (lit ! tt) (and_then ! (get ! refl) (no_more !))))) refl
     triple_good $
-    exec ! 𝓣.C 𝓣.Λ Ev (after 6 fn.body) (at_ret Ev Post) $
-    sets ! (of_opd ! (get ! refl)) refl triple_good $
-    sets ! (of_opd ! (get_in ! (fld ! refl (stop !)) (sub ! 0 refl (whole !)))) refl (tt, tt) $
-    sets ! (of_opd ! (get_in ! (fld ! refl (stop !)) (sub ! 1 refl (whole !)))) refl (tt, record { fits = lit< tt }) $
-    sets ! (of_opd ! (get_in ! (fld ! refl (stop !)) (sub ! 2 refl (whole !)))) refl held $
-    first ! $ blocks ! $ sets ! (of_opd ! (get ! refl)) refl (tt, tt) $
-    sets !
-    (is ! (bin ! (get ! refl) (size_word !) (record { fits = spaced ix (stride R) close_at }))
-    (spaced_is ix (stride R) close_at ∙ ap (λ (n : ℕ). vint w64 (n * stride R)) is_index))
-    refl (tt, record { fits = close }) $
-    sets_last ! (bin ! (get ! refl) (get ! refl) tt) refl (tt, tt) $
-    exec ! 𝓣.C 𝓣.Λ Ev (after 11 fn.body) (at_ret Ev Post) $
-    sets ! (of_opd ! (get ! refl)) refl (tt, tt) $ sets ! (of_opd ! (get ! refl)) refl (tt, tt) $
-    let m : Kept = record { at = value_at R (block_ptr pb o) i; state = 1 } in let kept_good = typed m (lit< tt) in
-    sets ! (agg ! (no_more !)) refl (tt, tt) $
-    sets ! (agg ! (and_then ! (get ! refl) (and_then ! (get ! refl) (and_then ! (get ! refl) (no_more !))))) refl kept_good $
-    sets ! (of_opd ! (get ! refl)) refl kept_good $ sets ! (of_opd ! (get ! refl)) refl held $
-    let v : Val = both (value_of m) back in let good : Good (layout Out) v = (and_tt _ held.0, (kept_good.1, (held.1, tt))) in
-    sets ! (agg ! (and_then ! (get ! refl) (and_then ! (get ! refl) (no_more !)))) refl good $
+    forget_but ! Ev (22 ∷ 2 ∷ []) refl $
     -- [the token; the claim; nothing; the block; the other tokens]
-    move ! (1 ∷ 0 ∷ 4 ∷ 3 ∷ []) $
-    use0 𝓛 (‵ ((FieldsType ℓ R).own_val (fields_of ℓ R m) (value_of m ∷ []))) (made ℓ R 𝓛 m (lit< tt)) $ fjoin ! $
-    let r : G.Denot = record {
-      at = value_at R (block_ptr pb o) i;
-      state = 1;
-      marker = record {};
-      bucket = block_ptr wb wo;
-      table = h.table;
-      sharing = h.sharing;
-      word = h.word;
-      id = h.id;
-      index = i;
-      reserved = h.reserved;
-      learnt = Vacant;
-    } in
-    -- [the claim; the token; the other tokens; the block; nothing]
     move ! (3 ∷ []) $ rewrite ! 0 (λ (u₂ : Ptr). ‵ (Blank u₂)) (sym e) refl $
     rewrite ! 0
     (λ (ys : List (Option X.Denot)). ‵ (block_owns R (ghosts.dealloc_token x.heap) p ys 0))
@@ -463,17 +524,6 @@ exchange_spec 𝓤 𝓛 𝓜 𝓡 wired X L =
     use0 𝓛 (‵ ((fields.FieldsType R Z ghosts).own_val (p, (record {}, tt)) (bv ∷ [])))
     (fields.made R Z ghosts 𝓛 p) $
     fjoin ! $ use1 𝓛 (‵ (Back.own_val (Some x) (back ∷ []))) (Some-of 𝓛 Bl x bv) $
-    move ! (1 ∷ 0 ∷ []) $
-    pair_in G Back ! r (Some x) (value_of m) back $ move ! (1 ∷ 2 ∷ []) $ join ! $ move ! (1 ∷ []) $
-    use0 𝓛 (raw (fact 𝓤 (F₃ (r, Some x))))
-    (fact_i 𝓤 (F₃ (r, Some x)) (emp 𝓤) (refl, refl, blank.0)) $
-    use0 𝓛 (raw (fact 𝓤 (F₄ (r, Some x)))) (fact_i 𝓤 (F₄ (r, Some x)) (emp 𝓤) refl) $ join ! $
-    use0 𝓛 (raw (fact 𝓤 (F₂ (r, Some x)))) (fact_i 𝓤 (F₂ (r, Some x)) (emp 𝓤) refl) $
-    join ! $
-    use0 𝓛 (raw (fact 𝓤 (F₁ (r, Some x))))
-    (fact_i 𝓤 (F₁ (r, Some x)) (emp 𝓤) (refl, refl, refl, refl, refl)) $
-    join ! $
-    nothing ! $ nothing ! $ fjoin ! $ nothing ! $ fjoin ! $ nothing ! $ fjoin ! $ nothing ! $ fjoin ! $ nothing ! $ fjoin ! $
-    returns ! (look_at ! 0 refl) $ free_all ! refl $ keep ! (3 ∷ 0 ∷ 2 ∷ 1 ∷ []) $
-    by !
-    (leaves 𝓛 En hs c y v (r, Some x) (tt, (tt, (tt, (tt, (tt, tt))))) (tt, (tt, (tt, (tt, (tt, tt))))))))))))))))))))))))))
+    -- [the block; the token; the claim; nothing; the other tokens]
+    move ! (3 ∷ []) $ drop ! $ move ! (1 ∷ 2 ∷ []) $
+    ends 𝓛 𝓜 𝓡 X y l pb o 1 (lit< tt) back held (Some x) Vacant is_index close (refl, refl, blank.0) refl))))))))))))))))))))
