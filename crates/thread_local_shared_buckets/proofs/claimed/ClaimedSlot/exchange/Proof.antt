@@ -41,7 +41,7 @@ use types.ByLocal.{holding, forget_but}
 use contract.Running.{Running, MachineTables}
 use prog.Model.{Model}
 use prog.Wp.{Env}
-use mir.Syntax.{Fn}
+use mir.Syntax.{Fn, Local}
 use denote.Triple.Clauses.{Ended, Clauses}
 use denote.Ref.{NamedLft}
 use denote.Struct.Tuple.{Tuple}
@@ -89,6 +89,11 @@ use Rattle.thread_local_shared_buckets.proofs.ClaimedFields.{Kept, kept_of, valu
 use Rattle.thread_local_shared_buckets.proofs.ClaimedFields.{lies_at, spaced, spaced_is}
 use Rattle.thread_local_shared_buckets.proofs.claimed.ClaimedSlot.exchange.Statement.{statement}
 use Rattle.thread_local_shared_buckets.proofs.claimed.ClaimedSlot.exchange.Code as code
+
+-- all locals but the first
+abbrev behind_first : List Local → List Local
+behind_first [] = []
+behind_first (first_of ∷ ls) = ls
 
 -- a block of n slots fits in memory
 fits_so : {M : Type 1} {𝓤 : Ura M} (𝓛 : Logic 𝓤) (R : RattleType) (token : Ty → Ptr → Fml) (p : Ptr)
@@ -336,7 +341,7 @@ exchange_spec 𝓤 𝓛 𝓜 𝓡 wired X L =
     move ! (2 ∷ []) $ fsplit ! $ fsplit ! $
     keep ! (8 ∷ 10 ∷ 11 ∷ 6 ∷ 4 ∷ 1 ∷ []) $
     enter ! 𝓣.C 𝓣.Λ fn (u₀ ∷ vint w64 ix ∷ bv ∷ token ∷ token ∷ []) Post $ alloc_all ! (λ l.
-    pass_all ! refl (
+    pass_all ! {E = env (behind_first fn.locals) (λ j. l (suc j))} refl (
       typed (kept_of h) (in_word ℓ R (kept_of h) (u₀ ∷ []) are.0.0),
       ((tt, record { fits = are.1.0.1 }), (fields.block_good p, ((tt, (tt, tt)), ((tt, (tt, tt)), tt)))),
     ) $
