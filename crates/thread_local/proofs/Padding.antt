@@ -7,7 +7,7 @@ use denote.RattleType.{RattleType}
 use denote.Memory.{lone}
 use denote.Param.Send.{IsSync, sendable}
 use Rattle.thread_local.specs.contracts.padded.Padded.{the_row}
-use Rattle.thread_local_judged.specs.Judged.{JudgedEverywhere}
+use Rattle.thread_local_base.specs.Judged.{JudgedEverywhere}
 
 -- where the value lies
 at : RattleType → ℕ → ℕ

@@ -17,4 +17,4 @@ pub use Rattle.thread_local_buckets.specs.Drain
 pub use Rattle.thread_local_shared_buckets.specs.Walks
 pub use Rattle.thread_local_shared_buckets.specs.TableView
 pub use Rattle.thread_local_base.specs.Capacity
-pub use Rattle.thread_local_judged.specs.Judged
+pub use Rattle.thread_local_base.specs.Judged

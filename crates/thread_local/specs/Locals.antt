@@ -7,12 +7,16 @@ use base.Stored.{coded_bool}
 use Rattle.std.specs.Coded.{Coded, coded_option, coded_ℕ, coded×, code_by}
 use Rattle.thread_local_base.specs.Answers.{View, GetOr, Answered, Refused, Failed, Says, answer, view_of}
 use Rattle.thread_local_base.specs.Learnt.{Learnt, Missing, Vacant, Holding}
+use Rattle.thread_local_base.specs.Place.{IsPlaceOf}
+use Rattle.thread_local_base.specs.declared.place.Thread.{Thread}
+use Rattle.thread_local_buckets.specs.declared.block.Block.{Block}
 use Rattle.thread_local_ids.specs.Views.{TokenView}
 use Rattle.thread_local_base.specs.IdMoves.{IdMove, Take, Give, moves_coded, noted}
 use mathlib.Core.List.{IsPrefix}
 use Rattle.thread_local_ids.specs.declared.page.Tenure.{Tenure}
 use Rattle.thread_local_ids.specs.Rights.{taken_id}
 use Rattle.thread_local_shared_buckets.specs.Known.{HasLooked}
+use Rattle.thread_local_shared_buckets.specs.Room.{HasRoom}
 use Rattle.thread_local_shared_buckets.specs.Views.{ClaimView}
 use Rattle.thread_local.specs.Tables.{ThreadLocalView}
 use Rattle.thread_local_shared_buckets.specs.Walks.{Owed}
@@ -109,6 +113,12 @@ pub record IsLocalOf {V : Type 0} (of : ThreadLocalView) (claim : ClaimView V) (
   pub reserved : claim.id < of.reserved → claim.learnt ≢ Missing
   pub of_table : tenure.table ≡ of.table
   pub least : claim.id ≡ taken_id tenure.before
+
+-- what a `Local` has room for a value by: the place of its id, and a block from this heap where the
+-- bucket is missing
+abbrev pub IsRoomOf : {V A : Type 0} → A → LocalView V → Thread × Option (Block V A) → Type 0
+IsRoomOf heap s room =
+    IsPlaceOf room.0.bucket room.0.index s.id × HasRoom heap room.0.bucket (learnt_by (knows s)) room.1
 
 -- what is known of a slot that holds this value
 abbrev pub holding : {V : Type 0} → V → View V

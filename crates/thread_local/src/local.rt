@@ -1,7 +1,6 @@
 //! What a thread has in a table: an id of its own, through which it finds or makes its value.
 ghost use Rattle.std.specs.Prelude.{◌≡◌, ◌≢◌, ◌-◌, ◌^◌, ◌<◌, nat_lt, ⊤, is_some, true, false, None, Some, Ok, Err};
 ghost use Rattle.std.specs.Prelude.{OnOk, OnErr, IfOk, IfErr, IsOk, IsSome, option_map, alloc_error, Result};
-ghost use Rattle.thread_local_base.specs.Place.{IsPlaceOf};
 ghost use Rattle.thread_local_base.specs.Answers.{Get, GetOr, Found, Refused, Failed, answer};
 ghost use Rattle.thread_local_base.specs.Cursor.{fresh_cursor};
 ghost use Rattle.thread_local_base.specs.IdMoves.{Take, held_after, noted};
@@ -10,9 +9,8 @@ ghost use Rattle.thread_local_ids.specs.Taken.{IsHeldIn};
 ghost use mathlib.Core.List.{IsPrefix};
 ghost use mathlib.Core.Logic.{◌∨₁◌};
 ghost use Rattle.thread_local.specs.Errors.{IfCreate};
-ghost use Rattle.thread_local.specs.Locals.{knows, knowing, learnt_by, own_of, token_of, holding};
-ghost use Rattle.thread_local.specs.Locals.{StaysEmpty, IsAnswered, IsFilled, Fills, Fails, IsRefused, EndsWithReturn};
-ghost use Rattle.thread_local_shared_buckets.specs.Room.{HasRoom};
+ghost use Rattle.thread_local.specs.Locals.{knows, knowing, own_of, token_of, holding};
+ghost use Rattle.thread_local.specs.Locals.{IsRoomOf, StaysEmpty, IsAnswered, IsFilled, Fills, Fails, IsRefused, EndsWithReturn};
 ghost use Rattle.thread_local_shared_buckets.specs.Walks.{fresh_with};
 
 pub use crate::error::{SetError, TryError};
@@ -23,7 +21,7 @@ use std::fmt;
 use std::marker::Model;
 use std::sync::Wait;
 use thread_local_base::{Thread, bucket_size};
-use thread_local_bucket_pointers::Block;
+use thread_local_buckets::Block;
 use thread_local_ids::{HeldId, Page, Right, Tenure, Token, Told};
 use thread_local_shared_buckets::{Claim, Iter, Tokens};
 
@@ -190,50 +188,36 @@ impl<'a, T, R: Wait> Local<'a, T, R> {
         self.claim.id() < table.buckets.reserved()
     }
 
-    /// The place of the id.
-    fn place(&self) -> Thread
-        ensures { IsPlaceOf result.bucket result.index self.now.id }
-    {
-        self.claim.place()
-    }
-
-    /// Makes room for a value in the slot, which is empty: finds its bucket, or makes a block for it.
+    /// Makes room for a value in the slot, which is empty: the place of the id, and a block for its
+    /// bucket, where that was missing and isn't found.
     #[inline(always)]
-    fn room(
-        &mut self,
-        alloc: Global,
-        thread: Thread,
-    ) -> Result<Option<Block<T, Global>>, AllocError>
+    fn room(&mut self, alloc: Global) -> Result<(Thread, Option<Block<T, Global>>), AllocError>
         requires empty { self.old.value ≡ None }
-        requires place { IsPlaceOf thread.bucket thread.index self.old.id }
-        ensures ok { IfOk result (HasRoom alloc thread.bucket (learnt_by (knows self.new))) }
+        ensures ok { IfOk result (IsRoomOf alloc self.new) }
         ensures err { OnErr result ((self.old.known ≡ false) × (self.new ≡ self.old)) }
         ensures leaves { StaysEmpty self.old self.new }
     {
-        self.claim.room(&alloc, thread)
+        let thread = self.claim.place();
+        let block = self.claim.room(&alloc, thread)?;
+        Ok((thread, block))
     }
 
     /// Publishes a value in the slot, where there is room for it.
     #[inline(always)]
-    fn publish_in(
-        &mut self,
-        alloc: Global,
-        thread: Thread,
-        block: Option<Block<T, Global>>,
-        value: T,
-    )
-        requires room { HasRoom alloc thread.bucket (learnt_by (knows self.old)) block }
-        requires place { IsPlaceOf thread.bucket thread.index self.old.id }
+    fn publish_in(&mut self, alloc: Global, room: (Thread, Option<Block<T, Global>>), value: T)
+        requires room { IsRoomOf alloc self.old room }
         ensures { self.new ≡ knowing self.old (holding value) }
     {
+        let (thread, block) = room;
         let reached = self.tenure.reached();
         self.claim.publish_in(&alloc, thread, block, value, reached);
     }
 
     /// Frees the block that was made for a value, where there is one.
-    fn release_room(&self, alloc: Global, thread: Thread, block: Option<Block<T, Global>>)
-        requires room { HasRoom alloc thread.bucket (learnt_by (knows self.now)) block }
+    fn release_room(&self, alloc: Global, room: (Thread, Option<Block<T, Global>>))
+        requires room { IsRoomOf alloc self.now room }
     {
+        let (thread, block) = room;
         if let Some(block) = block {
             block.release(&alloc, bucket_size(thread.bucket));
         }
@@ -281,7 +265,7 @@ impl<'a, T, R: Wait> Local<'a, T, R> {
         if self.claim.is_missing() {
             return self.fill_missing(create);
         }
-        let thread = self.place();
+        let thread = self.claim.place();
         self.claim.publish(thread, create());
         Ok(())
     }
@@ -298,9 +282,8 @@ impl<'a, T, R: Wait> Local<'a, T, R> {
     {
         let table = self.table;
         let alloc = table.alloc;
-        let thread = self.place();
-        let block = self.room(alloc, thread)?;
-        self.publish_in(alloc, thread, block, create());
+        let room = self.room(alloc)?;
+        self.publish_in(alloc, room, create());
         Ok(())
     }
 
@@ -321,10 +304,9 @@ impl<'a, T, R: Wait> Local<'a, T, R> {
         }
         let table = self.table;
         let alloc = table.alloc;
-        let thread = self.place();
-        match self.room(alloc, thread) {
-            Ok(block) => {
-                self.publish_in(alloc, thread, block, value);
+        match self.room(alloc) {
+            Ok(room) => {
+                self.publish_in(alloc, room, value);
                 Ok(())
             }
             Err(_) => Err(SetError::Memory(value)),
@@ -374,15 +356,14 @@ impl<'a, T, R: Wait> Local<'a, T, R> {
         }
         let table = self.table;
         let alloc = table.alloc;
-        let thread = self.place();
-        let block = self.room(alloc, thread)?;
+        let room = self.room(alloc)?;
         match create() {
             Ok(value) => {
-                self.publish_in(alloc, thread, block, value);
+                self.publish_in(alloc, room, value);
                 Ok(())
             }
             Err(error) => {
-                self.release_room(alloc, thread, block);
+                self.release_room(alloc, room);
                 Err(TryError::Create(error))
             }
         }

@@ -3,7 +3,7 @@ ghost use Rattle.std.specs.Prelude.{◌≡◌};
 
 use std::fmt;
 use std::marker::Model;
-use thread_local_judged::Judge;
+use thread_local_base::Judge;
 
 mod lends;
 

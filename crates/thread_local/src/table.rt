@@ -6,7 +6,7 @@ ghost use Rattle.std.specs.Prelude.{Option, true, false, None, Some, Err, alloc_
 ghost use Rattle.std.specs.List.Sorted.{IsStrictlyIncreasing};
 ghost use Rattle.thread_local_base.specs.Capacity.{reserved_slots};
 ghost use Rattle.thread_local_buckets.specs.IterMut.{iter_mut_given, entries_mut_given, entries_mut_rest};
-ghost use Rattle.thread_local_judged.specs.Judged.{Judged};
+ghost use Rattle.thread_local_base.specs.Judged.{Judged};
 ghost use Rattle.thread_local_base.specs.Held.{least, held_count, HoldsAllBelow};
 ghost use Rattle.thread_local_base.specs.IdMoves.{Take, held_after, noted};
 ghost use mathlib.Core.List.{IsPrefix};
@@ -21,11 +21,11 @@ use std::marker::Model;
 use std::sync::Wait;
 use thread_local_base::LocalError;
 use thread_local_base::walk::walk_lists_the_map;
+pub use thread_local_base::{Judge, judge_sync, judge_value};
 pub use thread_local_buckets::CapacityError;
 use thread_local_buckets::{Buckets, EntriesMut, IntoEntries, IntoIter, IterMut};
 use thread_local_ids::{Right, Room, SharedIds};
 pub use thread_local_ids::{Book, Page, Token, Told};
-pub use thread_local_judged::{Judge, judge_sync, judge_value};
 use thread_local_shared_buckets::{Entries, Iter, Shared, Tokens};
 
 // `buckets_mut`, `drain` and `get_mut` stand in table/lends.rt.

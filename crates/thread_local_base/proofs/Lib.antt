@@ -31,3 +31,8 @@ mod IdBits
 mod Returned
 mod Views
 mod WordList
+pub mod Alike
+pub mod Everywhere
+pub mod Empty
+pub mod Parts
+pub mod Containing

@@ -21,3 +21,4 @@ pub mod Entries
 pub mod Returned
 pub mod Text
 pub mod WordList
+pub mod Judged

@@ -1,5 +1,5 @@
 //! What all layers stand on: the definitions that the contracts of `thread_local` cite, the places of
-//! ids, and the manager that gives ids out and takes them back.
+//! ids, the manager that gives ids out and takes them back, and whether a type is judged.
 //!
 //! The definitions are in `specs/`. A function with an empty body is a law: its contract shows a
 //! definition right. The crate also has the bits of 64-bit words as truth values, a fact as an
@@ -12,6 +12,7 @@ pub mod cursor;
 mod error;
 pub mod held;
 mod id_bits;
+pub mod judged;
 pub mod manager;
 pub mod owner;
 pub mod place;
@@ -19,5 +20,6 @@ pub mod slots;
 pub mod walk;
 mod words;
 
+pub use judged::{Judge, judge_sync, judge_value, judged_alike, never_refuted};
 pub use manager::{LocalError, ThreadIdManager};
 pub use place::{BUCKETS, Thread, bucket_size};

@@ -9,8 +9,7 @@ use std::time::{Clock, Duration, Instant};
 use std::{io, thread};
 use thread_local::local::Local;
 use thread_local::{Padded, ThreadLocal};
-use thread_local_base::LocalError;
-use thread_local_judged::Judge;
+use thread_local_base::{Judge, LocalError};
 use thread_local_pool::Pool;
 
 /// The round in which so many threads used values so often, if the values say so. An operation is

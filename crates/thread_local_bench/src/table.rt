@@ -10,7 +10,7 @@ use std::sync::Wait;
 use std::time::{Clock, Duration, Instant};
 use thread_local::ThreadLocal;
 use thread_local::local::Local;
-use thread_local_judged::Judge;
+use thread_local_base::Judge;
 
 /// A `Local`, unless the call is refused.
 #[inline(always)]

@@ -8,8 +8,7 @@ use std::thread::Threads;
 use std::time::{Clock, Duration, Instant};
 use std::{io, thread};
 use thread_local::{Padded, ThreadLocal};
-use thread_local_base::LocalError;
-use thread_local_judged::Judge;
+use thread_local_base::{Judge, LocalError};
 
 /// Adds a number to a sum. It isn't inlined, so that each sum is stored.
 #[inline(never)]

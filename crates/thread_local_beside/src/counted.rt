@@ -5,7 +5,7 @@ use std::sync::Arc;
 use std::sync::atomic::AtomicU64;
 use std::sync::atomic::Ordering::SeqCst;
 use thread_local::ThreadLocal;
-use thread_local_judged::judge_sync;
+use thread_local_base::judge_sync;
 
 /// How many values were dropped.
 #[derive(Drop)]

@@ -8,7 +8,7 @@ use std::io::{self, Write};
 use std::sync::Wait;
 use thread_local::ThreadLocal;
 use thread_local::local::{Local, TryError};
-use thread_local_judged::judge_sync;
+use thread_local_base::judge_sync;
 
 /// How many threads a script has at once.
 const THREADS: usize = 64;

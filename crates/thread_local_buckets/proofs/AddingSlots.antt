@@ -6,8 +6,8 @@ use Rattle.thread_local_base.specs.Bits.{IsLowestSet, IsWordBut}
 use Rattle.thread_local_base.specs.Buckets.{Contents, row, stands, slots, slots_below}
 use Rattle.thread_local_base.proofs.SlotsLaws.{slots_below-lt}
 use Rattle.thread_local_base.proofs.StandingLaws.{slots_below-zero, slots_below-standing, slots_below-absent, slots-all}
-use Rattle.thread_local_bucket_pointers.specs.Announced.{Announces, AreAhead}
-use Rattle.thread_local_bucket_pointers.proofs.Passing.{Takes, takes, AreAhead-all, none_ahead}
+use Rattle.thread_local_buckets.specs.Announced.{Announces, AreAhead}
+use Rattle.thread_local_buckets.proofs.Passing.{Takes, takes, AreAhead-all, none_ahead}
 
 -- the slots of the buckets that the loop has taken out of the word are added up
 pub record IsAdded {V : Type 0} (contents : Contents V) (left sum : ℕ) : Type 0 where

@@ -11,9 +11,9 @@ use denote.RawPtr.{Testable}
 use Rattle.std.proofs.lemmas.Bool.{true≢false, false≢true}
 use Rattle.std.proofs.lemmas.List.{length-map}
 use Rattle.std.proofs.GlobalToken.{dealloc_token-Testable}
-use Rattle.thread_local_bucket_pointers.specs.Slots.{block_ty, chunks, Fits, AreFlags, flags_at, slot, each, flags, flags_own, back, heap_token}
+use Rattle.thread_local_buckets.specs.Slots.{block_ty, chunks, Fits, AreFlags, flags_at, slot, each, flags, flags_own, back, heap_token}
 use Rattle.thread_local_base.specs.Fact.{fact}
-use Rattle.thread_local_bucket_pointers.specs.PointerOwns.{pointer_owns}
+use Rattle.thread_local_buckets.specs.PointerOwns.{pointer_owns}
 use Rattle.thread_local_buckets.specs.Lent.{flagged, valued, bare, PointsTo}
 use Rattle.thread_local_buckets.proofs.Shapes.{has, slot_has}
 use Rattle.thread_local_base.proofs.Signs.{signs}

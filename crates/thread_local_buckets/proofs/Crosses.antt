@@ -9,7 +9,7 @@ use denote.Ref.{NamedLft}
 use denote.Struct.Owning.{shape as fields_shape, fields, to}
 use denote.Struct.Struct.{exits_of}
 use Rattle.thread_local_base.specs.Buckets.{Contents}
-use Rattle.thread_local_bucket_pointers.specs.Slots.{each, flags_at, value_offset}
+use Rattle.thread_local_buckets.specs.Slots.{each, flags_at, value_offset}
 use Rattle.thread_local_buckets.specs.Lent.{flagged, valued, frames, values_at, loan_owns}
 use Rattle.thread_local_buckets.specs.contracts.loan.Loan as loan
 

@@ -5,8 +5,8 @@ use Rattle.thread_local_base.proofs.Names.{sym, arith, Option, None, Ura, SProp,
 use Rattle.thread_local_base.proofs.Names.{never_e, Fml, Logic, ‵, raw, ◌⊛◌, ◌$◌, ◌∵◌, !, qed, move, split}
 use Rattle.thread_local_base.proofs.Names.{frame, each as for_each, assume, use1, use2, rewrite, done, RattleType}
 use Rattle.thread_local_base.proofs.Names.{Ptr, null_ptr, block_of, count_of}
-use Rattle.thread_local_bucket_pointers.specs.Slots.{each, slot_value}
-use Rattle.thread_local_bucket_pointers.proofs.Each.{each_at, Put}
+use Rattle.thread_local_buckets.specs.Slots.{each, slot_value}
+use Rattle.thread_local_buckets.proofs.Each.{each_at, Put}
 use Rattle.thread_local_buckets.specs.Lent.{valued, framed, frames, values_at}
 use Rattle.thread_local_base.proofs.Signs.{signs}
 

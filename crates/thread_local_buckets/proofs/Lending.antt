@@ -16,10 +16,10 @@ use Rattle.std.proofs.lemmas.List.{length-map}
 use Rattle.thread_local_base.specs.Buckets.{Contents, IsTable}
 use Rattle.thread_local_base.specs.Owned.{Owned}
 use Rattle.thread_local_base.specs.Code.{owned_coded}
-use Rattle.thread_local_bucket_pointers.specs.declared.bucket_pointer.BucketPointer.{BucketPointer}
-use Rattle.thread_local_bucket_pointers.specs.Announced.{Announces}
-use Rattle.thread_local_bucket_pointers.specs.contracts.bucket_pointers.BucketPointers as all_pointers
-use Rattle.thread_local_bucket_pointers.proofs.Announcing.{IsAnnounced, Announces-fewer}
+use Rattle.thread_local_buckets.specs.declared.bucket_pointer.BucketPointer.{BucketPointer}
+use Rattle.thread_local_buckets.specs.Announced.{Announces}
+use Rattle.thread_local_buckets.specs.contracts.bucket_pointers.BucketPointers as all_pointers
+use Rattle.thread_local_buckets.proofs.Announcing.{IsAnnounced, Announces-fewer}
 use Rattle.thread_local_buckets.specs.Lent.{shape, Known, Lending, lending, loan_owns, frames, Values, values_at, lent_as}
 use Rattle.thread_local_base.specs.Refilled.{refilled}
 use Rattle.thread_local_buckets.proofs.Opened.{open_pointers, close_pointers, Laid, Inside, view, good, remade}

@@ -1,3 +1,24 @@
+pub mod Lent
+pub mod ContentsOf
+pub mod Announcing
+pub mod Passing
+pub mod Clearing
+pub mod Counting
+pub mod PointerSteps
+pub mod LentValue
+pub mod CountingLaws
+pub mod FlagLaws
+pub mod NextValue
+pub mod Each
+pub mod ChunkFlags
+pub mod Flags
+pub mod Rooms
+pub mod Slots
+pub mod BlockFields
+pub mod Making
+pub mod Rounding
+pub mod Sent
+pub mod RetiredBlocks
 pub mod AddingSlots
 mod DrainLaws
 mod EntriesLaws
@@ -8,7 +29,7 @@ mod Frames
 mod Reading
 mod Shapes
 mod Giving
-pub mod Fields
+pub mod LoanFields
 mod Left
 mod Blocks
 mod Taking

@@ -11,20 +11,20 @@ use denote.ArrayMemory.{Array-apart, Array-whole}
 use denote.Laws.{Lawful}
 use denote.Memory.{part_of}
 use denote.Model.Fields.{view_owns, view_made, plain_out, Plain-in}
-use Rattle.thread_local_bucket_pointers.specs.contracts.announced.AnnouncedBuckets as bits
-use Rattle.thread_local_bucket_pointers.proofs.announced.AnnouncedBuckets.TheLaws as bits'
+use Rattle.thread_local_buckets.specs.contracts.announced.AnnouncedBuckets as bits
+use Rattle.thread_local_buckets.proofs.announced.AnnouncedBuckets.TheLaws as bits'
 use denote.Struct.Parts.{PartsBack}
 use denote.Struct.Pick.{rest_at, field_out, field_back}
 use Rattle.std.specs.contracts.alloc.Global as heap
 use Rattle.std.proofs.alloc.Global.TheLaws as heap_laws
 use Rattle.thread_local_base.specs.Buckets.{Contents}
-use Rattle.thread_local_bucket_pointers.specs.declared.bucket_pointer.BucketPointer.{BucketPointer}
-use Rattle.thread_local_bucket_pointers.specs.contracts.bucket_pointer.BucketPointer as one_pointer
-use Rattle.thread_local_bucket_pointers.proofs.bucket_pointer.BucketPointer.TheLaws as pointer_laws
-use Rattle.thread_local_bucket_pointers.specs.contracts.pointer_array.PointerArray as array
-use Rattle.thread_local_bucket_pointers.proofs.pointer_array.PointerArray.TheLaws as row_laws
-use Rattle.thread_local_bucket_pointers.specs.contracts.bucket_pointers.BucketPointers as all_pointers
-use Rattle.thread_local_bucket_pointers.specs.contracts.bucket_pointers.BucketPointers.TheInside as inside
+use Rattle.thread_local_buckets.specs.declared.bucket_pointer.BucketPointer.{BucketPointer}
+use Rattle.thread_local_buckets.specs.contracts.bucket_pointer.BucketPointer as one_pointer
+use Rattle.thread_local_buckets.proofs.bucket_pointer.BucketPointer.TheLaws as pointer_laws
+use Rattle.thread_local_buckets.specs.contracts.pointer_array.PointerArray as array
+use Rattle.thread_local_buckets.proofs.pointer_array.PointerArray.TheLaws as row_laws
+use Rattle.thread_local_buckets.specs.contracts.bucket_pointers.BucketPointers as all_pointers
+use Rattle.thread_local_buckets.specs.contracts.bucket_pointers.BucketPointers.TheInside as inside
 use Rattle.thread_local_buckets.proofs.Taking.{side}
 use Rattle.thread_local_base.proofs.Signs.{signs}
 

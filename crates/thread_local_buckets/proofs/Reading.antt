@@ -10,10 +10,10 @@ use Rattle.thread_local_base.specs.Bits.{is_set}
 use Rattle.thread_local_base.specs.Place.{id_at}
 use Rattle.thread_local_base.specs.Buckets.{Contents, row}
 use Rattle.thread_local_base.specs.Rows.{value_in}
-use Rattle.thread_local_bucket_pointers.specs.Slots.{chunks, AreFlags, each, flags_at, flags_own}
-use Rattle.thread_local_bucket_pointers.proofs.Each.{Put, each_at}
-use Rattle.thread_local_bucket_pointers.proofs.Flags.{chunk_in}
-use Rattle.thread_local_bucket_pointers.proofs.Slots.{IsWordOf, word_of}
+use Rattle.thread_local_buckets.specs.Slots.{chunks, AreFlags, each, flags_at, flags_own}
+use Rattle.thread_local_buckets.proofs.Each.{Put, each_at}
+use Rattle.thread_local_buckets.proofs.Flags.{chunk_in}
+use Rattle.thread_local_buckets.proofs.Slots.{IsWordOf, word_of}
 use Rattle.thread_local_buckets.specs.Lent.{flagged, IsLeft}
 use Rattle.thread_local_base.proofs.Signs.{signs}
 

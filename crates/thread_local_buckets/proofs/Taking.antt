@@ -14,11 +14,11 @@ use denote.RattleType.{Denots}
 use denote.Struct.Members.{rows_of, parts_at}
 use denote.Struct.Parts.{PartsBack, Struct-parts}
 use denote.Struct.OwningLaws.{part_out, part_in}
-use Rattle.thread_local_bucket_pointers.specs.Slots.{each, heap_token}
-use Rattle.thread_local_bucket_pointers.specs.PointerOwns.{pointer_owns}
-use Rattle.thread_local_bucket_pointers.specs.declared.bucket_pointer.BucketPointer.{BucketPointer}
-use Rattle.thread_local_bucket_pointers.specs.contracts.bucket_pointer.BucketPointer as one_pointer
-use Rattle.thread_local_bucket_pointers.proofs.PointerSteps.{FieldsType}
+use Rattle.thread_local_buckets.specs.Slots.{each, heap_token}
+use Rattle.thread_local_buckets.specs.PointerOwns.{pointer_owns}
+use Rattle.thread_local_buckets.specs.declared.bucket_pointer.BucketPointer.{BucketPointer}
+use Rattle.thread_local_buckets.specs.contracts.bucket_pointer.BucketPointer as one_pointer
+use Rattle.thread_local_buckets.proofs.PointerSteps.{FieldsType}
 use Rattle.thread_local_buckets.specs.Lent.{shape, flagged, valued, PointsTo, frames, values_at}
 use Rattle.thread_local_buckets.proofs.Blocks.{rested, pointer_apart, pointer_whole}
 use Rattle.thread_local_base.proofs.Signs.{signs}

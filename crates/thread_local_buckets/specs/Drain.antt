@@ -5,7 +5,7 @@ use Rattle.std.specs.Iterator.{YieldsFirst, Yields}
 use Rattle.thread_local_base.specs.Buckets.{values}
 use Rattle.thread_local_base.specs.Owned.{Owned}
 use Rattle.thread_local_base.specs.Walk.{walk}
-use Rattle.thread_local_bucket_pointers.specs.Cursor.{values_left, IsOwnerWalk}
+use Rattle.thread_local_buckets.specs.Cursor.{values_left, IsOwnerWalk}
 use Rattle.thread_local_buckets.specs.Emptied.{owned_emptied}
 use Rattle.thread_local_buckets.specs.declared.drain.Drain.{Drain}
 

@@ -16,7 +16,7 @@ use Rattle.thread_local_base.specs.Buckets.{Contents, row, IsTable}
 use Rattle.thread_local_base.specs.Rows.{value_in}
 use Rattle.thread_local_base.specs.Owned.{Owned}
 use Rattle.thread_local_base.specs.Code.{owned_coded}
-use Rattle.thread_local_bucket_pointers.specs.Slots.{each, flags, value_offset, Fits}
+use Rattle.thread_local_buckets.specs.Slots.{each, flags, value_offset, Fits}
 use Rattle.thread_local_base.specs.Fact.{fact}
 
 -- which slots have a value

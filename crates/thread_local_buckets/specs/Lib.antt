@@ -1,3 +1,11 @@
+pub mod Announced
+pub mod Clearing
+pub mod Pointers
+pub mod LentValue
+pub mod PointerOwns
+pub mod Cursor
+pub mod Slots
+pub mod Retired
 pub mod Drain
 pub mod Emptied
 pub mod Inserting
@@ -7,4 +15,3 @@ pub mod LendingValues
 pub mod Text
 pub mod Writing
 pub mod Lent
-pub mod Given

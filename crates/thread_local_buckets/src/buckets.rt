@@ -18,7 +18,7 @@ use crate::iter_mut::{EntriesMut, IterMut};
 use std::alloc::{AllocError, Global};
 use std::marker::Model;
 use thread_local_base::{Thread, bucket_size};
-use thread_local_bucket_pointers::{BucketPointers, FlagSource, take_first};
+use crate::{BucketPointers, FlagSource, take_first};
 
 mod lends;
 mod walking;

@@ -3,13 +3,13 @@
 ghost use Rattle.std.specs.Prelude.{◌≡◌, ◌<◌, ◌^◌, Some, IfSome};
 ghost use Rattle.std.specs.Iterator.{UpTo, at_most};
 ghost use Rattle.std.specs.Iterator.SizeHint.{IsWithinCount};
-ghost use Rattle.thread_local_bucket_pointers.specs.Cursor.{values_left};
+ghost use Rattle.thread_local_buckets.specs.Cursor.{values_left};
 ghost use Rattle.thread_local_base.specs.Owner.{emptied};
 
 use crate::buckets::Buckets;
 use std::fmt;
 use std::iter::FusedIterator;
-use thread_local_bucket_pointers::OwnerCursor;
+use crate::OwnerCursor;
 
 /// The values of a table's buckets, by ascending id, each moved out. The buckets stay.
 ///

@@ -9,7 +9,7 @@ pub use crate::iter_mut::{EntriesMut, IterMut};
 use std::fmt;
 use std::iter::FusedIterator;
 use std::marker::Model;
-use thread_local_bucket_pointers::OwnerCursor;
+use crate::OwnerCursor;
 
 /// The values of a table's buckets with their ids, by ascending id, each moved out. Contracts see
 /// the list of those still to come.
@@ -29,7 +29,7 @@ impl<T> Model for IntoEntries<T> {
 
     ghost Value = { List (ℕ × T) };
 
-    ghost use Rattle.thread_local_bucket_pointers.specs.Cursor.{IsOwnerWalk};
+    ghost use Rattle.thread_local_buckets.specs.Cursor.{IsOwnerWalk};
 
     ghost view = { λ it. walk (paired (values it.buckets.contents)) };
 

@@ -6,7 +6,7 @@ ghost use Rattle.std.specs.Iterator.SizeHint.{IsWithinCount};
 ghost use Rattle.thread_local_base.specs.Buckets.{values};
 ghost use Rattle.thread_local_base.specs.Walk.{walk};
 ghost use Rattle.thread_local_buckets.specs.IterMut.{iter_mut_rest, iter_mut_name, iter_mut_given, entries_mut_rest};
-ghost use Rattle.thread_local_bucket_pointers.specs.Cursor.{HasRead, MayRead};
+ghost use Rattle.thread_local_buckets.specs.Cursor.{HasRead, MayRead};
 ghost use Rattle.thread_local_buckets.specs.LendingValues.{LendsValues};
 ghost use Rattle.thread_local_buckets.specs.Entered.{IsEntered};
 
@@ -15,7 +15,7 @@ use crate::loan::Loan;
 use std::fmt;
 use std::iter::FusedIterator;
 use std::marker::Model;
-use thread_local_bucket_pointers::OwnerCursor;
+use crate::OwnerCursor;
 
 /// The values of a table's buckets with their ids, by ascending id, each lent as `&mut`. Contracts
 /// see those still to come, the name of their loan, and the id after the last one that was given.
@@ -36,7 +36,7 @@ impl<'a, T> Model for EntriesMut<'a, T> {
     ghost Value = { List (ℕ × T) × (GName × ℕ) };
 
     ghost use Rattle.thread_local_base.specs.Owner.{NoneBelow};
-    ghost use Rattle.thread_local_bucket_pointers.specs.Cursor.{read_to, IsOwnerWalk};
+    ghost use Rattle.thread_local_buckets.specs.Cursor.{read_to, IsOwnerWalk};
     ghost use Rattle.thread_local_buckets.specs.Entered.{IsEntered};
 
     ghost view = { λ it. (walk (paired (values it.loan.contents)), (it.loan.name, it.loan.given)) };
@@ -81,7 +81,7 @@ impl<'a, T> Iterator for EntriesMut<'a, T> {
         }
         lead(&mut self.loan, &mut self.cursor);
         let bit = self.cursor.pass(&mut self.loan);
-        let item = self.loan.lend_value(bit);
+        let item = self.loan.give(bit);
         let index = self.cursor.raw.index - 64 + bit;
         Some((index + (self.cursor.raw.bucket_size - 1), item))
     }

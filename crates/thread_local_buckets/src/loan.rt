@@ -6,15 +6,13 @@ ghost use Rattle.thread_local_base.specs.Place.{id_at};
 ghost use Rattle.thread_local_base.specs.Buckets.{Contents, row, stands, IsTable};
 ghost use Rattle.thread_local_base.specs.Rows.{value_in, with_slot};
 ghost use Rattle.thread_local_base.specs.Code.{contents_coded};
-ghost use types.Logic.{sem};
 ghost use Rattle.thread_local_base.specs.Bits.{is_set};
-ghost use Rattle.thread_local_bucket_pointers.specs.Slots.{flag_word_at};
+ghost use Rattle.thread_local_buckets.specs.Slots.{flag_word_at};
 ghost use Rattle.thread_local_buckets.specs.Lent.{loan_owns};
-ghost use Rattle.thread_local_buckets.specs.Given.{ends_with_item};
 
 use std::marker::{Model, PhantomData};
 use thread_local_base::bucket_size;
-use thread_local_bucket_pointers::{Chunk, FlagSource, flag_word_at};
+use crate::{Chunk, FlagSource, flag_word_at};
 
 /// The pointers of an owner's buckets, lent to a walk that writes. It gives the values by ascending
 /// place, each at most once.
@@ -95,8 +93,6 @@ impl<'a, T> Loan<'a, T> {
         requires in_bucket { self.old.first + bit < length (row self.old.contents self.old.bucket) }
         requires ahead { self.old.given ≤ id_at self.old.bucket (self.old.first + bit) }
         requires published { IsSome (value_in self.old.contents self.old.bucket (self.old.first + bit)) }
-        ensures* ends { sem 𝓛 (ends_with_item T.row self.old.name result.ghost_name self.new.name
-            self.old.bucket (self.old.first + bit)) }
         ensures value { value_in self.old.contents self.old.bucket (self.old.first + bit) ≡ Some result.now }
         ensures contents { self.new.contents
             ≡ with_slot self.old.contents self.old.bucket (self.old.first + bit) None }
@@ -105,24 +101,6 @@ impl<'a, T> Loan<'a, T> {
         ensures first { self.new.first ≡ self.old.first }
     {
         unsafe { &mut *self.values.add(bit) }
-    }
-
-    /// The same, with no clause on how the loan ends. The proof that the check makes of a caller lets
-    /// that clause go, and a library carries no such proof: whoever uses the caller proves it anew.
-    #[inline]
-    pub(crate) fn lend_value(&mut self, bit: usize) -> &'a mut T
-        requires in_table { self.old.bucket < 63 }
-        requires in_bucket { self.old.first + bit < length (row self.old.contents self.old.bucket) }
-        requires ahead { self.old.given ≤ id_at self.old.bucket (self.old.first + bit) }
-        requires published { IsSome (value_in self.old.contents self.old.bucket (self.old.first + bit)) }
-        ensures value { value_in self.old.contents self.old.bucket (self.old.first + bit) ≡ Some result.now }
-        ensures contents { self.new.contents
-            ≡ with_slot self.old.contents self.old.bucket (self.old.first + bit) None }
-        ensures given { self.new.given ≡ id_at self.old.bucket (self.old.first + bit) + 1 }
-        ensures bucket { self.new.bucket ≡ self.old.bucket }
-        ensures first { self.new.first ≡ self.old.first }
-    {
-        self.give(bit)
     }
 }
 

@@ -12,7 +12,7 @@ use thread_local::ThreadLocal;
 use thread_local::iter::IterMut;
 use thread_local::local::{Local, TryError};
 use thread_local::table::CapacityError;
-use thread_local_judged::{Judge, judge_sync};
+use thread_local_base::{Judge, judge_sync};
 use thread_local_shared_buckets::Iter;
 
 fn crosses<X: Send + Sync>(_: &X) {}

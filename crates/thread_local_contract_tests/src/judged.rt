@@ -12,7 +12,7 @@ use std::sync::atomic::AtomicU64;
 use std::sync::atomic::Ordering::SeqCst;
 use std::time::Duration;
 use thread_local::ThreadLocal;
-use thread_local_judged::{Judge, judge_value};
+use thread_local_base::{Judge, judge_value};
 
 /// Publishes a value in a table. Answers what the table has then.
 fn passed<T: Send + Drop, R: Wait>(table: ThreadLocal<T>, rt: &R, value: T) -> Option<T> {

@@ -1,7 +1,7 @@
 //! What slots were published with, as tokens say it: to threads, to whoever takes an id later, and
 //! to the owner.
 ghost use Rattle.std.specs.Prelude.{◌≡◌, true, IfSome, IsSome, None, Some};
-ghost use Rattle.thread_local_judged.specs.Judged.{Judged};
+ghost use Rattle.thread_local_base.specs.Judged.{Judged};
 ghost use Rattle.thread_local_base.specs.Buckets.{values};
 
 use crate::same::assert_same;
@@ -12,10 +12,9 @@ use std::thread;
 use std::thread::Threads;
 use thread_local::ThreadLocal;
 use thread_local::local::{Local, SetError};
-use thread_local_base::Thread;
+use thread_local_base::{Judge, Thread, judge_sync};
 use thread_local_buckets::Buckets;
 use thread_local_ids::Token;
-use thread_local_judged::{Judge, judge_sync};
 use thread_local_shared_buckets::Tokens;
 
 /// Publishes a value with a new `Local`, and answers a token of what the slot holds.

@@ -5,8 +5,8 @@ use crate::callers::is_sent;
 use std::sync::Wait;
 use thread_local::ThreadLocal;
 use thread_local::local::Local;
+use thread_local_base::judge_sync;
 use thread_local_buckets::{IntoIter, IterMut};
-use thread_local_judged::judge_sync;
 use thread_local_shared_buckets::{Entries, Iter, Tokens};
 
 /// The walk of a `Local` that holds a value gives it.

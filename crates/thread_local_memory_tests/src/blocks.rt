@@ -4,8 +4,7 @@ use crate::same::assert_same;
 use std::alloc::{AllocError, Global};
 use std::mem::size_of;
 use std::test::Fail;
-use thread_local_bucket_pointers::{Block, Chunk, flag_word_at, value_size};
-use thread_local_buckets::Buckets;
+use thread_local_buckets::{Block, Buckets, Chunk, flag_word_at, value_size};
 use thread_local_test_helpers::memory::take_all_but;
 use thread_local_test_helpers::refusing::Refusing;
 

@@ -6,7 +6,7 @@ use std::alloc::{AllocError, Global};
 use std::cell::Cell;
 use std::mem::size_of;
 use std::test::Fail;
-use thread_local_bucket_pointers::{Block, BucketPointer, flag_word_at};
+use thread_local_buckets::{Block, BucketPointer, flag_word_at};
 
 /// Puts a value into a block, takes it out again, and frees the block.
 fn there_and_back<T: Send + Drop>(alloc: Global, value: T) -> Result<T, AllocError>

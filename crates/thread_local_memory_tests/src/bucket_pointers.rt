@@ -7,7 +7,7 @@ use std::cell::Cell;
 use std::mem::replace;
 use std::test::Fail;
 use thread_local_base::Thread;
-use thread_local_bucket_pointers::{BucketPointers, FlagSource};
+use thread_local_buckets::{BucketPointers, FlagSource};
 
 /// A slot's place.
 pub fn place(bucket: usize, index: usize) -> Thread

@@ -5,7 +5,7 @@ use crate::same::assert_same;
 use std::alloc::{AllocError, Global};
 use std::cell::Cell;
 use std::test::Fail;
-use thread_local_bucket_pointers::BucketPointers;
+use thread_local_buckets::BucketPointers;
 
 /// A value that counts its drops.
 struct Counted<'a> {

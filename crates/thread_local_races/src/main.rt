@@ -16,7 +16,7 @@ use std::time::{Clock, Instant};
 use std::{io, thread};
 use thread_local::ThreadLocal;
 use thread_local::local::{Local, SetError};
-use thread_local_judged::judge_sync;
+use thread_local_base::judge_sync;
 
 /// How many `Local`s a thread holds at most.
 const LOCALS: usize = 8;

@@ -7,8 +7,7 @@ use std::sync::Wait;
 use std::test::Fail;
 use thread_local::ThreadLocal;
 use thread_local::local::Local;
-use thread_local_base::LocalError;
-use thread_local_judged::judge_sync;
+use thread_local_base::{LocalError, judge_sync};
 use thread_local_test_helpers::memory::take_all_but;
 
 /// A value of 4 KiB: the 1024 of bucket 10 take more than 4 MiB.

@@ -16,7 +16,7 @@ use denote.Steps.{nothing}
 use Rattle.thread_local_base.proofs.Walking.{lends_token}
 use Rattle.thread_local_ids.specs.Rights.{right_owns}
 use Rattle.thread_local_base.specs.Bits.{is_set}
-use Rattle.thread_local_bucket_pointers.specs.Slots.{value_offset}
+use Rattle.thread_local_buckets.specs.Slots.{value_offset}
 use Rattle.thread_local_ids.specs.Told.{tells, untold_in}
 use Rattle.thread_local_ids.proofs.ToldElements.{tells_alike, telling_alike}
 use Rattle.thread_local_base.specs.Learnt.{Learnt, Unknown, Missing, Standing, Vacant, Holding}

@@ -6,7 +6,7 @@ use Rattle.std.proofs.Math.Nat.{two-pow-succ}
 use Rattle.std.proofs.lemmas.Bool.{eqb-true, ne_eqb, cases_eq, cases_lt}
 use Rattle.thread_local_base.specs.Bits.{is_set, IsLowestSet, IsWordBut}
 use Rattle.thread_local_shared_buckets.specs.declared.row.Row.{Row}
-use Rattle.thread_local_bucket_pointers.specs.declared.cursor.RawIter.{RawIter}
+use Rattle.thread_local_buckets.specs.declared.cursor.RawIter.{RawIter}
 use Rattle.thread_local_shared_buckets.specs.declared.steps.Own.{Own}
 use Rattle.thread_local_shared_buckets.specs.declared.steps.Walk.{Walk}
 use Rattle.thread_local_shared_buckets.specs.Positions.{resting, next_id, at_bucket, lies_in, OwnIsTold}

@@ -2,7 +2,7 @@
 use Rattle.std.proofs.Common.{◌≡◌, ◌∙◌, ℕ, zero, suc, ◌<◌, List, ◌∷◌, Option, None, length, refl, sym, ap, subst}
 use Rattle.std.specs.Prelude.{slice_set}
 use Rattle.std.proofs.lemmas.List.{length-set, length-replicate, set-set}
-use Rattle.thread_local_bucket_pointers.specs.Slots.{empty_slots, slot_value}
+use Rattle.thread_local_buckets.specs.Slots.{empty_slots, slot_value}
 
 -- an empty slot stays empty where it is emptied
 none_again : {V : Type 0} (n i : ℕ) → slice_set (empty_slots {X = V} n) i None ≡ empty_slots n

@@ -9,18 +9,18 @@ use denote.RawPtr.{Ptr, block_ptr, null_ptr, block_of, count_of}
 use denote.Param.Send.{IsSend}
 use Rattle.thread_local_ids.proofs.ReachedElements.{reached_keyless}
 use Rattle.thread_local_ids.proofs.RightElements.{right_keyless}
-use Rattle.thread_local_judged.specs.Judged.{Judged}
+use Rattle.thread_local_base.specs.Judged.{Judged}
 use Rattle.thread_local_ids.proofs.ToldElements.{untold_keyless, tells_keyless, told_or_untold_keyless, all_telling_keyless}
 use Rattle.thread_local_base.specs.Bits.{is_set_in}
-use Rattle.thread_local_bucket_pointers.specs.Slots.{each, flags_at, empty_slots}
-use Rattle.thread_local_bucket_pointers.specs.Slots.{value_offset, block_ty}
+use Rattle.thread_local_buckets.specs.Slots.{each, flags_at, empty_slots}
+use Rattle.thread_local_buckets.specs.Slots.{value_offset, block_ty}
 use Rattle.thread_local_shared_buckets.specs.Shared.{BucketView, Turn, StandingBlock, Who, free, claimed, early}
 use Rattle.thread_local_shared_buckets.specs.Shared.{tracked_value, pinned_and_told, by, holds, stays, lies_with_slot, shared_slot}
 use Rattle.thread_local_shared_buckets.specs.Shared.{numbered_slot, slots_side, all_unborn, rests, slots_rest, block_rests}
 use Rattle.thread_local_shared_buckets.specs.Shared.{block_stands, beside_pointer, kept, loaded, row_owns, at_rest, len}
 use Rattle.thread_local_shared_buckets.specs.Shared.{first, shown_by, grown, if_set, seen_value, seen_slot, seen_owns}
 use Rattle.thread_local_shared_buckets.proofs.AnnouncingSent.{announced_keyless}
-use Rattle.thread_local_bucket_pointers.proofs.Sent.{token_keyless, each_keyless, place_keyless, back_keyless}
+use Rattle.thread_local_buckets.proofs.Sent.{token_keyless, each_keyless, place_keyless, back_keyless}
 
 pub grown_keyless : (d : BucketView) → Keyless (grown d)
 grown_keyless d = (reached_keyless d.table (shown_by d), announced_keyless d.word d.bucket)

@@ -23,11 +23,11 @@ use denote.Param.Laws.{Laws}
 use Rattle.std.specs.Sync.RawAtomic.{asks, always, word}
 use Rattle.thread_local_base.proofs.Opened.{Lies}
 use Rattle.thread_local_base.proofs.Opened as bucket_opened
-use Rattle.thread_local_judged.specs.Judged.{Shareable}
+use Rattle.thread_local_base.specs.Judged.{Shareable}
 use Rattle.thread_local_base.specs.Fact.{fact}
 use Rattle.thread_local_base.specs.Bits.{is_set, is_set_in}
-use Rattle.thread_local_bucket_pointers.specs.Slots.{each, word_offset, value_offset, flags_at}
-use Rattle.thread_local_bucket_pointers.proofs.Each.{Put, each_at}
+use Rattle.thread_local_buckets.specs.Slots.{each, word_offset, value_offset, flags_at}
+use Rattle.thread_local_buckets.proofs.Each.{Put, each_at}
 use Rattle.thread_local_shared_buckets.specs.Shared.{BucketView, Turn, StandingBlock, Who, block_code, value_code}
 use Rattle.thread_local_shared_buckets.specs.Shared.{age, opened, shared_value, shared_slot_as}
 use Rattle.thread_local_shared_buckets.specs.Shared.{shared_slot, numbered_slot, AreFlagWords, len, first, bucket_invariant}

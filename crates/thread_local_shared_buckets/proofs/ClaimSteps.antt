@@ -14,7 +14,7 @@ use denote.Steps.{nothing}
 use denote.RawPtr.{Ptr, block_ptr, count_of}
 use Rattle.std.specs.Sync.RawAtomic.{asks, always}
 use Rattle.thread_local_ids.specs.Rights.{right_owns}
-use Rattle.thread_local_bucket_pointers.specs.Slots.{word_offset}
+use Rattle.thread_local_buckets.specs.Slots.{word_offset}
 use Rattle.thread_local_base.specs.Fact.{fact}
 use Rattle.thread_local_base.specs.Bits.{is_set}
 use Rattle.thread_local_base.proofs.Word.{add_shifted, same_bit}

@@ -28,8 +28,8 @@ use Rattle.std.specs.contracts.marker.PhantomData as marker
 use Rattle.thread_local_shared_buckets.specs.contracts.shared_bucket.SharedBucket as one_bucket
 use Rattle.thread_local_base.specs.Place.{bucket_of, index_of, id_at}
 use Rattle.thread_local_base.proofs.PlaceLaws.{place-id_at}
-use Rattle.thread_local_bucket_pointers.specs.Slots.{stride, value_words, flag_word_at, word_offset, value_offset}
-use Rattle.thread_local_bucket_pointers.proofs.Flags.{uncapped}
+use Rattle.thread_local_buckets.specs.Slots.{stride, value_words, flag_word_at, word_offset, value_offset}
+use Rattle.thread_local_buckets.proofs.Flags.{uncapped}
 use Rattle.thread_local_shared_buckets.specs.Shared.{BucketView, len, first}
 use Rattle.thread_local_base.specs.Fact.{fact}
 use Rattle.thread_local_shared_buckets.specs.Known.{value_held}

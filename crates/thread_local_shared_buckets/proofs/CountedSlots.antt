@@ -9,8 +9,8 @@ use Rattle.std.proofs.lemmas.Bool.{ltb-true}
 use Rattle.thread_local_base.specs.Bits.{is_set, IsLowestSet, IsWordBut}
 use Rattle.thread_local_base.specs.Owned.{AreOfFirstBuckets}
 use Rattle.thread_local_base.specs.Place.{id_at}
-use Rattle.thread_local_bucket_pointers.specs.Announced.{AreAhead}
-use Rattle.thread_local_bucket_pointers.proofs.Passing.{no_rows, Takes, takes, AreAhead-of_none}
+use Rattle.thread_local_buckets.specs.Announced.{AreAhead}
+use Rattle.thread_local_buckets.proofs.Passing.{no_rows, Takes, takes, AreAhead-of_none}
 use Rattle.thread_local_shared_buckets.specs.Shared.{ids_shown}
 
 -- so many slots are counted of the buckets before the first that is left

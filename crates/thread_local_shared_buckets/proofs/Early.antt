@@ -15,7 +15,7 @@ use Rattle.thread_local_ids.specs.Rights.{right_owns}
 use Rattle.thread_local_ids.proofs.RightElements.{right_once}
 use Rattle.thread_local_base.specs.Bits.{is_set}
 use Rattle.thread_local_base.proofs.Word.{same_bit}
-use Rattle.thread_local_bucket_pointers.specs.Slots.{value_offset}
+use Rattle.thread_local_buckets.specs.Slots.{value_offset}
 use Rattle.thread_local_shared_buckets.specs.Shared.{name_at, BucketView, Turn, StandingBlock, Who, free, stays, lies_with_slot}
 use Rattle.thread_local_shared_buckets.specs.Shared.{unborn, all_unborn, slots_side, len, first, Sized, pending, standing}
 use Rattle.thread_local_shared_buckets.specs.Shared.{beside_pointer, bucket_invariant}

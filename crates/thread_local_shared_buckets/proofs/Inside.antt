@@ -21,9 +21,9 @@ use Rattle.std.specs.Sync.RawAtomic.{word}
 use Rattle.std.specs.Sync.RawAtomic.Pointer.{cell}
 use Rattle.thread_local_base.specs.Bits.{is_set, is_set_in, IsWordBut}
 use Rattle.thread_local_base.proofs.WordBits.{is_set_in-set}
-use Rattle.thread_local_bucket_pointers.specs.Slots.{AreWords, each, heap_token, block_ty, word_offset, value_offset, flags_at, back}
-use Rattle.thread_local_bucket_pointers.proofs.Each.{Put, each_at, each_turned}
-use Rattle.thread_local_bucket_pointers.proofs.Flags.{in_chunks}
+use Rattle.thread_local_buckets.specs.Slots.{AreWords, each, heap_token, block_ty, word_offset, value_offset, flags_at, back}
+use Rattle.thread_local_buckets.proofs.Each.{Put, each_at, each_turned}
+use Rattle.thread_local_buckets.proofs.Flags.{in_chunks}
 use Rattle.thread_local_shared_buckets.specs.Shared.{name_at, BucketView, Turn, StandingBlock, standing_coded}
 use Rattle.thread_local_shared_buckets.specs.Shared.{block_code, shared_slot, numbered_slot, AreFlagWords, slots_under}
 use Rattle.thread_local_shared_buckets.specs.Shared.{len, first, Sized, settled, standing, beside_pointer}

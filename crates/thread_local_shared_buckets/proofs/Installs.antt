@@ -13,8 +13,8 @@ use denote.RawPtr.{Ptr, block_ptr}
 use denote.Steps.{nothing}
 use Rattle.thread_local_ids.specs.Rights.{right_owns}
 use Rattle.thread_local_ids.specs.Told.{tells}
-use Rattle.thread_local_judged.specs.Judged.{Judged}
-use Rattle.thread_local_bucket_pointers.specs.Slots.{value_offset}
+use Rattle.thread_local_base.specs.Judged.{Judged}
+use Rattle.thread_local_buckets.specs.Slots.{value_offset}
 use Rattle.thread_local_base.specs.Fact.{fact}
 use Rattle.thread_local_shared_buckets.specs.Announcing.{Announcing}
 use Rattle.thread_local_shared_buckets.specs.Shared.{BucketView, Turn, StandingBlock, Sized, block_code, len, bucket_invariant, kept, loaded}

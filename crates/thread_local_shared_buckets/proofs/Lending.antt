@@ -27,9 +27,9 @@ use denote.Steps.{nothing as anything}
 use Rattle.std.specs.Coded.{coded_option}
 use denote.Struct.Lending.{Lends}
 use Rattle.std.proofs.cell.BorrowLemmas.{by_one, unnest_before}
-use Rattle.thread_local_judged.specs.Judged.{Shareable, Judged}
+use Rattle.thread_local_base.specs.Judged.{Shareable, Judged}
 use Rattle.thread_local_ids.specs.Rights.{right_owns}
-use Rattle.thread_local_bucket_pointers.specs.Slots.{value_offset, content_at}
+use Rattle.thread_local_buckets.specs.Slots.{value_offset, content_at}
 use Rattle.thread_local_base.specs.Fact.{fact}
 use Rattle.thread_local_ids.specs.Told.{tells}
 use Rattle.thread_local_ids.proofs.ToldElements.{told_dup}

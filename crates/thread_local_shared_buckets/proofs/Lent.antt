@@ -28,13 +28,13 @@ use denote.Struct.Members.{Member, rows_of, parts_at}
 use denote.Struct.Parts.{PartsBack, Struct-parts, shape_of}
 use Rattle.std.specs.Sync.RawAtomic.Pointer.{cell}
 use Rattle.std.proofs.cell.Inside.{spread, gather}
-use Rattle.thread_local_judged.specs.Judged.{Judged}
+use Rattle.thread_local_base.specs.Judged.{Judged}
 use Rattle.thread_local_base.specs.Fact.{fact}
 use Rattle.thread_local_shared_buckets.specs.Shared.{BucketView, Turn, StandingBlock, block_code, block_stands}
 use Rattle.thread_local_shared_buckets.specs.Shared.{block_rests, Sized, len, first, all_unborn, pending, standing}
 use Rattle.thread_local_shared_buckets.specs.Shared.{beside_pointer, bucket_invariant, kept, at_rest, bucket_shares}
 use Rattle.thread_local_shared_buckets.specs.contracts.shared_bucket.SharedBucket as C
-use Rattle.thread_local_bucket_pointers.specs.Slots.{empty_slots}
+use Rattle.thread_local_buckets.specs.Slots.{empty_slots}
 use Rattle.thread_local_ids.specs.Told.{all_told_or_untold}
 use Rattle.thread_local_shared_buckets.proofs.ClaimTokens.{tokens_from, tokens_new}
 use Rattle.thread_local_shared_buckets.proofs.Rested.{all_tokens, all_wait, none_born, wakes_block, rests_block}

@@ -12,7 +12,7 @@ use denote.RattleType.{RattleType}
 use denote.Memory.{shared_of}
 use denote.SharingLaws.{contraction}
 use denote.Param.Laws.{Laws}
-use Rattle.thread_local_judged.specs.Judged.{Shareable}
+use Rattle.thread_local_base.specs.Judged.{Shareable}
 use Rattle.thread_local_shared_buckets.specs.Shared.{name_at, Who, block_code}
 use Rattle.thread_local_shared_buckets.specs.Shared.{shared_value, opened, bucket_invariant}
 use Rattle.thread_local_shared_buckets.proofs.Rested.{opens_by}

@@ -3,7 +3,7 @@ use Rattle.std.proofs.Common.{◌≡◌, ℕ, zero, suc, ◌-◌, ◌+◌, ◌^�
 use Rattle.std.proofs.lemmas.Bool.{cond_both, eqb-true, eqb-false, ne_eqb, eq-eqb}
 use Rattle.thread_local_base.specs.Cursor.{Cursor, cursor_id, at_place, after_look, CursorFits}
 use Rattle.thread_local_base.proofs.CursorLaws.{after_look-fits, at_place-id}
-use Rattle.thread_local_bucket_pointers.specs.declared.cursor.RawIter.{RawIter}
+use Rattle.thread_local_buckets.specs.declared.cursor.RawIter.{RawIter}
 use Rattle.thread_local_shared_buckets.specs.Positions.{resting, loading, past, next_id}
 use Rattle.thread_local_shared_buckets.specs.Steps.{Leads}
 use Rattle.thread_local_shared_buckets.proofs.StepLaws.{loading_at, looking_at, at_place-inside, passes_bucket, leads_nowhere}

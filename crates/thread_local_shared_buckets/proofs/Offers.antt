@@ -34,10 +34,10 @@ use Rattle.std.specs.contracts.impls.GlobalAllocator.TheImpl.{ghosts}
 use Rattle.std.proofs.GlobalToken.{dealloc_token-Testable}
 use Rattle.thread_local_ids.specs.Rights.{right_owns}
 use Rattle.thread_local_ids.proofs.RightElements.{right_once}
-use Rattle.thread_local_judged.specs.Judged.{Judged}
+use Rattle.thread_local_base.specs.Judged.{Judged}
 use Rattle.thread_local_base.specs.Bits.{is_set_in}
-use Rattle.thread_local_bucket_pointers.specs.Slots.{each, chunks, AreFlags, flags_at, block_ty, value_offset, content_at, slot}
-use Rattle.thread_local_bucket_pointers.specs.Slots.{flags, back, block_owns, empty_slots, slot_value, heap_token, Fits}
+use Rattle.thread_local_buckets.specs.Slots.{each, chunks, AreFlags, flags_at, block_ty, value_offset, content_at, slot}
+use Rattle.thread_local_buckets.specs.Slots.{flags, back, block_owns, empty_slots, slot_value, heap_token, Fits}
 use Rattle.thread_local_shared_buckets.specs.Shared.{BucketView, Turn, StandingBlock, Who, free, claimed, early, block_code}
 use Rattle.thread_local_shared_buckets.specs.Shared.{value_code, pinned, opened, tracked_value, age, holds, lies_with_slot, shared_slot_as}
 use Rattle.thread_local_shared_buckets.specs.Shared.{by as lent_by}

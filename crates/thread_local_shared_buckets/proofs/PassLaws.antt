@@ -7,7 +7,7 @@ use Rattle.thread_local_base.specs.Place.{id_at}
 use Rattle.thread_local_base.proofs.Word.{lowest_set}
 use Rattle.std.specs.Int.{w64, trailing_zeros}
 use Rattle.thread_local_shared_buckets.specs.declared.seen.Seen.{Seen}
-use Rattle.thread_local_bucket_pointers.specs.declared.cursor.RawIter.{RawIter}
+use Rattle.thread_local_buckets.specs.declared.cursor.RawIter.{RawIter}
 use Rattle.thread_local_shared_buckets.specs.declared.steps.Own.{Own}
 use Rattle.thread_local_shared_buckets.specs.declared.steps.Walk.{Walk}
 use Rattle.thread_local_shared_buckets.specs.Walks.{Yields}

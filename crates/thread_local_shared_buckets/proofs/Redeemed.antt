@@ -21,9 +21,9 @@ use Rattle.std.specs.declared.alloc.Global.{Global}
 use Rattle.std.specs.contracts.impls.GlobalAllocator.TheImpl.{ghosts}
 use Rattle.std.proofs.GlobalToken.{dealloc_token-Testable}
 use Rattle.thread_local_base.specs.Bits.{is_set_in}
-use Rattle.thread_local_bucket_pointers.specs.Slots.{heap_token, chunks, each, AreFlags, flags_at, slot_value, block_ty, Fits}
-use Rattle.thread_local_bucket_pointers.specs.Slots.{value_offset, content_at, slot, flags_own, back}
-use Rattle.thread_local_bucket_pointers.specs.PointerOwns.{pointer_owns}
+use Rattle.thread_local_buckets.specs.Slots.{heap_token, chunks, each, AreFlags, flags_at, slot_value, block_ty, Fits}
+use Rattle.thread_local_buckets.specs.Slots.{value_offset, content_at, slot, flags_own, back}
+use Rattle.thread_local_buckets.specs.PointerOwns.{pointer_owns}
 use Rattle.thread_local_shared_buckets.specs.Shared.{BucketView, AreFlagWords, slots_under, slot_rests_as, slot_rests}
 use Rattle.thread_local_shared_buckets.specs.Shared.{slots_rest, Sized, len, first, at_rest}
 use Rattle.thread_local_ids.specs.Told.{told_or_untold, all_told_or_untold, whole_row}

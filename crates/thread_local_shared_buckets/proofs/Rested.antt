@@ -25,9 +25,9 @@ use denote.Param.{layout}
 use denote.Param.Laws.{Laws}
 use Rattle.std.proofs.cell.BorrowLemmas.{by_one}
 use Rattle.thread_local_ids.specs.Rights.{right_owns}
-use Rattle.thread_local_judged.specs.Judged.{Shareable, Judged}
+use Rattle.thread_local_base.specs.Judged.{Shareable, Judged}
 use Rattle.thread_local_base.specs.Bits.{is_set_in}
-use Rattle.thread_local_bucket_pointers.specs.Slots.{value_offset, content_at, each, back, empty_slots}
+use Rattle.thread_local_buckets.specs.Slots.{value_offset, content_at, each, back, empty_slots}
 use Rattle.thread_local_shared_buckets.specs.Shared.{Turn, Who, free, value_code, pinned, tracked_value, age}
 use Rattle.thread_local_shared_buckets.specs.Shared.{shared_value, opened, by as lent_by, stays, lies_with_slot, shared_slot_as}
 use Rattle.thread_local_shared_buckets.specs.Shared.{shared_slot, numbered_slot, slots_under, slots_side, all_unborn, due}

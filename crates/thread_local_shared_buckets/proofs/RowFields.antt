@@ -20,7 +20,7 @@ use denote.Struct.Laws.{u64-laws, u64-copy, RawPtr-copy, field_copy}
 use denote.Shadow.{makes_shadow}
 use denote.Struct.Struct.{Struct}
 use denote.Struct.Owning.{shape}
-use Rattle.thread_local_judged.specs.Judged.{Judged}
+use Rattle.thread_local_base.specs.Judged.{Judged}
 use Rattle.thread_local_shared_buckets.specs.Shared.{BucketView, Turn, StandingBlock, Sized, len, bucket_invariant, kept}
 use Rattle.thread_local_shared_buckets.specs.Shared.{loaded, Found, row_as, row_owns}
 use Rattle.thread_local_shared_buckets.specs.contracts.row.Row as Row

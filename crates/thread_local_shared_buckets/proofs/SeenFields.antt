@@ -25,8 +25,8 @@ use denote.Struct.Struct.{Struct}
 use denote.Struct.Owning.{shape}
 use Rattle.std.specs.contracts.marker.PhantomData as marker
 use Rattle.thread_local_base.specs.Bits.{is_set_in}
-use Rattle.thread_local_judged.specs.Judged.{Shareable}
-use Rattle.thread_local_bucket_pointers.specs.Slots.{each, value_offset}
+use Rattle.thread_local_base.specs.Judged.{Shareable}
+use Rattle.thread_local_buckets.specs.Slots.{each, value_offset}
 use Rattle.thread_local_ids.specs.Told.{tells}
 use Rattle.thread_local_ids.proofs.ToldElements.{told_dup}
 use Rattle.thread_local_shared_buckets.specs.Shared.{BucketView, first, value_code, if_set, seen_value}

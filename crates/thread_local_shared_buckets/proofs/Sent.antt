@@ -6,10 +6,10 @@ use base.Shift.{Keyless}
 use denote.RattleType.{RattleType}
 use denote.Param.Send.{IsSend}
 use denote.RawPtr.{block_of, count_of}
-use Rattle.thread_local_judged.specs.Judged.{Judged}
+use Rattle.thread_local_base.specs.Judged.{Judged}
 use Rattle.thread_local_ids.proofs.ToldElements.{tells_keyless}
 use Rattle.thread_local_ids.proofs.RightElements.{right_keyless}
-use Rattle.thread_local_bucket_pointers.specs.Slots.{value_offset}
+use Rattle.thread_local_buckets.specs.Slots.{value_offset}
 use Rattle.thread_local_shared_buckets.specs.Shared.{name_at, BucketView, Turn, StandingBlock, age, by, holds}
 use Rattle.thread_local_shared_buckets.proofs.BucketSent.{value_keyless, kept_keyless, row_keyless}
 use Rattle.thread_local_base.specs.Learnt.{Learnt, Unknown, Missing, Standing, Vacant, Holding}

@@ -15,7 +15,7 @@ use Rattle.thread_local_base.proofs.Opened.{Lies}
 use Rattle.thread_local_base.proofs.Opened as bucket_opened
 use Rattle.thread_local_base.specs.Bits.{is_set, IsWordBut}
 use Rattle.thread_local_base.proofs.Word.{same_bit}
-use Rattle.thread_local_bucket_pointers.specs.Slots.{word_offset}
+use Rattle.thread_local_buckets.specs.Slots.{word_offset}
 use Rattle.thread_local_shared_buckets.specs.Shared.{name_at, Who, block_code, age}
 use Rattle.thread_local_shared_buckets.specs.Shared.{tracked_value, shared_slot_as, shared_slot, len}
 use Rattle.thread_local_shared_buckets.specs.Shared.{bucket_invariant, stays, lies_with_slot, holds}

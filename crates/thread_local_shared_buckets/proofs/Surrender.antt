@@ -13,7 +13,7 @@ use denote.RattleType.{RattleType}
 use denote.RawPtr.{Ptr, block_of, count_of}
 use Rattle.thread_local_base.proofs.Walking.{lends_token, returns_token}
 use Rattle.thread_local_ids.specs.Rights.{right_owns}
-use Rattle.thread_local_bucket_pointers.specs.Slots.{value_offset}
+use Rattle.thread_local_buckets.specs.Slots.{value_offset}
 use Rattle.thread_local_base.specs.Fact.{fact}
 use Rattle.thread_local_shared_buckets.specs.Shared.{BucketView, Turn, StandingBlock, bucket_invariant}
 use Rattle.thread_local_base.specs.Learnt.{Learnt, Unknown, Missing, Standing, Vacant, Holding}

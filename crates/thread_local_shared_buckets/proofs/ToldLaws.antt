@@ -9,7 +9,7 @@ use Rattle.thread_local_base.specs.Bits.{is_set, IsLowestSet, IsWordBut}
 use Rattle.thread_local_base.proofs.PlaceLaws.{id_at-place, inside}
 use Rattle.thread_local_ids.specs.Views.{TokenView}
 use Rattle.thread_local_ids.specs.TokenLists.{AllOf, NoneIn}
-use Rattle.thread_local_bucket_pointers.specs.declared.cursor.RawIter.{RawIter}
+use Rattle.thread_local_buckets.specs.declared.cursor.RawIter.{RawIter}
 use Rattle.thread_local_shared_buckets.specs.declared.row.Row.{Row}
 use Rattle.thread_local_shared_buckets.specs.declared.seen.Seen.{Seen}
 use Rattle.thread_local_shared_buckets.specs.declared.steps.Own.{Own}

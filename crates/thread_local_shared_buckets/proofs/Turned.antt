@@ -28,14 +28,14 @@ use Rattle.std.proofs.lemmas.Bool.{ltb-true, lt-ltb}
 use Rattle.thread_local_base.specs.Bits.{is_set}
 use Rattle.thread_local_base.specs.Buckets.{Contents, row, IsTable}
 use Rattle.thread_local_base.specs.Owned.{Owned, AreOfFirstBuckets, IsOwned}
-use Rattle.thread_local_judged.specs.Judged.{Judged}
-use Rattle.thread_local_bucket_pointers.specs.Slots.{heap_token}
-use Rattle.thread_local_bucket_pointers.specs.PointerOwns.{pointer_owns}
-use Rattle.thread_local_bucket_pointers.specs.contracts.bucket_pointer.BucketPointer as plain
-use Rattle.thread_local_bucket_pointers.proofs.bucket_pointer.BucketPointer.TheLaws as plain'
-use Rattle.thread_local_bucket_pointers.specs.Announced.{Announces}
-use Rattle.thread_local_bucket_pointers.specs.contracts.announced.AnnouncedBuckets as bits
-use Rattle.thread_local_bucket_pointers.proofs.announced.AnnouncedBuckets.TheLaws as bits'
+use Rattle.thread_local_base.specs.Judged.{Judged}
+use Rattle.thread_local_buckets.specs.Slots.{heap_token}
+use Rattle.thread_local_buckets.specs.PointerOwns.{pointer_owns}
+use Rattle.thread_local_buckets.specs.contracts.bucket_pointer.BucketPointer as plain
+use Rattle.thread_local_buckets.proofs.bucket_pointer.BucketPointer.TheLaws as plain'
+use Rattle.thread_local_buckets.specs.Announced.{Announces}
+use Rattle.thread_local_buckets.specs.contracts.announced.AnnouncedBuckets as bits
+use Rattle.thread_local_buckets.proofs.announced.AnnouncedBuckets.TheLaws as bits'
 use Rattle.thread_local_shared_buckets.specs.Announcing.{Announcing, BeginsWithFirst, lies_with_word}
 use Rattle.thread_local_shared_buckets.specs.contracts.announcements.Announcements as shared_word
 use Rattle.thread_local_shared_buckets.proofs.AnnouncingLaws.{bits_untold, new_rights, rights_new, first_set, none_past, begins}
@@ -44,10 +44,10 @@ use Rattle.thread_local_ids.specs.Told.{rows_telling, rows_tell, book_owns}
 use Rattle.thread_local_ids.proofs.ToldElements.{source}
 use Rattle.thread_local_ids.proofs.Rows.{none_rows, rows_end, table_whole, rows_drawn}
 use Rattle.thread_local_shared_buckets.specs.contracts.shared_bucket.SharedBucket as shared
-use Rattle.thread_local_bucket_pointers.specs.Pointers.{contents_of}
-use Rattle.thread_local_bucket_pointers.specs.contracts.pointer_array.PointerArray as array
-use Rattle.thread_local_bucket_pointers.specs.contracts.bucket_pointers.BucketPointers as all_pointers
-use Rattle.thread_local_bucket_pointers.proofs.bucket_pointers.BucketPointers.TheLaws as all_pointers'
+use Rattle.thread_local_buckets.specs.Pointers.{contents_of}
+use Rattle.thread_local_buckets.specs.contracts.pointer_array.PointerArray as array
+use Rattle.thread_local_buckets.specs.contracts.bucket_pointers.BucketPointers as all_pointers
+use Rattle.thread_local_buckets.proofs.bucket_pointers.BucketPointers.TheLaws as all_pointers'
 use Rattle.thread_local_buckets.specs.contracts.buckets.Buckets as buckets
 use Rattle.thread_local_shared_buckets.specs.contracts.parts.SharedParts as all_shared
 use Rattle.thread_local_shared_buckets.specs.contracts.parts.SharedPointers as all_buckets'

@@ -6,7 +6,7 @@ use Rattle.std.proofs.lemmas.Bool.{eqb-true, eqb-false, cases_eq, cases_lt, le-l
 use Rattle.thread_local_base.specs.Place.{id_at}
 use Rattle.thread_local_base.specs.Cursor.{Cursor, cursor_id, is_complete, after_look, CursorFits}
 use Rattle.thread_local_base.proofs.CursorLaws.{after_look-fits, bounded}
-use Rattle.thread_local_bucket_pointers.specs.declared.cursor.RawIter.{RawIter}
+use Rattle.thread_local_buckets.specs.declared.cursor.RawIter.{RawIter}
 use Rattle.thread_local_shared_buckets.specs.declared.steps.Own.{Own}
 use Rattle.thread_local_shared_buckets.specs.Steps.{Leads}
 use Rattle.thread_local_shared_buckets.specs.Walks.{Owed, YieldsOwn, Yields, Ends}

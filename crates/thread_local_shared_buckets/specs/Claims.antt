@@ -14,8 +14,8 @@ use denote.Memory.{shared_of}
 use denote.RawPtr.{Ptr, InBlock, block_ptr, block_of, count_of}
 use denote.Sharing.{said, beside, within, some, held, nothing}
 use Rattle.thread_local_ids.specs.Rights.{right_owns}
-use Rattle.thread_local_judged.specs.Judged.{Judged}
-use Rattle.thread_local_bucket_pointers.specs.Slots.{flag_word_at, value_offset}
+use Rattle.thread_local_base.specs.Judged.{Judged}
+use Rattle.thread_local_buckets.specs.Slots.{flag_word_at, value_offset}
 use Rattle.thread_local_base.specs.Fact.{fact}
 use Rattle.thread_local_ids.specs.Told.{tells}
 use Rattle.thread_local_shared_buckets.specs.Announcing.{Announcing}

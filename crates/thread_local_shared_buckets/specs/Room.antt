@@ -1,8 +1,8 @@
 -- The room that a claim has for a value: a vacant slot, or a block that was made for its missing bucket.
 use Rattle.std.specs.Prelude.{◌≡◌, ℕ, ◌^◌, Option, None, Some}
 use Rattle.thread_local_base.specs.Learnt.{Learnt, Missing, Vacant}
-use Rattle.thread_local_bucket_pointers.specs.Slots.{empty_slots}
-use Rattle.thread_local_bucket_pointers.specs.declared.block.Block.{Block}
+use Rattle.thread_local_buckets.specs.Slots.{empty_slots}
+use Rattle.thread_local_buckets.specs.declared.block.Block.{Block}
 
 -- the slot is vacant and there is no block, or the bucket of this number is missing and there is an
 -- empty block for it from this heap

@@ -86,10 +86,10 @@ use denote.Sharing.{said, beside, some, ends, always}
 use Rattle.std.specs.Sync.RawAtomic.Pointer.{cell}
 use Rattle.thread_local_base.specs.Place.{id_at}
 use Rattle.thread_local_ids.specs.Rights.{right_owns, reached_owns}
-use Rattle.thread_local_judged.specs.Judged.{Shareable, Judged}
+use Rattle.thread_local_base.specs.Judged.{Shareable, Judged}
 use Rattle.thread_local_base.specs.Bits.{is_set_in}
-use Rattle.thread_local_bucket_pointers.specs.Slots.{heap_token, chunks, each, AreWords, block_ty, Fits, value_offset, flags_at}
-use Rattle.thread_local_bucket_pointers.specs.Slots.{content_at, back, empty_slots}
+use Rattle.thread_local_buckets.specs.Slots.{heap_token, chunks, each, AreWords, block_ty, Fits, value_offset, flags_at}
+use Rattle.thread_local_buckets.specs.Slots.{content_at, back, empty_slots}
 use Rattle.thread_local_base.specs.Fact.{fact}
 use Rattle.thread_local_shared_buckets.specs.Announcing.{Announcing, announcing_coded, announced}
 use Rattle.thread_local_ids.specs.Told.{untold_in, tells, told_or_untold, all_told_or_untold}
@@ -396,10 +396,6 @@ module _ (R : RattleType) where
     row_owns β p = fex Found (row_as β p)
 
   -- 7. What a look at the flags of a chunk hands out, as a value: what it saw of the slots.
-
-  -- the value that the slot at an index holds for good
-  abbrev pub pinned_at : List ℕ → ℕ → R.Denot → Fml
-  pinned_at names i x = pinned (name_at names i) x
 
   -- what a look has of a slot, by whether it saw the flag set
   abbrev pub if_set : {X : Type 0} → (X → Fml) → Bool → Fml

@@ -8,7 +8,7 @@ use base.Stored.{coded_bool, coded_list}
 use denote.Ref.{Bor}
 use denote.RattleType.{RattleType}
 use Rattle.thread_local_base.specs.Cursor.{Cursor, fresh_cursor, cursor_id, is_complete, after_look}
-use Rattle.thread_local_judged.specs.Judged.{Shareable}
+use Rattle.thread_local_base.specs.Judged.{Shareable}
 use Rattle.thread_local_ids.specs.Views.{TokenView, token_view_coded}
 use Rattle.thread_local_ids.specs.TokenLists.{AllOf}
 use Rattle.thread_local_shared_buckets.specs.Steps.{Leads}

@@ -3,18 +3,17 @@
 ghost use Rattle.std.specs.Prelude.{◌≡◌, ◌≢◌, ◌/◌, ◌^◌, ◌<◌, ◌⊎◌, true, Some, None, IsSome, is_some, IfOk, OnErr, MatchBool, MatchOption, slice_set};
 ghost use Rattle.thread_local_base.specs.Learnt.{Unknown, Missing, Vacant, Holding, Finds, learnt_by_publish};
 ghost use Rattle.thread_local_base.specs.Place.{IsPlaceOf};
-ghost use Rattle.thread_local_bucket_pointers.specs.Slots.{empty_slots, slot_value, flag_word_at};
+ghost use Rattle.thread_local_buckets.specs.Slots.{empty_slots, slot_value, flag_word_at};
 ghost use Rattle.thread_local_shared_buckets.specs.Announcing.{BeginsWithFirst};
 ghost use Rattle.thread_local_shared_buckets.specs.Known.{HasLooked, value_held};
 ghost use Rattle.thread_local_shared_buckets.specs.Room.{HasRoom};
 
 use crate::claimed::{ClaimedSlot, HOLDING, MISSING};
-use crate::replaced::replace_with;
 use crate::{Announcements, SharedBucket};
 use std::alloc::{AllocError, Global};
 use std::marker::Model;
 use thread_local_base::{Thread, bucket_size};
-use thread_local_bucket_pointers::{Block, BucketPointer, flag_word_at};
+use thread_local_buckets::{Block, BucketPointer, flag_word_at};
 use thread_local_ids::{HeldId, Reached, Right, Token};
 
 /// The slot of an id, for the holder of the id, whose right lies with the slot meanwhile. Contracts
@@ -86,9 +85,10 @@ impl<'a, T> Claim<'a, T> {
         ensures reserved { (result.reserved ≡ bucket.now.reserved)
             × (result.reserved ≡ true → result.learnt ≢ Missing) }
     {
-        let slot = ClaimedSlot::hold(bucket, thread.index, right);
+        let mut slot = ClaimedSlot::hold(bucket, thread.index, right);
+        slot.find(thread.index, flag_word_of::<T>(thread));
         Claim {
-            slot: slot.find(thread.index, flag_word_of::<T>(thread)),
+            slot,
             held,
             announcements,
         }
@@ -107,10 +107,7 @@ impl<'a, T> Claim<'a, T> {
         ensures reserved { (self.new.reserved ≡ self.old.reserved)
             × (self.new.reserved ≡ true → self.new.learnt ≡ Vacant) }
     {
-        let given = (thread.index, flag_word_of::<T>(thread));
-        replace_with(&mut self.slot, given, |slot, (index, flag_word)| {
-            (slot.find(index, flag_word), ())
-        })
+        self.slot.find(thread.index, flag_word_of::<T>(thread));
     }
 
     /// Makes room for a value in a slot that is empty. It looks again for a bucket that was missing, and
@@ -213,14 +210,7 @@ impl<'a, T> Claim<'a, T> {
     {
         let block = filled(block, alloc, thread, value);
         let announced = self.announcements.announce(thread.bucket);
-        let given = (thread.index, block, reached, announced);
-        let back = replace_with(
-            &mut self.slot,
-            given,
-            |slot, (index, block, reached, announced)| {
-                slot.exchange(index, block, reached, announced)
-            },
-        );
+        let back = self.slot.exchange(thread.index, block, reached, announced);
         if let Some(block) = back {
             let (value, block) = emptied(block, alloc, thread);
             block.release(alloc, bucket_size(thread.bucket));
@@ -239,10 +229,7 @@ impl<'a, T> Claim<'a, T> {
         ensures learnt { learnt_by_publish self.old.learnt value ≡ Some self.new.learnt }
         ensures reserved { self.new.reserved ≡ self.old.reserved }
     {
-        let given = (thread.index, flag_word_of::<T>(thread), value);
-        replace_with(&mut self.slot, given, |slot, (index, flag_word, value)| {
-            (slot.publish(index, flag_word, value), ())
-        })
+        self.slot.publish(thread.index, flag_word_of::<T>(thread), value);
     }
 
     /// The id whose slot it is.

@@ -97,79 +97,62 @@ impl<'a, T> ClaimedSlot<'a, T> {
     /// Looks for the bucket, and where it stands, at the slot: one atomic load of the bucket's
     /// pointer, and one of the word `flag_word` of the block, which has the slot's flag. After an
     /// earlier miss it finds the slot empty.
-    pub(crate) fn find(self, index: usize, flag_word: usize) -> ClaimedSlot<'a, T>
-        requires missing { MayLook self.learnt }
-        requires index { index ≡ self.index }
-        requires flag_word { flag_word ≡ flag_word_of T.row self.id }
-        ensures same_slot { (result.table ≡ self.entry.table)
-            × (result.sharing ≡ self.entry.sharing)
-            × (result.word ≡ self.entry.word)
-            × (result.id ≡ self.entry.id)
-            × (result.index ≡ self.entry.index) }
-        ensures looked { HasLooked result.learnt }
-        ensures empty { self.entry.learnt ≡ Missing → (result.learnt ≡ Missing) ⊎ (result.learnt ≡ Vacant) }
-        ensures reserved { (result.reserved ≡ self.entry.reserved)
-            × (result.reserved ≡ true → result.learnt ≢ Missing) }
-        ensures found { Finds self.entry.learnt result.learnt }
+    #[inline]
+    pub(crate) fn find(&mut self, index: usize, flag_word: usize)
+        requires missing { MayLook self.old.learnt }
+        requires index { index ≡ self.old.index }
+        requires flag_word { flag_word ≡ flag_word_of T.row self.old.id }
+        ensures same_slot { (self.new.table ≡ self.old.table)
+            × (self.new.sharing ≡ self.old.sharing)
+            × (self.new.word ≡ self.old.word)
+            × (self.new.id ≡ self.old.id)
+            × (self.new.index ≡ self.old.index) }
+        ensures looked { HasLooked self.new.learnt }
+        ensures empty { self.old.learnt ≡ Missing → (self.new.learnt ≡ Missing) ⊎ (self.new.learnt ≡ Vacant) }
+        ensures reserved { (self.new.reserved ≡ self.old.reserved)
+            × (self.new.reserved ≡ true → self.new.learnt ≢ Missing) }
+        ensures found { Finds self.old.learnt self.new.learnt }
     {
-        let Self {
-            at: bucket,
-            state: _,
-            marker: _,
-        } = self;
+        let bucket = self.at;
         let at = unsafe {
             let bucket = bucket as *const SharedBucket<T>;
             ptr::load::<u64, Brand>(&raw const (*bucket).at as *const *mut u64, SeqCst)
         };
         if at.is_null() {
-            return ClaimedSlot {
-                at: bucket,
-                state: MISSING,
-                marker: PhantomData,
-            };
+            return;
         }
         let word = unsafe { (at as *const u64).add(flag_word) };
         let value = unsafe { (at as *const T).add(index) };
         let flags = unsafe { raw::load::<Brand>(word, SeqCst) };
-        ClaimedSlot {
-            at: value as *const (),
-            // With a flag that is set, the sum is `HOLDING`.
-            state: VACANT + (flags >> (index % 64) & 1),
-            marker: PhantomData,
-        }
+        self.at = value as *const ();
+        // With a flag that is set, the sum is `HOLDING`.
+        self.state = VACANT + (flags >> (index % 64) & 1);
     }
 
     /// Publishes a value in a vacant slot: the value is written, and then the flag is set, by one
     /// atomic addition to the word `flag_word` of the block. The flag is unset, so the addition
     /// changes no other bit, whatever others publish in the same word.
-    pub(crate) fn publish(self, index: usize, flag_word: usize, value: T) -> ClaimedSlot<'a, T>
-        requires vacant { self.learnt ≡ Vacant }
-        requires index { index ≡ self.index }
-        requires flag_word { flag_word ≡ flag_word_of T.row self.id }
-        ensures same_slot { (result.table ≡ self.entry.table)
-            × (result.sharing ≡ self.entry.sharing)
-            × (result.word ≡ self.entry.word)
-            × (result.id ≡ self.entry.id)
-            × (result.index ≡ self.entry.index) }
-        ensures value { result.learnt ≡ Holding value }
-        ensures reserved { result.reserved ≡ self.entry.reserved }
+    #[inline]
+    pub(crate) fn publish(&mut self, index: usize, flag_word: usize, value: T)
+        requires vacant { self.old.learnt ≡ Vacant }
+        requires index { index ≡ self.old.index }
+        requires flag_word { flag_word ≡ flag_word_of T.row self.old.id }
+        ensures same_slot { (self.new.table ≡ self.old.table)
+            × (self.new.sharing ≡ self.old.sharing)
+            × (self.new.word ≡ self.old.word)
+            × (self.new.id ≡ self.old.id)
+            × (self.new.index ≡ self.old.index) }
+        ensures value { self.new.learnt ≡ Holding value }
+        ensures reserved { self.new.reserved ≡ self.old.reserved }
     {
-        let Self {
-            at,
-            state: _,
-            marker: _,
-        } = self;
+        let at = self.at;
         // The words of flags lie behind the values.
         let distance = flag_word * 8 - index * size_of::<T>();
         let word = unsafe { (at as *const u8).add(distance) } as *const u64;
         let slot = at as *mut T;
         unsafe { slot.write(value) };
         unsafe { raw::fetch_add::<Brand>(word, 1 << (index % 64), SeqCst) };
-        ClaimedSlot {
-            at,
-            state: HOLDING,
-            marker: PhantomData,
-        }
+        self.state = HOLDING;
     }
 
     /// The number for what it has learnt: `MISSING`, `VACANT` or `HOLDING`.

@@ -8,7 +8,7 @@ use crate::iter::Iter;
 use std::fmt;
 use std::iter::FusedIterator;
 use std::marker::Model;
-use thread_local_bucket_pointers::write_struct;
+use thread_local_buckets::write_struct;
 
 /// What `Iter` gives, each value with the id of its slot: the ids ascend strictly. Contracts see
 /// the walk.
@@ -61,7 +61,7 @@ impl<'a, T: Sync> Iterator for Entries<'a, T> {
         ensures lower { IsWithinCount result.0 (ids_left self.now) }
         ensures upper { IfSome result.1 (UpTo (ids_left self.now)) }
     {
-        self.walk.size_hint()
+        (0, None)
     }
 }
 

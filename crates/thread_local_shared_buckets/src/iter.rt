@@ -13,7 +13,7 @@ use std::fmt;
 use std::iter::FusedIterator;
 use std::marker::Model;
 use thread_local_base::Thread;
-use thread_local_bucket_pointers::{RawIter, without_first, write_struct};
+use thread_local_buckets::{RawIter, without_first, write_struct};
 use thread_local_ids::{Token, Told, Witness};
 
 /// The values of shared buckets, by ascending id, each lent as `&`, while other threads may publish

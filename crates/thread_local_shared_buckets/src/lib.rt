@@ -11,7 +11,6 @@ pub mod complete;
 pub mod entries;
 pub mod iter;
 mod parts;
-mod replaced;
 pub mod row;
 pub mod seen;
 pub mod shared;

@@ -4,8 +4,8 @@ ghost use Rattle.std.specs.Prelude.{◌≡◌, ℕ, ◌+◌, ◌*◌, ◌^◌, �
 ghost use Rattle.thread_local_base.specs.Bits.{is_set};
 ghost use Rattle.thread_local_base.specs.Place.{id_at};
 ghost use Rattle.thread_local_ids.specs.TokenLists.{AllOf};
-ghost use Rattle.thread_local_judged.specs.Judged.{Shareable};
-ghost use Rattle.thread_local_bucket_pointers.specs.Slots.{flag_word_at};
+ghost use Rattle.thread_local_base.specs.Judged.{Shareable};
+ghost use Rattle.thread_local_buckets.specs.Slots.{flag_word_at};
 ghost use Rattle.thread_local_shared_buckets.specs.Shared.{BucketView, bucket_view_coded, row_owns};
 ghost use denote.Sharing.{said};
 
@@ -13,7 +13,7 @@ use crate::seen::Seen;
 use std::marker::{Brand, Model, PhantomData};
 use std::sync::atomic::Ordering::SeqCst;
 use std::sync::atomic::raw;
-use thread_local_bucket_pointers::Chunk;
+use thread_local_buckets::Chunk;
 use thread_local_ids::TokenList;
 
 /// The slots of a bucket, for as long as the bucket is borrowed. A contract sees which bucket it

@@ -1,9 +1,8 @@
 //! What one load of a word of flags saw: which of the 64 slots of a chunk had a value.
 ghost use Rattle.std.specs.Prelude.{◌≡◌, ℕ, ◌+◌, ◌*◌, ◌<◌, true, List};
-ghost use types.Logic.{sem};
 ghost use Rattle.thread_local_base.specs.Bits.{is_set};
 ghost use Rattle.thread_local_base.specs.Place.{id_at};
-ghost use Rattle.thread_local_shared_buckets.specs.Shared.{BucketView, bucket_view_coded, seen_owns, pinned_at};
+ghost use Rattle.thread_local_shared_buckets.specs.Shared.{BucketView, bucket_view_coded, seen_owns};
 ghost use denote.Sharing.{said};
 ghost use denote.RawPtr.{Ptr, coded_ptr};
 
@@ -43,11 +42,10 @@ impl<'a, T> Seen<'a, T> {
     /// The value of the slot with this bit, whose flag was set, and a witness that the slot of that id
     /// was published with it. The `&` lasts as long as the bucket is borrowed, whoever claims the
     /// slot meanwhile. It is no atomic step.
+    #[inline]
     pub fn give(&self, bit: usize) -> (Witness<T>, &'a T)
         requires within { bit < 64 }
         requires set { is_set self.now.flags bit ≡ true }
-        ensures* published { sem 𝓛
-            (pinned_at T.row self.now.names (self.now.chunk * 64 + bit) result.1.now) }
         ensures told { (result.0.sharing ≡ self.now.of.sharing)
             × (result.0.id ≡ id_at self.now.of.bucket (self.now.chunk * 64 + bit))
             × (result.0.value ≡ result.1.now) }
@@ -58,19 +56,6 @@ impl<'a, T> Seen<'a, T> {
             marker: PhantomData,
         };
         (witness, value)
-    }
-
-    /// The same, without `published`. The proof that the check makes of a caller lets that clause go,
-    /// and a library carries no such proof: whoever uses the caller proves it anew.
-    #[inline]
-    pub(crate) fn lend_value(&self, bit: usize) -> (Witness<T>, &'a T)
-        requires within { bit < 64 }
-        requires set { is_set self.now.flags bit ≡ true }
-        ensures told { (result.0.sharing ≡ self.now.of.sharing)
-            × (result.0.id ≡ id_at self.now.of.bucket (self.now.chunk * 64 + bit))
-            × (result.0.value ≡ result.1.now) }
-    {
-        self.give(bit)
     }
 }
 

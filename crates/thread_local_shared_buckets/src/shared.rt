@@ -5,7 +5,7 @@ ghost use Rattle.thread_local_base.specs.Bits.{is_set};
 ghost use Rattle.thread_local_base.specs.Learnt.{Unknown, Missing, Finds};
 ghost use Rattle.thread_local_base.specs.Owned.{IsOwned, AreOfFirstBuckets};
 ghost use Rattle.thread_local_base.specs.Place.{bucket_of, id_at};
-ghost use Rattle.thread_local_judged.specs.Judged.{Judged};
+ghost use Rattle.thread_local_base.specs.Judged.{Judged};
 ghost use Rattle.thread_local_ids.specs.TokenLists.{NoneIn};
 ghost use Rattle.thread_local_shared_buckets.specs.Known.{HasLooked};
 ghost use Rattle.thread_local_shared_buckets.specs.Grown.{only_reserved};
@@ -17,8 +17,7 @@ use crate::parts::SharedParts;
 use crate::{Claim, SharedBucket};
 use std::marker::{Move, Owns, PhantomData};
 use thread_local_base::{Thread, bucket_size};
-use thread_local_bucket_pointers::{BucketPointers, take_first};
-use thread_local_buckets::Buckets;
+use thread_local_buckets::{BucketPointers, Buckets, take_first};
 use thread_local_ids::{Book, HeldId, Reached, Right, Token, TokenList, Told};
 
 mod lends;
@@ -242,7 +241,9 @@ impl<T: Drop> Drop for Shared<T> {
     // Where the call isn't inlined, the caller copies the pointers once more.
     #[inline(always)]
     fn drop(self) {
-        drop(self.into_buckets_and_book());
+        let (pointers, book) = self.into_pointers();
+        drop(book);
+        drop(pointers);
     }
 }
 

@@ -2,7 +2,7 @@
 //! of slots once it stands.
 ghost use Rattle.std.specs.Prelude.{◌≡◌, ◌^◌, ◌<◌, true, None, IfSome, IsSome};
 ghost use Rattle.thread_local_base.specs.Place.{id_at};
-ghost use Rattle.thread_local_judged.specs.Judged.{Judged};
+ghost use Rattle.thread_local_base.specs.Judged.{Judged};
 ghost use Rattle.thread_local_shared_buckets.specs.Shared.{BucketView, bucket_view_coded, bucket_owns, bucket_shares, shown_by};
 ghost use Rattle.thread_local_ids.specs.TokenLists.{NoneIn};
 
@@ -10,7 +10,7 @@ use crate::row::Row;
 use std::marker::{Brand, Move, Owns, PhantomData};
 use std::sync::atomic::Ordering::SeqCst;
 use std::sync::atomic::raw::ptr;
-use thread_local_bucket_pointers::Chunk;
+use thread_local_buckets::Chunk;
 use thread_local_ids::{Reached, TokenList, Witness};
 
 /// A bucket that threads share: its pointer, which an owner sees as a `BucketPointer`. A contract

@@ -1,5 +1,5 @@
 //! A value without bytes, by which a walk knows that threads may share the values that it lends.
-ghost use Rattle.thread_local_judged.specs.Judged.{Shareable};
+ghost use Rattle.thread_local_base.specs.Judged.{Shareable};
 ghost use Rattle.thread_local_base.specs.Fact.{fact};
 ghost use denote.Sharing.{said};
 

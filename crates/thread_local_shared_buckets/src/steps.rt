@@ -1,7 +1,7 @@
 //! One call of a walk: it gives the value of the lowest flag at hand. Where no flag is at hand, it
 //! loads the next words of flags first, until one has a flag that is set.
 ghost use Rattle.std.specs.Prelude.{◌≡◌, ◌≢◌, ◌+◌, ◌-◌, ◌*◌, ◌/◌, ◌%◌, ◌^◌, ◌<◌, ◌≤◌, ℕ, true, false, None, IfSome, MatchOption, option_map};
-ghost use Rattle.thread_local_judged.specs.Judged.{Shareable};
+ghost use Rattle.thread_local_base.specs.Judged.{Shareable};
 ghost use Rattle.thread_local_base.specs.Bits.{is_set, IsWordBut};
 ghost use Rattle.thread_local_ids.specs.TokenLists.{AllOf};
 ghost use Rattle.thread_local_shared_buckets.specs.Walks.{Meets};
@@ -13,7 +13,7 @@ ghost use Rattle.thread_local_shared_buckets.specs.AtHand.{HasAll, IsWalk, Looks
 use crate::shared::Shared;
 use crate::{Row, Seen};
 use thread_local_base::{BUCKETS, Thread, bucket_size};
-use thread_local_bucket_pointers::{RawIter, flag_word_at, take_first, without_first};
+use thread_local_buckets::{RawIter, flag_word_at, take_first, without_first};
 use thread_local_ids::{TokenList, Told, Witness};
 
 /// The walker's own value, the place of its id, and what shows that its slot was published with it.
@@ -76,7 +76,7 @@ fn take<'a, T>(
         }
     } else {
         match seen {
-            Some(seen) => seen.lend_value(bit),
+            Some(seen) => seen.give(bit),
             None => unreachable!(),
         }
     }

@@ -8,7 +8,7 @@ use crate::iter::Iter;
 use std::fmt;
 use std::iter::FusedIterator;
 use std::marker::Model;
-use thread_local_bucket_pointers::write_struct;
+use thread_local_buckets::write_struct;
 use thread_local_ids::Token;
 
 /// What `Iter` gives, each value with a token that says that the slot of the token's id was
@@ -66,7 +66,7 @@ impl<'a, T: Sync> Iterator for Tokens<'a, T> {
         ensures lower { IsWithinCount result.0 (ids_left self.now) }
         ensures upper { IfSome result.1 (UpTo (ids_left self.now)) }
     {
-        self.walk.size_hint()
+        (0, None)
     }
 }
 

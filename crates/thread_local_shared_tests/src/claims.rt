@@ -4,10 +4,9 @@ use crate::steps::{Kept, Table, left, publish_claimed, share};
 use std::cell::Cell;
 use std::test::Fail;
 use std::thread;
-use thread_local_base::Thread;
+use thread_local_base::{Judge, Thread};
 use thread_local_buckets::Buckets;
 use thread_local_ids::TokenList;
-use thread_local_judged::Judge;
 use thread_local_shared_buckets::{Claim, Shared};
 
 impl<T: Drop> Kept<'_, T> {

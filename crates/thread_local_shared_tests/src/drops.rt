@@ -8,10 +8,9 @@ use std::sync::atomic::AtomicU64;
 use std::sync::atomic::Ordering::SeqCst;
 use std::sync::{Arc, Wait};
 use std::test::Fail;
-use thread_local_base::Thread;
+use thread_local_base::{Thread, judge_sync};
 use thread_local_buckets::Buckets;
 use thread_local_ids::{HeldId, Right, Rights};
-use thread_local_judged::judge_sync;
 use thread_local_shared_buckets::Shared;
 use thread_local_test_helpers::counted::Counted;
 

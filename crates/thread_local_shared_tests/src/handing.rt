@@ -1,6 +1,6 @@
 //! Values are handed on, from thread to thread and back out of the buckets.
 ghost use Rattle.std.specs.Prelude.{◌≡◌, ◌-◌, ◌^◌, ◌<◌};
-ghost use Rattle.thread_local_judged.specs.Judged.{Judged};
+ghost use Rattle.thread_local_base.specs.Judged.{Judged};
 
 use crate::steps::{Table, look, publish, share};
 use std::alloc::Global;
@@ -9,10 +9,9 @@ use std::sync::Wait;
 use std::test::Fail;
 use std::thread;
 use std::thread::Threads;
-use thread_local_base::Thread;
+use thread_local_base::{Judge, Thread, judge_sync};
 use thread_local_buckets::Buckets;
 use thread_local_ids::{HeldId, Right};
-use thread_local_judged::{Judge, judge_sync};
 use thread_local_shared_buckets::Shared;
 
 /// Adds to the number at an id, and answers what was there.

@@ -1,6 +1,6 @@
 //! Blocks are installed with a value in them, and those that come second give way.
 ghost use Rattle.std.specs.Prelude.{◌≡◌, ◌<◌, ◌^◌};
-ghost use Rattle.thread_local_bucket_pointers.specs.Slots.{empty_slots};
+ghost use Rattle.thread_local_buckets.specs.Slots.{empty_slots};
 ghost use Rattle.thread_local_ids.specs.Taken.{IsHeldIn};
 ghost use Rattle.thread_local_base.specs.Place.{bucket_of};
 
@@ -10,8 +10,7 @@ use std::cell::{Cell, RefCell};
 use std::sync::Wait;
 use std::test::Fail;
 use thread_local_base::bucket_size;
-use thread_local_bucket_pointers::Block;
-use thread_local_buckets::Buckets;
+use thread_local_buckets::{Block, Buckets};
 use thread_local_ids::{Reached, Taken};
 use thread_local_shared_buckets::{Claim, Shared};
 use thread_local_test_helpers::memory::take_all_but;

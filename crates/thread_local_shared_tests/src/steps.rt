@@ -1,14 +1,13 @@
 //! What a test does with one id of a table.
 ghost use Rattle.std.specs.Prelude.{◌≡◌, ◌-◌, ◌^◌, ◌<◌, IfOk, IsSome};
-ghost use Rattle.thread_local_judged.specs.Judged.{Judged};
+ghost use Rattle.thread_local_base.specs.Judged.{Judged};
 ghost use Rattle.thread_local_ids.specs.Taken.{IsHeldIn};
 ghost use Rattle.thread_local_base.specs.Bits.{is_set};
 
 use std::alloc::Global;
 use std::sync::Wait;
 use thread_local_base::{LocalError, Thread, bucket_size};
-use thread_local_bucket_pointers::flag_word_at;
-use thread_local_buckets::Buckets;
+use thread_local_buckets::{Buckets, flag_word_at};
 use thread_local_ids::{HeldId, Page, Right, Room, SharedIds, Taken, Tenure, TokenList};
 use thread_local_shared_buckets::{Claim, Shared};
 

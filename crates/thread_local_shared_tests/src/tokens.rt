@@ -8,10 +8,9 @@ use crate::steps::{Table, publish, share};
 use std::alloc::Global;
 use std::cell::Cell;
 use std::test::Fail;
-use thread_local_base::Thread;
+use thread_local_base::{Judge, Thread, judge_sync};
 use thread_local_buckets::Buckets;
 use thread_local_ids::{HeldId, Right, Tenure, Token};
-use thread_local_judged::{Judge, judge_sync};
 use thread_local_shared_buckets::{Claim, Shared};
 
 /// Publishes a value, and answers a token of what the slot was published with.

@@ -8,7 +8,7 @@ use std::mem::forget;
 use std::sync::Wait;
 use thread_local::ThreadLocal;
 use thread_local::local::{Local, TryError};
-use thread_local_judged::judge_sync;
+use thread_local_base::judge_sync;
 use thread_local_test_helpers::counted::{Counted, Drops, dropped};
 use thread_local_test_helpers::memory::take_all_but;
 

@@ -13,8 +13,7 @@ use std::sync::Wait;
 use std::thread;
 use std::thread::Threads;
 use thread_local::ThreadLocal;
-use thread_local_base::LocalError;
-use thread_local_judged::Judge;
+use thread_local_base::{Judge, LocalError};
 
 /// Adds up the numbers from 1 to `numbers` with `workers` workers, each a thread: worker w adds
 /// each k with k mod `workers` = w in a cell of its own, and makes no step on shared memory

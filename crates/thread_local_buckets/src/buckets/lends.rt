@@ -6,7 +6,7 @@ ghost use Rattle.thread_local_buckets.specs.LendingValues.{LendsValues};
 use super::Buckets;
 use crate::loan::Loan;
 use std::marker::PhantomData;
-use thread_local_bucket_pointers::Chunk;
+use crate::Chunk;
 
 impl<T> Buckets<T> {
     /// Lends the pointers for as long as the buckets are borrowed.

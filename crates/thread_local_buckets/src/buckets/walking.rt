@@ -2,12 +2,12 @@
 ghost use Rattle.std.specs.Prelude.{◌≡◌, ◌+◌, ◌<◌, ◌∷◌};
 ghost use Rattle.thread_local_base.specs.Buckets.{values};
 ghost use Rattle.thread_local_base.specs.Walk.{walk, paired};
-ghost use Rattle.thread_local_bucket_pointers.specs.Cursor.{values_left, IsOwnerWalk};
+ghost use Rattle.thread_local_buckets.specs.Cursor.{values_left, IsOwnerWalk};
 ghost use Rattle.thread_local_base.specs.Owner.{emptied};
 ghost use Rattle.thread_local_buckets.specs.Emptied.{owned_emptied};
 
 use super::Buckets;
-use thread_local_bucket_pointers::OwnerCursor;
+use crate::OwnerCursor;
 
 impl<T> Buckets<T> {
     /// Moves out the next value of a walk, of which there must be one, and returns it with its id.

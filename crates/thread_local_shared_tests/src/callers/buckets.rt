@@ -1,14 +1,12 @@
 //! Buckets are shared at concrete types.
 ghost use Rattle.std.specs.Prelude.{◌≡◌, ◌^◌, ◌<◌, ◌≤◌};
-ghost use Rattle.thread_local_judged.specs.Judged.{Judged};
+ghost use Rattle.thread_local_base.specs.Judged.{Judged};
 
 use crate::steps::{has_bit, share};
 use std::cell::{Cell, RefCell};
-use thread_local_base::bucket_size;
-use thread_local_bucket_pointers::flag_word_at;
-use thread_local_buckets::Buckets;
+use thread_local_base::{Judge, bucket_size, judge_sync};
+use thread_local_buckets::{Buckets, flag_word_at};
 use thread_local_ids::{Right, Token, TokenList, Told};
-use thread_local_judged::{Judge, judge_sync};
 use thread_local_shared_buckets::{Row, Shared, SharedBucket};
 
 fn crosses<X: Send + Sync>(_there: &X) {}

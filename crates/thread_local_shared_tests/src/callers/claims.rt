@@ -1,6 +1,6 @@
 //! Claims at concrete types.
 ghost use Rattle.std.specs.Prelude.{◌≡◌, ◌≢◌, ◌<◌, ◌^◌, ◌⊎◌, MatchBool, MatchOption};
-ghost use Rattle.thread_local_bucket_pointers.specs.Slots.{empty_slots};
+ghost use Rattle.thread_local_buckets.specs.Slots.{empty_slots};
 ghost use Rattle.thread_local_base.specs.Learnt.{Missing, Vacant, Holding};
 ghost use Rattle.thread_local_base.specs.Place.{bucket_of, IsPlaceOf};
 ghost use Rattle.thread_local_shared_buckets.specs.Announcing.{BeginsWithFirst};
@@ -8,7 +8,7 @@ ghost use Rattle.thread_local_shared_buckets.specs.Announcing.{BeginsWithFirst};
 use std::alloc::Global;
 use std::cell::{Cell, RefCell};
 use thread_local_base::{Thread, bucket_size};
-use thread_local_bucket_pointers::Block;
+use thread_local_buckets::Block;
 use thread_local_ids::{HeldId, Reached, Right, Token};
 use thread_local_shared_buckets::{Announcements, Claim, SharedBucket};
 

@@ -1,9 +1,9 @@
 //! Types that are judged.
-ghost use Rattle.thread_local_judged.specs.Judged.{Judged};
+ghost use Rattle.thread_local_base.specs.Judged.{Judged};
 
 use std::alloc::Global;
 use std::cell::{Cell, RefCell};
-use thread_local_judged::{Judge, judge_sync};
+use thread_local_base::{Judge, judge_sync};
 
 /// Stands for a call that asks for the fact.
 fn offered<T: Send>(value: T) -> T

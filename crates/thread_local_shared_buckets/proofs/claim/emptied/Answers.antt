@@ -3,7 +3,7 @@ use Rattle.std.proofs.Common.{◌∙◌, ℕ, ◌/◌, ◌^◌, List, Option, No
 use Rattle.std.specs.Prelude.{IsSome, slice_set}
 use Rattle.std.proofs.lemmas.List.{length-set}
 use Rattle.std.proofs.lemmas.Nat.{pow_pos}
-use Rattle.thread_local_bucket_pointers.specs.Slots.{slot_value, flag_word_at}
+use Rattle.thread_local_buckets.specs.Slots.{slot_value, flag_word_at}
 use Rattle.thread_local_shared_buckets.specs.contracts.claim.emptied.{T-row}
 use Rattle.thread_local_shared_buckets.proofs.BlockLaws.{long, within}
 use Rattle.thread_local_shared_buckets.proofs.claim.emptied.Goals as goal

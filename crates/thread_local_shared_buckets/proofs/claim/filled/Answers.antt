@@ -3,7 +3,7 @@ use Rattle.std.proofs.Common.{◌≡◌, ◌∙◌, ℕ, ◌/◌, ◌^◌, List,
 use Rattle.std.specs.Prelude.{slice_set}
 use Rattle.std.proofs.lemmas.List.{length-set, length-replicate, get_or-set_same}
 use Rattle.std.proofs.lemmas.Nat.{pow_pos}
-use Rattle.thread_local_bucket_pointers.specs.Slots.{empty_slots, slot_value, flag_word_at}
+use Rattle.thread_local_buckets.specs.Slots.{empty_slots, slot_value, flag_word_at}
 use Rattle.thread_local_shared_buckets.specs.contracts.claim.filled.{T-row}
 use Rattle.thread_local_shared_buckets.proofs.BlockLaws.{without, none_in, within}
 use Rattle.thread_local_shared_buckets.proofs.claim.filled.Goals as goal

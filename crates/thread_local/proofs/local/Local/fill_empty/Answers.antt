@@ -1,8 +1,6 @@
 use Rattle.std.proofs.Common.{◌≡◌, ◌<◌, ◌-◌, ◌^◌, Some, ℕ, sym, subst, refl, ◌∙◌}
-use Rattle.thread_local_base.specs.Place.{IsPlaceOf}
 use Rattle.thread_local_base.specs.Learnt.{Learnt, Unknown, Missing, Standing, Vacant, Holding, learnt_by_publish}
 use Rattle.thread_local_shared_buckets.specs.Known.{HasLooked}
-use Rattle.thread_local.specs.Locals.{LocalView}
 use Rattle.thread_local.proofs.Filled.{filled_empty}
 use Rattle.thread_local.proofs.Knowing.{now_knowing}
 use Rattle.thread_local.proofs.local.Local.fill_empty.Goals as goal
@@ -38,8 +36,6 @@ create-requires g c = c.requires.callable
 
 pub publish-requires-clause-place : goal.publish-requires-clause-place
 publish-requires-clause-place g c =
-    subst (λ (view : LocalView g.row.T.Denot). IsPlaceOf c.place-thread.result.bucket c.place-thread.result.index view.id)
-    (sym c.self.view_is)
     c.place-thread.ensures
 
 pub returns-clause-granted : goal.returns-clause-granted

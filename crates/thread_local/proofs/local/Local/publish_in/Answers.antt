@@ -23,16 +23,17 @@ never_missing learnt value is missing = cc
 
 pub publish_in-requires-clause-room : goal.publish_in-requires-clause-room
 publish_in-requires-clause-room g c =
-    subst (λ (learnt : Learnt g.row.T.Denot). HasRoom c.args.alloc c.args.thread.bucket learnt c.args.block)
+    let room = c.args.room in
+    subst (λ (learnt : Learnt g.row.T.Denot). HasRoom c.args.alloc room.0.bucket learnt room.1)
     (has_learnt c.self.inside.table.now c.self.inside.claim c.args.self.now c.self.inside.tenure.before c.self.invariant.known
     c.self.view_is)
-    c.requires.room
+    c.requires.room.1
 
 pub publish_in-requires-clause-place : goal.publish_in-requires-clause-place
 publish_in-requires-clause-place g c =
-    subst (λ (view : LocalView g.row.T.Denot). IsPlaceOf c.args.thread.bucket c.args.thread.index view.id)
+    subst (λ (view : LocalView g.row.T.Denot). IsPlaceOf c.args.room.0.bucket c.args.room.0.index view.id)
     (sym c.self.view_is)
-    c.requires.place
+    c.requires.room.0
 
 pub invariant_of-self : goal.invariant_of-self
 invariant_of-self g c =

@@ -4,12 +4,13 @@ use Rattle.thread_local_base.specs.Place.{IsPlaceOf}
 use Rattle.thread_local_base.specs.Learnt.{Learnt, Missing, Vacant}
 use Rattle.thread_local_base.specs.Answers.{view_of}
 use Rattle.thread_local_base.specs.IdMoves.{IdMove}
-use Rattle.thread_local_bucket_pointers.specs.declared.block.Block.{Block}
+use Rattle.thread_local_buckets.specs.declared.block.Block.{Block}
 use Rattle.thread_local_shared_buckets.specs.Known.{HasLooked}
 use Rattle.thread_local_shared_buckets.specs.Room.{HasRoom}
 use Rattle.thread_local_shared_buckets.specs.Views.{ClaimView}
 use Rattle.thread_local.specs.Tables.{ThreadLocalView}
-use Rattle.thread_local.specs.Locals.{LocalView, local_view, learnt_by, StaysEmpty}
+use Rattle.thread_local.specs.Locals.{LocalView, local_view, StaysEmpty}
+use Rattle.thread_local.proofs.Filled.{on_err}
 use Rattle.thread_local.proofs.Knowing.{with_learnt, learnt_again, seen_empty}
 use Rattle.thread_local.proofs.local.Local.room.Goals as goal
 
@@ -17,11 +18,16 @@ abbrev IsEmpty : {V : Type 0} → Learnt V → Type 0
 IsEmpty learnt = (learnt ≡ Missing) ⊎ (learnt ≡ Vacant)
 
 -- the slot is still empty
+empty_by_room : {V A : Type 0} (heap : A) (bucket : ℕ) (learnt : Learnt V) (block : Option (Block V A))
+    → HasRoom heap bucket learnt block
+    → IsEmpty learnt
+empty_by_room heap bucket learnt None room = inr room
+empty_by_room heap bucket learnt (Some block) room = inl room.0
+
 still_empty : {V A E : Type 0} (result : Result (Option (Block V A)) E) (heap : A) (bucket : ℕ) (old new : Learnt V)
     → IfOk result (HasRoom heap bucket new) → OnErr result ((old ≡ Missing) × (new ≡ Missing))
     → IsEmpty new
-still_empty (Ok None) heap bucket old new room refused = inr room
-still_empty (Ok (Some block)) heap bucket old new room refused = inl room.0
+still_empty (Ok block) heap bucket old new room refused = empty_by_room heap bucket new block room
 still_empty (Err e) heap bucket old new room refused = inl refused.1
 
 empty_looked : {V : Type 0} (learnt : Learnt V) → IsEmpty learnt → HasLooked learnt
@@ -47,15 +53,6 @@ still_known old new empty keeps known =
     (λ (is : old ≡ Missing). let unknown : (view_of old).known ≡ false = ap (λ (k : Learnt _). (view_of k).known) is in cc)
     (λ (is : old ≡ Vacant). ap (λ (k : Learnt _). (view_of k).known) (keeps is))
     empty
-
-on_ok : {V A E : Type 0} (result : Result (Option (Block V A)) E) (heap : A) (bucket : ℕ) (learnt seen : Learnt V) → seen ≡ learnt
-    → IfOk result (HasRoom heap bucket learnt)
-    → IfOk result (HasRoom heap bucket seen)
-on_ok result heap bucket learnt seen is room = subst (λ (k : Learnt _). IfOk result (HasRoom heap bucket k)) (sym is) room
-
-on_err : {A E : Type 0} (result : Result A E) {P Q : Type 0} → (P → Q) → OnErr result P → OnErr result Q
-on_err (Ok x) leads holds = tt
-on_err (Err e) leads holds = leads holds
 
 refused : {V : Type 0} (of : ThreadLocalView) (old new : ClaimView V) (now : LocalView V) (before : List IdMove)
     → local_view of old before ≡ now → new.id ≡ old.id
@@ -95,10 +92,7 @@ room-requires-clause-empty g c =
     c.self.invariant.known c.self.view_is c.requires.empty
 
 pub room-requires-clause-place : goal.room-requires-clause-place
-room-requires-clause-place g c =
-    subst (λ (view : LocalView g.row.T.Denot). IsPlaceOf c.args.thread.bucket c.args.thread.index view.id)
-    (sym c.self.view_is)
-    c.requires.place
+room-requires-clause-place g c = c.place-thread.ensures
 
 pub invariant_of-self : goal.invariant_of-self
 invariant_of-self g c =
@@ -120,30 +114,39 @@ invariant_of-self g c =
       least = same.2 ∙ is.least;
     }
 
+pub returns-in_err-block-clause-err : goal.returns-in_err-block-clause-err
+returns-in_err-block-clause-err g c =
+    on_err _ _
+    (refused c.self.inside.table.now c.self.inside.claim c.room.new.self c.args.self.now c.self.inside.tenure.before c.self.view_is
+    c.room.ensures.same_slot.2
+    c.in_err-block.ensures.err)
+
+pub returns-in_err-block-clause-leaves : goal.returns-in_err-block-clause-leaves
+returns-in_err-block-clause-leaves g c =
+    stays_empty c.self.inside.table.now c.self.inside.claim c.room.new.self c.args.self.now c.self.inside.tenure.before c.self.view_is
+    c.room.ensures.same_slot.2
+    (was_empty c.self.inside.table.now c.self.inside.claim c.args.self.now c.self.inside.tenure.before c.self.invariant.known
+    c.self.view_is c.requires.empty)
+    (inl c.in_err-block.ensures.err.1)
+    c.room.ensures.vacant
+
 pub returns-clause-ok : goal.returns-clause-ok
 returns-clause-ok g c =
-    let room = c.room.ensures in
-    let old : Learnt g.row.T.Denot = c.self.inside.claim.learnt in
     let new : Learnt g.row.T.Denot = c.room.new.self.learnt in
-    on_ok c.room.result _ _ new (learnt_by (view_of new))
-    (learnt_again new (empty_looked new (still_empty c.room.result _ _ old new room.ok room.err)))
-    room.ok
-
-pub returns-clause-err : goal.returns-clause-err
-returns-clause-err g c =
-    on_err c.room.result
-    (refused c.self.inside.table.now c.self.inside.claim c.room.new.self c.args.self.now c.self.inside.tenure.before c.self.view_is
-    c.room.ensures.same_slot.2)
-    c.room.ensures.err
+    let room = c.in_ok-block.ensures.ok in (
+      subst (λ (id : ℕ). IsPlaceOf c.place-thread.result.bucket c.place-thread.result.index id)
+          (sym c.room.ensures.same_slot.2)
+          c.place-thread.ensures,
+      subst (λ (learnt : Learnt g.row.T.Denot). HasRoom c.args.alloc c.place-thread.result.bucket learnt c.in_ok-block.block)
+          (sym (learnt_again new (empty_looked new (empty_by_room _ _ new c.in_ok-block.block room))))
+          room,
+    )
 
 pub returns-clause-leaves : goal.returns-clause-leaves
 returns-clause-leaves g c =
-    let room = c.room.ensures in
-    let old : Learnt g.row.T.Denot = c.self.inside.claim.learnt in
-    let new : Learnt g.row.T.Denot = c.room.new.self.learnt in
     stays_empty c.self.inside.table.now c.self.inside.claim c.room.new.self c.args.self.now c.self.inside.tenure.before c.self.view_is
-    room.same_slot.2
+    c.room.ensures.same_slot.2
     (was_empty c.self.inside.table.now c.self.inside.claim c.args.self.now c.self.inside.tenure.before c.self.invariant.known
     c.self.view_is c.requires.empty)
-    (still_empty c.room.result _ _ old new room.ok room.err)
-    room.vacant
+    (empty_by_room _ _ c.room.new.self.learnt c.in_ok-block.block c.in_ok-block.ensures.ok)
+    c.room.ensures.vacant

@@ -1,5 +1,4 @@
-use Rattle.std.proofs.Common.{◌∙◌, ℕ, rules, sym, subst, refl}
-use Rattle.thread_local_base.specs.Place.{IsPlaceOf}
+use Rattle.std.proofs.Common.{◌∙◌, rules, sym, refl}
 use Rattle.thread_local.specs.Locals.{holding}
 use Rattle.thread_local.proofs.Filled.{none_of, same_knowing}
 use Rattle.thread_local.proofs.Told.{ok_not_err, occupied_not_memory, memory_not_occupied, same_occupied, same_memory}
@@ -12,20 +11,11 @@ returns-then-is_published-clause-occupied g c = λ given told. (sym c.is_publish
 pub returns-then-is_published-clause-memory : goal.returns-then-is_published-clause-memory
 returns-then-is_published-clause-memory g c = λ given told. absurd (occupied_not_memory told)
 
-pub room-requires-clause-empty : goal.room-requires-clause-empty
-room-requires-clause-empty g c = none_of c.args.self.now.value (search rules)
+pub room-requires : goal.room-requires
+room-requires g c = record { empty = none_of c.args.self.now.value (search rules) }
 
-pub room-requires-clause-place : goal.room-requires-clause-place
-room-requires-clause-place g c = c.place-thread.ensures
-
-pub publish_in-requires-clause-room : goal.publish_in-requires-clause-room
-publish_in-requires-clause-room g c = c.in-Ok.ensures.ok
-
-pub publish_in-requires-clause-place : goal.publish_in-requires-clause-place
-publish_in-requires-clause-place g c =
-    subst (λ (id : ℕ). IsPlaceOf c.place-thread.result.bucket c.place-thread.result.index id)
-    (sym c.in-Ok.ensures.leaves.same.id)
-    c.place-thread.ensures
+pub publish_in-requires : goal.publish_in-requires
+publish_in-requires g c = record { room = c.in-Ok.ensures.ok }
 
 pub returns-in-Ok-clause-ok : goal.returns-in-Ok-clause-ok
 returns-in-Ok-clause-ok g c = (

@@ -1,6 +1,6 @@
 -- `Padded<T>` shows the fact by what `T` shows.
 use denote.Param.{param}
-use Rattle.thread_local_judged.proofs.Everywhere.{known}
+use Rattle.thread_local_base.proofs.Everywhere.{known}
 use Rattle.thread_local.proofs.Padding.{padding}
 use Rattle.thread_local.proofs.padded.PaddedJudge.judge.Goals as goal
 

@@ -7,7 +7,7 @@ use Rattle.thread_local_base.specs.Owned.{Owned}
 use Rattle.thread_local_base.specs.Owner.{emptied}
 use Rattle.thread_local_base.specs.Walk.{walk}
 use Rattle.thread_local_base.proofs.EmptyingLaws.{values-emptied}
-use Rattle.thread_local_bucket_pointers.specs.Cursor.{IsOwnerWalk}
+use Rattle.thread_local_buckets.specs.Cursor.{IsOwnerWalk}
 use Rattle.thread_local_buckets.specs.Emptied.{owned_emptied}
 use Rattle.thread_local_buckets.proofs.DrainLaws.{keeps_along}
 use Rattle.thread_local_buckets.proofs.buckets.Buckets.drain.Goals as goal

@@ -1,5 +1,5 @@
 use Rattle.std.proofs.Common.{◌≡◌, ◌+◌}
-use Rattle.thread_local_bucket_pointers.specs.Cursor.{values_left, IsOwnerWalk}
+use Rattle.thread_local_buckets.specs.Cursor.{values_left, IsOwnerWalk}
 use Rattle.thread_local_base.specs.Owner.{emptied}
 use Rattle.thread_local_buckets.specs.Emptied.{owned_emptied}
 use Rattle.thread_local_buckets.proofs.buckets.Buckets.drop_rest.Given as goal

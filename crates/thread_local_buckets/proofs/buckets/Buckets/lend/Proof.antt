@@ -23,12 +23,12 @@ use denote.Struct.Pick.{rest_at, field_out, field_back}
 use denote.Triple.Walked.{Goes-spent_ref}
 use Rattle.thread_local_base.specs.Buckets.{Contents, IsTable}
 use Rattle.thread_local_base.specs.Owned.{Owned}
-use Rattle.thread_local_bucket_pointers.specs.contracts.bucket_pointers.BucketPointers as all_pointers
-use Rattle.thread_local_bucket_pointers.proofs.bucket_pointers.BucketPointers.TheLaws as pointers_laws
+use Rattle.thread_local_buckets.specs.contracts.bucket_pointers.BucketPointers as all_pointers
+use Rattle.thread_local_buckets.proofs.bucket_pointers.BucketPointers.TheLaws as pointers_laws
 use Rattle.thread_local_buckets.specs.Lent.{loan_owns}
 use Rattle.thread_local_base.specs.Refilled.{refilled}
 use Rattle.thread_local_buckets.specs.contracts.loan.Loan as loan
-use Rattle.thread_local_buckets.proofs.Fields.{FieldsType, loan_val, made}
+use Rattle.thread_local_buckets.proofs.LoanFields.{FieldsType, loan_val, made}
 use Rattle.thread_local_buckets.proofs.Lending.{lends}
 use Rattle.thread_local_buckets.specs.LendingValues.{owned_refilled}
 use Rattle.thread_local_buckets.specs.contracts.buckets.Buckets as buckets

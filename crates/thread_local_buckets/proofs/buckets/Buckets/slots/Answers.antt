@@ -1,7 +1,7 @@
 use Rattle.std.proofs.Common.{◌+◌, refl, sym, ◌∙◌, ap, subst, arith}
 use Rattle.thread_local_base.specs.Buckets.{Contents, stands, slots}
 use Rattle.thread_local_base.specs.Owned.{Owned}
-use Rattle.thread_local_bucket_pointers.specs.Announced.{Announces}
+use Rattle.thread_local_buckets.specs.Announced.{Announces}
 use Rattle.thread_local_buckets.proofs.AddingSlots.{added_none, added_more, added_absent, added_fits, added_all}
 use Rattle.thread_local_buckets.proofs.Reserving.{few_reserved}
 use Rattle.thread_local_buckets.proofs.buckets.Buckets.slots.Goals as goal

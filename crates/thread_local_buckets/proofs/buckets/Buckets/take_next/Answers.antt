@@ -5,8 +5,8 @@ use Rattle.thread_local_base.specs.Owned.{Owned, IsOwned}
 use Rattle.thread_local_base.specs.Rows.{value_in, with_slot}
 use Rattle.thread_local_base.specs.Owner.{emptied}
 use Rattle.thread_local_base.specs.Walk.{walk, paired}
-use Rattle.thread_local_bucket_pointers.specs.Cursor.{values_left, read_to, slot_at, AreFlagsAt, IsOwnerWalk}
-use Rattle.thread_local_bucket_pointers.specs.declared.cursor.OwnerCursor.{OwnerCursor}
+use Rattle.thread_local_buckets.specs.Cursor.{values_left, read_to, slot_at, AreFlagsAt, IsOwnerWalk}
+use Rattle.thread_local_buckets.specs.declared.cursor.OwnerCursor.{OwnerCursor}
 use Rattle.thread_local_base.proofs.RowLaws.{IsTable-with_slot, length-row-with_slot, row_whole}
 use Rattle.thread_local_base.proofs.EmptyingLaws.{emptied-with_slot, emptied-none}
 use Rattle.thread_local_buckets.specs.Emptied.{owned_emptied}

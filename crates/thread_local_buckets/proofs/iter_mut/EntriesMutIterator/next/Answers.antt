@@ -4,8 +4,8 @@ use Rattle.thread_local_base.specs.Place.{id_at}
 use Rattle.thread_local_base.specs.Buckets.{Contents, row, values}
 use Rattle.thread_local_base.specs.Rows.{value_in, with_slot}
 use Rattle.thread_local_base.specs.Walk.{walk, paired}
-use Rattle.thread_local_bucket_pointers.specs.Cursor.{slot_at, read_to, IsAt, IsOwnerWalk}
-use Rattle.thread_local_bucket_pointers.specs.declared.cursor.RawIter.{RawIter}
+use Rattle.thread_local_buckets.specs.Cursor.{slot_at, read_to, IsAt, IsOwnerWalk}
+use Rattle.thread_local_buckets.specs.declared.cursor.RawIter.{RawIter}
 use Rattle.thread_local_buckets.specs.Entered.{IsEntered}
 use Rattle.thread_local_buckets.specs.IterMut.{entries_mut_rest}
 use Rattle.thread_local_buckets.specs.declared.loan.Loan.{Loan}
@@ -31,13 +31,13 @@ is_there l m raw old bit same entered is =
       slot = ap (λ (n : ℕ). n + bit) first;
     }
 
-it_is_there : (g : _) (c : goal.After-lend_value-arg-1 g)
+it_is_there : (g : _) (c : goal.After-give-arg-1 g)
     → IsThere c.pass-bit.new.source c.lead.new.loan c.pass-bit.new.self.raw c.pass-bit.result
 it_is_there g c =
     is_there c.pass-bit.new.source c.lead.new.loan c.pass-bit.new.self.raw c.lead.new.cursor.raw c.pass-bit.result
     c.pass-bit.ensures.same c.lead.ensures.entered c.pass-bit.ensures.raw
 
-it_is_there_still : (g : _) (c : goal.After-lend_value-item g)
+it_is_there_still : (g : _) (c : goal.After-give-item g)
     → IsThere c.pass-bit.new.source c.lead.new.loan c.pass-bit.new.self.raw c.pass-bit.result
 it_is_there_still g c =
     is_there c.pass-bit.new.source c.lead.new.loan c.pass-bit.new.self.raw c.lead.new.cursor.raw c.pass-bit.result
@@ -52,7 +52,7 @@ slot_is_near c d raw old rest i at is same = let P : RawIter → Type 0 = λ r. 
     ap (λ (w : Contents _). length (row w old.bucket)) same ∙ at.whole (omega (arith, read)) ∙ at.size in
     is_near old.bucket i old.bucket_size at.in_table (subst (λ (n : ℕ). i < n) long inside) at.size)
 
-it_is_near : (g : _) (c : goal.After-lend_value-item g) → IsNear (slot_at c.pass-bit.new.self.raw c.pass-bit.result) c.pass-bit.new.self.raw.bucket_size
+it_is_near : (g : _) (c : goal.After-give-item g) → IsNear (slot_at c.pass-bit.new.self.raw c.pass-bit.result) c.pass-bit.new.self.raw.bucket_size
 it_is_near g c =
     slot_is_near c.self.inside.loan.contents c.lead.new.loan.contents c.pass-bit.new.self.raw c.lead.new.cursor.raw c.lead.new.cursor.rest
     (slot_at c.pass-bit.new.self.raw c.pass-bit.result) c.lead.ensures.read.walk.at c.pass-bit.ensures.raw
@@ -76,11 +76,11 @@ gave l m now raw bit there contents given =
       given = given ∙ (λ j. id_at (bucket j) (slot j) + 1);
     }
 
-it_gave : (g : _) (c : goal.After-lend_value-item g)
-    → Gave c.pass-bit.new.source c.lead.new.loan c.lend_value-item.new.self c.pass-bit.new.self.raw c.pass-bit.result
+it_gave : (g : _) (c : goal.After-give-item g)
+    → Gave c.pass-bit.new.source c.lead.new.loan c.give-item.new.self c.pass-bit.new.self.raw c.pass-bit.result
 it_gave g c =
-    gave c.pass-bit.new.source c.lead.new.loan c.lend_value-item.new.self c.pass-bit.new.self.raw c.pass-bit.result
-    (it_is_there_still g c) c.lend_value-item.ensures.contents c.lend_value-item.ensures.given
+    gave c.pass-bit.new.source c.lead.new.loan c.give-item.new.self c.pass-bit.new.self.raw c.pass-bit.result
+    (it_is_there_still g c) c.give-item.ensures.contents c.give-item.ensures.given
 
 -- The search for all that follows takes three seconds.
 pub lead-requires-clause-may_read : goal.lead-requires-clause-may_read
@@ -105,28 +105,28 @@ pass-bit-requires-clause-given g c = λ id below.
 pub pass-bit-requires-clause-some : goal.pass-bit-requires-clause-some
 pass-bit-requires-clause-some g c = c.lead.ensures.read.some
 
-pub lend_value-item-requires-clause-in_table : goal.lend_value-item-requires-clause-in_table
-lend_value-item-requires-clause-in_table g c =
+pub give-item-requires-clause-in_table : goal.give-item-requires-clause-in_table
+give-item-requires-clause-in_table g c =
     subst (λ (b : ℕ). b < 63) (sym (it_is_there g c).bucket) c.pass-bit.ensures.walk.at.in_table
 
-pub lend_value-item-requires-clause-in_bucket : goal.lend_value-item-requires-clause-in_bucket
-lend_value-item-requires-clause-in_bucket g c =
+pub give-item-requires-clause-in_bucket : goal.give-item-requires-clause-in_bucket
+give-item-requires-clause-in_bucket g c =
     let there = it_is_there g c in
     let same = sym there.same in
     let bucket = sym there.bucket in
     let slot = sym there.slot in
     subst (λ (t : Type 0). t) (λ j. slot j < length (row (same j).contents (bucket j))) c.pass-bit.ensures.in_bucket
 
-pub lend_value-item-requires-clause-ahead : goal.lend_value-item-requires-clause-ahead
-lend_value-item-requires-clause-ahead g c =
+pub give-item-requires-clause-ahead : goal.give-item-requires-clause-ahead
+give-item-requires-clause-ahead g c =
     let there = it_is_there g c in
     let same = sym there.same in
     let bucket = sym there.bucket in
     let slot = sym there.slot in
     subst (λ (t : Type 0). t) (λ j. (same j).given ≤ id_at (bucket j) (slot j)) c.pass-bit.ensures.ahead
 
-pub lend_value-item-requires-clause-published : goal.lend_value-item-requires-clause-published
-lend_value-item-requires-clause-published g c =
+pub give-item-requires-clause-published : goal.give-item-requires-clause-published
+give-item-requires-clause-published g c =
     let there = it_is_there g c in
     let same = sym there.same in
     let bucket = sym there.bucket in
@@ -157,7 +157,7 @@ invariant_of-self g c =
           ∙ c.pass-bit.ensures.behind id (subst (λ (n : ℕ). id < n) now.given below)),
       subst (λ (n : ℕ). n ≤ read_to cursor.raw) (sym now.given)
           (next (id_at cursor.raw.bucket (slot_at cursor.raw c.pass-bit.result)) (read_to cursor.raw) c.pass-bit.ensures.before),
-      (λ _. (c.lend_value-item.ensures.bucket ∙ there.bucket, c.lend_value-item.ensures.first ∙ there.first)),
+      (λ _. (c.give-item.ensures.bucket ∙ there.bucket, c.give-item.ensures.first ∙ there.first)),
     )
 
 pub is_over-requires : goal.is_over-requires
@@ -173,20 +173,20 @@ returns-then-is_over-clause-steps g c =
 pub returns-then-is_over-clause-goes : goal.returns-then-is_over-clause-goes
 returns-then-is_over-clause-goes g c = record { on = λ _. tt; keeps = tt; rests = λ _. tt }
 
-it_steps : (g : _) (c : goal.After-lend_value-item g)
+it_steps : (g : _) (c : goal.After-give-item g)
     → entries_mut_rest c.args.self.now
-    ≡ (slot_at c.pass-bit.new.self.raw c.pass-bit.result + (c.pass-bit.new.self.raw.bucket_size - 1), c.lend_value-item.result.now)
-    ∷ walk (paired (values c.lend_value-item.new.self.contents))
+    ≡ (slot_at c.pass-bit.new.self.raw c.pass-bit.result + (c.pass-bit.new.self.raw.bucket_size - 1), c.give-item.result.now)
+    ∷ walk (paired (values c.give-item.new.self.contents))
 it_steps g c =
     let raw = c.pass-bit.new.self.raw in
     let i = slot_at raw c.pass-bit.result in
-    let item = c.lend_value-item.result.now in
+    let item = c.give-item.result.now in
     let there = it_is_there_still g c in
     let same = sym there.same in
     let bucket = sym there.bucket in
     let slot = sym there.slot in
     let value : value_in c.lead.new.loan.contents raw.bucket i ≡ Some item =
-    (λ j. value_in (same j).contents (bucket j) (slot j)) ∙ c.lend_value-item.ensures.value in
+    (λ j. value_in (same j).contents (bucket j) (slot j)) ∙ c.give-item.ensures.value in
     let size = sym c.pass-bit.ensures.walk.at.size in
     let left = sym (it_gave g c).contents in
     sym (ap entries_mut_rest c.self.view_is)

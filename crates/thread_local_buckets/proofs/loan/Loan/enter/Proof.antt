@@ -1,8 +1,8 @@
 -- `enter` reads a bucket's pointer, and writes the address of a slot's value in the block that it
 -- points to.
 use types.Part.{store_in}
-use Rattle.thread_local_bucket_pointers.specs.Slots.{stride, value_offset}
-use Rattle.thread_local_bucket_pointers.proofs.Flags.{uncapped, value_near}
+use Rattle.thread_local_buckets.specs.Slots.{stride, value_offset}
+use Rattle.thread_local_buckets.proofs.Flags.{uncapped, value_near}
 use Rattle.thread_local_base.proofs.Names.{drop, is, size_word, assigns, unit_lit, vunit, cell, length, apply∗, sem}
 use Rattle.thread_local_base.proofs.Names.{◌≡◌, ℕ, ◌+◌, ◌*◌, ◌^◌, ◌<◌, List, [], ◌∷◌, sym, refl, ap, ◌∙◌, subst}
 use Rattle.thread_local_base.proofs.Names.{arith, w64, a_type, named, Val, vint, vptr, inst_fn, full_share, SProp}
@@ -22,7 +22,7 @@ use Rattle.thread_local_base.specs.Buckets.{row}
 use Rattle.thread_local_buckets.specs.Lent.{Lending, Known, lending, framed, frames, PointsTo}
 use Rattle.thread_local_buckets.specs.contracts.loan.Loan as loan
 use Rattle.thread_local_buckets.specs.contracts.loan.Loan.enter.{ended, clauses, Key.name as #self}
-use Rattle.thread_local_buckets.proofs.Fields.{FieldsType, told, made, loan_val, leads_in}
+use Rattle.thread_local_buckets.proofs.LoanFields.{FieldsType, told, made, loan_val, leads_in}
 use Rattle.thread_local_buckets.proofs.Frames.{pointer, in_row, Frame, frame_out}
 use Rattle.thread_local_buckets.proofs.loan.Loan.enter.Statement.{statement}
 use Rattle.thread_local_buckets.proofs.loan.Loan.enter.Code as code

@@ -18,14 +18,14 @@ use Rattle.thread_local_base.specs.Buckets.{row, IsTable}
 use Rattle.thread_local_base.specs.Place.{id_at}
 use Rattle.thread_local_base.specs.Rows.{value_in}
 use Rattle.thread_local_base.specs.Bits.{is_set}
-use Rattle.thread_local_bucket_pointers.specs.Slots.{value_words, flag_word_at, flags_at}
-use Rattle.thread_local_bucket_pointers.proofs.Flags.{chunk_in}
-use Rattle.thread_local_bucket_pointers.proofs.Slots.{IsWordOf, IsWordNear, word_is_near}
+use Rattle.thread_local_buckets.specs.Slots.{value_words, flag_word_at, flags_at}
+use Rattle.thread_local_buckets.proofs.Flags.{chunk_in}
+use Rattle.thread_local_buckets.proofs.Slots.{IsWordOf, IsWordNear, word_is_near}
 use Rattle.thread_local_base.proofs.RowLaws.{row_whole}
 use Rattle.thread_local_buckets.specs.Lent.{Lending, Known, lending, framed, frames, flagged, PointsTo}
 use Rattle.thread_local_buckets.specs.contracts.loan.Loan as loan
 use Rattle.thread_local_buckets.specs.contracts.loan.Loan.flags_at.{ended, clauses, Key.name as #self}
-use Rattle.thread_local_buckets.proofs.Fields.{FieldsType, told, loan_val, leads_in}
+use Rattle.thread_local_buckets.proofs.LoanFields.{FieldsType, told, loan_val, leads_in}
 use Rattle.thread_local_buckets.proofs.Frames.{pointer, in_row, Frame, frame_out}
 use Rattle.thread_local_buckets.proofs.Reading.{word_out, says_of_left}
 use Rattle.thread_local_buckets.proofs.loan.Loan.flags_at.Statement.{statement}

@@ -21,13 +21,13 @@ use Rattle.std.proofs.alloc.Shapes.{after}
 use Rattle.thread_local_base.specs.Buckets.{Contents, row}
 use Rattle.thread_local_base.specs.Place.{id_at}
 use Rattle.thread_local_base.specs.Rows.{value_in, with_slot}
-use Rattle.thread_local_bucket_pointers.specs.Slots.{stride, value_offset}
-use Rattle.thread_local_bucket_pointers.proofs.Flags.{uncapped}
+use Rattle.thread_local_buckets.specs.Slots.{stride, value_offset}
+use Rattle.thread_local_buckets.proofs.Flags.{uncapped}
 use Rattle.thread_local_buckets.specs.Lent.{Lending, Known, lending, Values, lent_values, shape}
 use Rattle.thread_local_buckets.specs.contracts.loan.Loan as loan
 use Rattle.thread_local_buckets.specs.contracts.loan.Loan.give.{ended, clauses}
 use Rattle.thread_local_buckets.specs.contracts.loan.Loan.give.Key.{name as #self}
-use Rattle.thread_local_buckets.proofs.Fields.{FieldsType, told, loan_val, the_value, the_value_is, value_apart, distance_fits}
+use Rattle.thread_local_buckets.proofs.LoanFields.{FieldsType, told, loan_val, the_value, the_value_is, value_apart, distance_fits}
 use Rattle.thread_local_buckets.proofs.Left.{left_after}
 use Rattle.thread_local_buckets.proofs.Giving.{gives, less, whole_of}
 use Rattle.thread_local_buckets.proofs.Frames.{pointer, in_row}
@@ -163,6 +163,5 @@ give_spec 𝓤 𝓛 𝓜 𝓡 wired X L =
     let Less : Type 0 = left ≡ with_slot h.contents k i None in
     use0 𝓛 (raw (fact 𝓤 Less)) (fact_i 𝓤 Less (emp 𝓤) refl) $ join ! $
     let Gave : Type 0 = value_in h.contents k i ≡ Some x in use0 𝓛 (raw (fact 𝓤 Gave)) (fact_i 𝓤 Gave (emp 𝓤) had) $ join ! $
-    move ! (4 ∷ 0 ∷ []) $ join ! $
     returns ! (look_at ! 0 refl) $ free_all ! refl $ keep ! (2 ∷ 3 ∷ 1 ∷ 0 ∷ []) $
     by ! (leaves 𝓛 En hs c₀ y (vptr sb v) item (h', (tt, tt)) (tt, (tt, tt))))))))))))))

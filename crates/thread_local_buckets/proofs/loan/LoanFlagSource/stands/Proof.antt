@@ -22,11 +22,11 @@ use Rattle.thread_local_buckets.specs.contracts.loan.Loan as loan
 use Rattle.thread_local_buckets.specs.contracts.loan.LoanFlagSource.stands.{ended, clauses, Key.name as #self}
 use Rattle.std.proofs.Common.{true, false, length}
 use Rattle.thread_local_buckets.proofs.Left.{no_row, whole_row}
-use Rattle.thread_local_buckets.proofs.Fields.{FieldsType, told, loan_val, testable, leads}
+use Rattle.thread_local_buckets.proofs.LoanFields.{FieldsType, told, loan_val, testable, leads}
 use Rattle.thread_local_buckets.proofs.Frames.{pointer, in_row, Frame, frame_out}
 use Rattle.thread_local_buckets.proofs.loan.LoanFlagSource.stands.Statement.{statement}
 use Rattle.thread_local_buckets.proofs.loan.LoanFlagSource.stands.Code as code
-use Rattle.thread_local_bucket_pointers.proofs.Slots.{ptr_good}
+use Rattle.thread_local_buckets.proofs.Slots.{ptr_good}
 use Rattle.thread_local_base.proofs.Walking.{knows}
 
 pub stands_spec : {M : Type 1} → statement M

@@ -1,6 +1,6 @@
 -- The search for these takes a second.
 use Rattle.std.proofs.Common.{◌∙◌, ℕ, sym, ap, arith}
-use Rattle.thread_local_bucket_pointers.specs.Slots.{empty_slots}
+use Rattle.thread_local_buckets.specs.Slots.{empty_slots}
 use Rattle.thread_local_shared_buckets.proofs.claim.Claim.install.Goals as goal
 
 pub filled-block-requires : goal.filled-block-requires

@@ -5,7 +5,7 @@ use denote.Param.{param}
 use Rattle.thread_local_base.specs.Learnt.{Learnt, Finds}
 use Rattle.thread_local_base.specs.Place.{bucket_of, index_of, id_at}
 use Rattle.thread_local_base.proofs.PlaceLaws.{id_at-place}
-use Rattle.thread_local_bucket_pointers.specs.Slots.{flag_word_at}
+use Rattle.thread_local_buckets.specs.Slots.{flag_word_at}
 use Rattle.thread_local_shared_buckets.specs.Known.{MayLook}
 use Rattle.thread_local_shared_buckets.specs.Claims.{flag_word_of}
 use Rattle.thread_local_shared_buckets.proofs.claim.Claim.look.Goals as goal
@@ -61,4 +61,4 @@ invariant_of-result g c =
 
 pub returns-clause-found : goal.returns-clause-found
 returns-clause-found g c =
-    subst (λ (l : Learnt _). Finds l c.find.result.learnt) c.hold-slot.ensures.unknown c.find.ensures.found
+    subst (λ (l : Learnt _). Finds l c.find.new.self.learnt) c.hold-slot.ensures.unknown c.find.ensures.found

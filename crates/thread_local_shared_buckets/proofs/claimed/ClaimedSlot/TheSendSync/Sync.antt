@@ -5,7 +5,7 @@ use denote.RattleType.{RattleType}
 use denote.RawPtr.{block_of, count_of}
 use denote.Ref.{NamedLft}
 use denote.Param.Send.{IsSync, Common}
-use Rattle.thread_local_judged.specs.Judged.{Judged}
+use Rattle.thread_local_base.specs.Judged.{Judged}
 use Rattle.thread_local_shared_buckets.specs.Known.{value_held}
 use Rattle.thread_local_shared_buckets.specs.Claims.{ClaimFields, claim_fields, lasts, shows_value}
 use Rattle.thread_local_ids.proofs.ToldElements.{tells_keyless}

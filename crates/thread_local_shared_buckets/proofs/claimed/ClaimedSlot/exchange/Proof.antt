@@ -25,6 +25,12 @@ use base.Logic.{ent, guard}
 use types.Logic.{Logic}
 use types.Kit.{check, done}
 use types.Run.{bin, size_word}
+use types.Part.{store_in}
+use types.SemTy.{Body as Owner}
+use Rattle.thread_local_base.proofs.Names.{opens, closes, peeks, Is, shows, cell_at, stay_ref, Goes-ref, load, look_in, assigns, feq_i, mut_vals, mut_Tells, named}
+use Rattle.thread_local_base.proofs.Names.{full_share, fjoin3, fobs, fauth, GName, mem, id⊢}
+use base.Fml.{fobor}
+use types.Kit.{Item}
 use mir.Val.{vnull, vstruct}
 use base.Logic.{snd∗, never}
 use base.Fml.{Incl, finv, ffalse}
@@ -58,11 +64,11 @@ use Rattle.std.specs.contracts.alloc.Global as heap
 use Rattle.std.specs.contracts.impls.GlobalAllocator.TheImpl.{ghosts}
 use Rattle.thread_local_base.specs.Place.{bucket_of}
 use Rattle.thread_local_base.proofs.PlaceLaws.{place-id_at}
-use Rattle.thread_local_bucket_pointers.specs.Slots.{block_owns, empty_slots, slot_value, stride, Fits}
-use Rattle.thread_local_bucket_pointers.proofs.Flags.{value_near}
+use Rattle.thread_local_buckets.specs.Slots.{block_owns, empty_slots, slot_value, stride, Fits}
+use Rattle.thread_local_buckets.proofs.Flags.{value_near}
 use Rattle.thread_local_base.specs.Fact.{fact as said_fact}
-use Rattle.thread_local_bucket_pointers.specs.contracts.block.Block as block
-use Rattle.thread_local_bucket_pointers.proofs.Fields as fields
+use Rattle.thread_local_buckets.specs.contracts.block.Block as block
+use Rattle.thread_local_buckets.proofs.BlockFields as fields
 use Rattle.thread_local_ids.specs.Rights.{right_owns, reached_owns}
 use Rattle.thread_local_ids.specs.Told.{tells}
 use Rattle.thread_local_ids.specs.contracts.reached.Reached as Reached
@@ -137,10 +143,10 @@ module _ {M : Type 1} {𝓤 : Ura M} (𝓛 : Logic 𝓤) (𝓜 : Model 𝓤 𝓛
 
   abbrev stayed : Stays En.signature.params En.kept
   stayed =
-      let self = plain (λ κs. claim.the_row (named_lft 2 0 tt κs) R) in let number = plain (λ _. usize) in let lot = plain (λ _. Bl) in
+      let self = plain (λ κs. claim.the_row (named_lft 3 1 tt κs) R) in let number = plain (λ _. usize) in let lot = plain (λ _. Bl) in
       let shown = plain (λ _. Reached.the_row) in
       let known = plain (λ _. Announced.the_row) in
-      (stay_dropped self no, (stay_dropped number yes, (stay_dropped lot no, (stay_dropped shown yes, (stay_dropped known yes, tt)))))
+      (stay_ref (0 ∷ []) tt self, (stay_dropped number yes, (stay_dropped lot no, (stay_dropped shown yes, (stay_dropped known yes, tt)))))
 
   abbrev c : Clauses 𝓤 En
   c = clauses X 𝓛 𝓜.mem 𝓡.returns
@@ -150,22 +156,35 @@ module _ {M : Type 1} {𝓤 : Ura M} (𝓛 : Logic 𝓤) (𝓜 : Model 𝓤 𝓛
 
   module _ (y : (walk_of 𝓛 En stayed c).Ghost) (l : ℕ → ℕ) where
     abbrev β : Lft
-    β = y.0.0.0
+    β = y.0.0.1.0
 
     abbrev q : Share
-    q = y.0.1.0
+    q = y.0.1.1.0
 
     abbrev others : Fml
-    others = fsep (flft y.0.0.1.0 y.0.1.1.0) ftrue
+    others = fsep (flft y.0.0.1.1.0 y.0.1.1.1.0) ftrue
 
     abbrev ℓ : NamedLft
-    ℓ = named_lft 2 0 tt y.0.0
+    ℓ = named_lft 3 1 tt y.0.0
 
     abbrev G : RattleType
     G = claim.the_row ℓ R
 
     abbrev h : G.Denot
-    h = y.0.3.0
+    h = y.0.3.0.now
+
+    abbrev rb : ℕ
+    rb = y.0.3.0.ref_ptr.0
+
+    abbrev ro : ℕ
+    ro = y.0.3.0.ref_ptr.1
+
+    -- the claim's cell, and its open borrow
+    abbrev opened : Kept → List (Item 𝓤)
+    opened kept =
+        let γ : GName = y.0.3.0.ghost_name in
+        ‵ (cell_at full_share G.mir (value_of kept ∷ []) rb ro) ∷ ‵ (fobor y.0.0.0 y.0.1.0 (Owner (mem G) rb ro γ))
+        ∷ ‵ (fobs γ (G.coded.code h)) ∷ ‵ (fauth γ (G.coded.code h)) ∷ []
 
     abbrev ix : ℕ
     ix = y.0.3.1.0
@@ -192,25 +211,22 @@ module _ {M : Type 1} {𝓤 : Ura M} (𝓛 : Logic 𝓤) (𝓜 : Model 𝓤 𝓛
     answer pb o k back = vstruct (vcons (vptr pb o) (vcons (vint w64 k) (vcons back vnil)))
 
     ends : (pb o k : ℕ) → k < 2 ^ 64 → (back : Val) → Good (layout Back) back → (opt : Back.Denot) (knows : Learnt X.Denot)
-        → ix ≡ h.index → h.index * stride R < 2 ^ 64
+        → y.0.4.0 ≡ vptr rb ro ∷ [] → ix ≡ h.index → h.index * stride R < 2 ^ 64
         → IfSome opt (λ was. (was.heap ≡ x.heap) × (was.slots ≡ x.slots) × (was.left ≡ 0))
         → MatchOption opt (knows ≡ found_as (slot_value x.slots h.index)) (λ _. knows ≡ Vacant)
         → Seq (Go {0}) 𝓛 (‵ (flft β q) ∷ ‵ (Owned knows k pb o) ∷ ‵ (Back.own_val opt (back ∷ [])) ∷ ‵ others
-        ∷ holding 𝓛 Ev ((22, answer pb o k back) ∷ (2, vint w64 ix) ∷ []))
+        ∷ (opened (kept_of h) ++ holding 𝓛 Ev ((21, answer pb o k back) ∷ (1, vptr rb ro) ∷ (2, vint w64 ix) ∷ [])))
         (prop (Wp 𝓤 H 𝓣.C 𝓣.Λ Ev (after 6 fn.body) (at_return 𝓤 H Ev Post)))
-    ends pb o k low back held opt knows is_index close same_back learns =
+    ends pb o k low back held opt knows refers is_index close same_back learns =
         let i : ℕ = h.index in
-        let Res : Type 0 = G.Denot × Back.Denot in
-        let Out : RattleType = Tuple (G ∷ Back ∷ []) in
         let Triple : RattleType = Tuple (RawPtr ∷ u64 ∷ Back ∷ []) in
-        let F₁ : Res → Type 0 = λ r.
-        (r.0.table ≡ h.table) × (◌≡◌ {A = Option ℕ} r.0.sharing h.sharing) × (r.0.word ≡ h.word) × (r.0.id ≡ h.id)
-        × (r.0.index ≡ h.index) in
-        let F₂ : Res → Type 0 = λ r. r.0.reserved ≡ h.reserved in
-        let F₄ : Res → Type 0 = λ r.
-        MatchOption r.1 (r.0.learnt ≡ found_as (slot_value x.slots h.index)) (λ _. r.0.learnt ≡ Vacant) in
-        let F₃ : Res → Type 0 =
-        λ r. IfSome r.1 (λ was. (was.heap ≡ x.heap) × (was.slots ≡ x.slots) × (was.left ≡ 0)) in
+        let F₁ : G.Denot → Type 0 = λ r.
+        (r.table ≡ h.table) × (◌≡◌ {A = Option ℕ} r.sharing h.sharing) × (r.word ≡ h.word) × (r.id ≡ h.id)
+        × (r.index ≡ h.index) in
+        let F₂ : G.Denot → Type 0 = λ r. r.reserved ≡ h.reserved in
+        let F₄ : G.Denot → Type 0 = λ r.
+        MatchOption opt (r.learnt ≡ found_as (slot_value x.slots h.index)) (λ _. r.learnt ≡ Vacant) in
+        let F₃ : Type 0 = IfSome opt (λ was. (was.heap ≡ x.heap) × (was.slots ≡ x.slots) × (was.left ≡ 0)) in
         let close_at : ix * stride R < 2 ^ 64 = subst (λ (n : ℕ). n * stride R < 2 ^ 64) (sym is_index) close in
         let answer_good : Good (layout Triple) (answer pb o k back) = (and_tt _ held.0, (tt, (record { fits = low }, (held.1, tt)))) in
         exec ! 𝓣.C 𝓣.Λ Ev (after 6 fn.body) (at_ret Ev Post) $
@@ -226,14 +242,13 @@ module _ {M : Type 1} {𝓤 : Ura M} (𝓛 : Logic 𝓤) (𝓜 : Model 𝓤 𝓛
         sets_last ! (bin ! (get ! refl) (get ! refl) tt) refl (tt, tt) $
         exec ! 𝓣.C 𝓣.Λ Ev (after 11 fn.body) (at_ret Ev Post) $
         sets ! (of_opd ! (get ! refl)) refl (tt, tt) $ sets ! (of_opd ! (get ! refl)) refl (tt, tt) $
-        let m : Kept = record { at = value_at R (block_ptr pb o) i; state = k } in let kept_good = typed m low in
-        sets ! (agg ! (no_more !)) refl (tt, tt) $
-        sets ! (agg ! (and_then ! (get ! refl) (and_then ! (get ! refl) (and_then ! (get ! refl) (no_more !))))) refl kept_good $
-        sets ! (of_opd ! (get ! refl)) refl kept_good $ sets ! (of_opd ! (get ! refl)) refl held $
-        let v : Val = both (value_of m) back in let good : Good (layout Out) v = (and_tt _ held.0, (kept_good.1, (held.1, tt))) in
-        sets ! (agg ! (and_then ! (get ! refl) (and_then ! (get ! refl) (no_more !)))) refl good $
-        returns ! (look_at ! 0 refl) $ free_all ! refl $
-        -- [the token; the claim; what comes back; the other tokens]
+        let m : Kept = record { at = value_at R (block_ptr pb o) i; state = k } in
+        assigns ! (of_opd ! (get ! refl)) (through ! refl (fld ! refl (stop !)))
+        (store_in ! 4 (sub ! 0 refl (whole !)) (tt, tt)) $
+        assigns ! (of_opd ! (get ! refl)) (through ! refl (fld ! refl (stop !)))
+        (store_in ! 4 (sub ! 1 refl (whole !)) (tt, record { fits = low })) $
+        sets ! (of_opd ! (get ! refl)) refl held $
+        -- [the token; the claim; what comes back; the other tokens; the claim's cell; the open borrow]
         move ! (1 ∷ []) $
         use0 𝓛 (‵ ((FieldsType ℓ R).own_val (fields_of ℓ R m) (value_of m ∷ []))) (made ℓ R 𝓛 m low) $ fjoin ! $
         let r : G.Denot = record {
@@ -249,15 +264,18 @@ module _ {M : Type 1} {𝓤 : Ura M} (𝓛 : Logic 𝓤) (𝓜 : Model 𝓤 𝓛
           reserved = h.reserved;
           learnt = knows;
         } in
-        move ! (0 ∷ 2 ∷ []) $
-        pair_in G Back ! r opt (value_of m) back $ move ! (1 ∷ 2 ∷ []) $ join ! $ move ! (1 ∷ []) $
-        use0 𝓛 (raw (fact 𝓤 (F₃ (r, opt)))) (fact_i 𝓤 (F₃ (r, opt)) (emp 𝓤) same_back) $
-        use0 𝓛 (raw (fact 𝓤 (F₄ (r, opt)))) (fact_i 𝓤 (F₄ (r, opt)) (emp 𝓤) learns) $ join ! $
-        use0 𝓛 (raw (fact 𝓤 (F₂ (r, opt)))) (fact_i 𝓤 (F₂ (r, opt)) (emp 𝓤) refl) $ join ! $
-        use0 𝓛 (raw (fact 𝓤 (F₁ (r, opt)))) (fact_i 𝓤 (F₁ (r, opt)) (emp 𝓤) (refl, refl, refl, refl, refl)) $ join ! $
-        nothing ! $ nothing ! $ fjoin ! $ nothing ! $ fjoin ! $ nothing ! $ fjoin ! $ nothing ! $ fjoin ! $ nothing ! $ fjoin ! $
-        keep ! (3 ∷ 0 ∷ 2 ∷ 1 ∷ []) $
-        by ! (leaves 𝓛 En stayed c y v (r, opt) (tt, (tt, (tt, (tt, (tt, tt))))) (tt, (tt, (tt, (tt, (tt, tt))))))
+        move ! (4 ∷ 0 ∷ 5 ∷ 6 ∷ 7 ∷ []) $ closes ! tt G r (value_of m ∷ []) rb ro $
+        feq_i ! (List Val) y.0.4.0 (vptr rb ro ∷ []) refers $ fjoin3 ! $
+        nothing ! $ nothing ! $ fjoin ! $ nothing ! $ fjoin ! $ nothing ! $ fjoin ! $ nothing ! $ fjoin ! $
+        move ! (1 ∷ 0 ∷ []) $ fjoin ! $
+        -- [what is left of the parameters; the reference's token; the token; what comes back; the other tokens]
+        move ! (2 ∷ 4 ∷ []) $ fjoin ! $ move ! (2 ∷ 0 ∷ []) $ join ! $
+        use0 𝓛 (raw (fact 𝓤 F₃)) (fact_i 𝓤 F₃ (emp 𝓤) same_back) $
+        use0 𝓛 (raw (fact 𝓤 (F₄ r))) (fact_i 𝓤 (F₄ r) (emp 𝓤) learns) $ join ! $
+        use0 𝓛 (raw (fact 𝓤 (F₂ r))) (fact_i 𝓤 (F₂ r) (emp 𝓤) refl) $ join ! $
+        use0 𝓛 (raw (fact 𝓤 (F₁ r))) (fact_i 𝓤 (F₁ r) (emp 𝓤) (refl, refl, refl, refl, refl)) $ join ! $
+        returns ! (look_at ! 0 refl) $ free_all ! refl $ keep ! (1 ∷ 2 ∷ 3 ∷ 0 ∷ []) $
+        by ! (leaves 𝓛 En stayed c y back opt (r, (tt, (tt, (tt, (tt, tt))))) (tt, (tt, (tt, (tt, (tt, tt))))))
 
 pub exchange_spec : {M : Type 1} → statement M
 exchange_spec 𝓤 𝓛 𝓜 𝓡 wired X L =
@@ -271,28 +289,28 @@ exchange_spec 𝓤 𝓛 𝓜 𝓡 wired X L =
     let fn = inst_fn inst code.function in
     let closed = code.unfolded 𝓤 H 𝓜 𝓡 wired (X, tt) in
     let Z : RattleType = heap.the_row in let Bl : RattleType = block.the_row R Z ghosts in let Back : RattleType = Opt.the_row Bl in
-    let self = plain (λ κs. claim.the_row (named_lft 2 0 tt κs) R) in let number = plain (λ _. usize) in let lot = plain (λ _. Bl) in
+    let self = plain (λ κs. claim.the_row (named_lft 3 1 tt κs) R) in let number = plain (λ _. usize) in let lot = plain (λ _. Bl) in
     let shown = plain (λ _. Reached.the_row) in
     let known = plain (λ _. Announced.the_row) in
     let hs : Stays En.signature.params En.kept =
-    (stay_dropped self no, (stay_dropped number yes, (stay_dropped lot no, (stay_dropped shown yes, (stay_dropped known yes, tt))))) in
+    (stay_ref (0 ∷ []) tt self, (stay_dropped number yes, (stay_dropped lot no, (stay_dropped shown yes, (stay_dropped known yes, tt))))) in
     proved 𝓛 En hs c 𝓜 𝓡 (
-      Goes-dropped 𝓛 2 self no (λ κs x f. refl),
+      Goes-ref 𝓛 3 0 tt self,
       (
-        Goes-dropped 𝓛 2 number yes (λ κs x f. refl),
+        Goes-dropped 𝓛 3 number yes (λ κs x f. refl),
         (
-          Goes-dropped 𝓛 2 lot no (λ κs x f. refl),
-          (Goes-dropped 𝓛 2 shown yes (λ κs x f. refl), (Goes-dropped 𝓛 2 known yes (λ κs x f. refl), tt)),
+          Goes-dropped 𝓛 3 lot no (λ κs x f. refl),
+          (Goes-dropped 𝓛 3 shown yes (λ κs x f. refl), (Goes-dropped 𝓛 3 known yes (λ κs x f. refl), tt)),
         ),
       ),
     )
     (#self inst) fn closed
     (λ κs. (
-      (λ x. value_of (kept_of x) ∷ []),
+      mut_vals,
       (uint_vals w64, ((λ x. fields.block_val x.at ∷ []), ((λ x. token ∷ []), ((λ x. token ∷ []), tt)))),
     ))
     (λ κs. (
-      (λ x vs so. told (named_lft 2 0 tt κs) R (kept_of x) vs so.0),
+      mut_Tells (named 0) κs.0 (claim.the_row (named_lft 3 1 tt κs) R),
       (
         uint_Tells w64,
         (
@@ -302,12 +320,15 @@ exchange_spec 𝓤 𝓛 𝓜 𝓡 wired X L =
       ),
     ))
     (λ κs qs bounds a gh are.
-    let h = a.0 in
-    let β : Lft = κs.0 in
-    let q : Share = qs.0 in
-    let others : Fml = fsep (flft κs.1.0 qs.1.0) ftrue in
-    let ℓ = named_lft 2 0 tt κs in
-    let u₀ : Val = value_of (kept_of h) in
+    let h = a.0.now in
+    let rb : ℕ = a.0.ref_ptr.0 in
+    let ro : ℕ = a.0.ref_ptr.1 in
+    let β : Lft = κs.1.0 in
+    let q : Share = qs.1.0 in
+    let others : Fml = fsep (flft κs.1.1.0 qs.1.1.0) ftrue in
+    let ℓ = named_lft 3 1 tt κs in
+    let G : RattleType = claim.the_row ℓ R in
+    let D : RattleType = FieldsType ℓ R in
     let ix : ℕ = a.1.0 in
     let x : Bl.Denot = a.1.1.0 in
     let p : Ptr = x.at in
@@ -320,8 +341,8 @@ exchange_spec 𝓤 𝓛 𝓜 𝓡 wired X L =
     let Had : Type 0 = (had.table ≡ h.table) × (h.id < had.ids) in
     let says = a.1.1.1.1.0 in
     let Says : Type 0 = (says.by ≡ h.word) × (says.bucket ≡ bucket_of h.id) in
-    let υ : Lft = κs.1.0 in
-    let r : Share = qs.1.0 in
+    let υ : Lft = κs.1.1.0 in
+    let r : Share = qs.1.1.0 in
     let Made : Type 0 = (x.left ≡ 0) × (slice_set x.slots h.index None ≡ empty_slots (2 ^ bucket_of h.id))
     × IsSome (slot_value x.slots h.index) in
     let w : Ptr = h.bucket in
@@ -330,24 +351,29 @@ exchange_spec 𝓤 𝓛 𝓜 𝓡 wired X L =
     let i : ℕ = h.index in
     let pl : ClaimFields = claim_fields h.id i w h.at h.sharing h.word h.reserved in
     let y : (walk_of 𝓛 En hs c).Ghost =
-    ((κs, qs, bounds, a, (u₀ ∷ [], (vint w64 ix ∷ [], (bv ∷ [], (token ∷ [], (token ∷ [], tt)))))), gh) in
+    ((κs, qs, bounds, a, (vptr rb ro ∷ [], (vint w64 ix ∷ [], (bv ∷ [], (token ∷ [], (token ∷ [], tt)))))), gh) in
     let Post : Val → SProp 𝓤 = (walk_of 𝓛 En hs c).post y in
-    qed 𝓛 (((‵ (flft β q) ⊛ ‵ others) ⊛ ‵ (owns (types_at En.signature.params κs) a y.0.4))
+    qed 𝓛 (((‵ (flft κs.0 qs.0) ⊛ ‵ (fsep (flft β q) others)) ⊛ ‵ (owns (types_at En.signature.params κs) a y.0.4))
     ∷ raw (fact 𝓤 (Incl υ X.lives)) ∷ raw (fact 𝓤 (h.learnt ≡ Missing)) ∷ raw (fact 𝓤 (ix ≡ i))
     ∷ raw (fact 𝓤 Made) ∷ raw (fact 𝓤 Had) ∷ raw (fact 𝓤 Says) ∷ []) ∵
     move ! (1 ∷ 2 ∷ 3 ∷ 4 ∷ 5 ∷ 6 ∷ 0 ∷ []) $ heard ! (Incl υ X.lives) (λ alive. heard ! (h.learnt ≡ Missing) (λ gone.
     heard ! (ix ≡ i) (λ is_index. heard ! Made (λ blank. heard ! Had (λ evident. heard ! Says (λ told_so. split ! $ split ! $ move ! (2 ∷ []) $
-    fsplit3 ! $ fsplit ! $ move ! (3 ∷ []) $ fsplit ! $ fsplit ! $ move ! (2 ∷ []) $ fsplit ! $ fsplit ! $
+    fsplit3 ! $ fsplit3 ! $ move ! (4 ∷ []) $ fsplit ! $ fsplit ! $ move ! (2 ∷ []) $ fsplit ! $ fsplit ! $
     move ! (2 ∷ []) $ fsplit ! $ fsplit ! $
-    keep ! (8 ∷ 10 ∷ 11 ∷ 6 ∷ 4 ∷ 1 ∷ []) $
-    enter ! 𝓣.C 𝓣.Λ fn (u₀ ∷ vint w64 ix ∷ bv ∷ token ∷ token ∷ []) Post $ alloc_all ! (λ l.
+    keep ! (8 ∷ 9 ∷ 11 ∷ 12 ∷ 6 ∷ 4 ∷ 1 ∷ []) $
+    enter ! 𝓣.C 𝓣.Λ fn (vptr rb ro ∷ vint w64 ix ∷ bv ∷ token ∷ token ∷ []) Post $ alloc_all ! (λ l.
     pass_all ! {E = env (behind_first fn.locals) (λ j. l (suc j))} refl (
-      typed (kept_of h) (in_word ℓ R (kept_of h) (u₀ ∷ []) are.0.0),
+      (tt, tt),
       ((tt, record { fits = are.1.0.1 }), (fields.block_good p, ((tt, (tt, tt)), ((tt, (tt, tt)), tt)))),
     ) $
     let Ev = env fn.locals l in
+    opens ! tt G rb ro (λ ts. move ! (1 ∷ []) $ fsplit ! $
+    peeks ! D (Is D) (shows 𝓛 D) (fields_of ℓ R (kept_of h)) ts (λ is_so. drop ! $
+    rewrite ! 1 (λ (ws : List Val). ‵ (cell_at full_share G.mir ws rb ro)) (told ℓ R (kept_of h) ts is_so) refl $
+    move ! (5 ∷ []) $ fsplit ! $ move ! (2 ∷ 0 ∷ 1 ∷ 7 ∷ 8 ∷ 9 ∷ []) $
     -- [what the claim owns; the token; the other tokens; the block; how many ids were held; the bucket is
-    -- announced]
+    -- announced; the claim's cell; the open borrow, in three entries]
+    use1 𝓛 (‵ (claim_owns R β h.table pl h.learnt h.state)) (id⊢ 𝓤 _) $
     fsplit ! $ drop ! $ fpick ! (λ z. fsplit ! $ fpick ! (λ of. drop ! $ fsplit ! $
     move ! (1 ∷ []) $
     let d : BucketView = z.0 in
@@ -425,7 +451,9 @@ exchange_spec 𝓤 𝓛 𝓜 𝓡 wired X L =
     -- [what the block shows; the private block; the sharing lasts; the invariant; the life's token; the way back; the pass; the other
     -- tokens; what its claim has]
     move ! (6 ∷ []) $ rewrite ! 0 (λ (k : ℕ). ‵ (right_owns t.pass k)) of.3 refl $ move ! (2 ∷ 1 ∷ 0 ∷ []) $ group ! 3 $
-    sets ! (is ! (of_opd ! (get_in ! (fld ! refl (stop !)) (sub ! 0 refl (whole !))))
+    sets !
+    (is !
+    (of_opd ! (load ! (through ! refl (fld ! refl (stop !))) (look_in ! 7 (sub ! 0 refl (whole !)))))
     (ap ptr_val (leads ∙ at)))
     refl (tt, tt) $
     sets ! (of_opd ! (get ! refl)) refl (tt, tt) $
@@ -473,10 +501,10 @@ exchange_spec 𝓤 𝓛 𝓜 𝓡 wired X L =
     sets ! (agg ! (and_then ! (lit ! tt) (no_more !))) refl nothing_good $
     sets_last ! (agg ! (and_then ! (get ! refl) (and_then ! (lit ! tt) (and_then ! (get ! refl) (no_more !))))) refl
     triple_good $
-    forget_but ! Ev (22 ∷ 2 ∷ []) refl $
+    forget_but ! Ev (21 ∷ 1 ∷ 2 ∷ []) refl $
     -- [the token; the claim; the other tokens]
     use0 𝓛 (‵ (Back.own_val None (live 0 vnil ∷ []))) (none_of 𝓛 Bl) $ move ! (1 ∷ 2 ∷ []) $
-    ends 𝓛 𝓜 𝓡 X y l pb o 2 (lit< tt) (live 0 vnil) nothing_good None (Holding xv) is_index close tt (sym (ap found_as found_value.1)))
+    ends 𝓛 𝓜 𝓡 X y l pb o 2 (lit< tt) (live 0 vnil) nothing_good None (Holding xv) refl is_index close tt (sym (ap found_as found_value.1)))
     (λ u₁. lands_last ! refl (calls.answer_good (Err u₁)) $
     exec ! 𝓣.C 𝓣.Λ Ev (after 4 fn.body) (at_ret Ev Post) $
     sets ! (of_opd ! (get ! refl)) refl (calls.answer_good (Err u₁)) $ fsplit ! $
@@ -519,7 +547,7 @@ exchange_spec 𝓤 𝓛 𝓜 𝓡 wired X L =
     sets ! (agg ! (and_then ! (lit ! tt) (and_then ! (get ! refl) (no_more !)))) refl held $
     sets_last ! (agg ! (and_then ! (get ! refl) (and_then ! (lit ! tt) (and_then ! (get ! refl) (no_more !))))) refl
     triple_good $
-    forget_but ! Ev (22 ∷ 2 ∷ []) refl $
+    forget_but ! Ev (21 ∷ 1 ∷ 2 ∷ []) refl $
     -- [the token; the claim; nothing; the block; the other tokens]
     move ! (3 ∷ []) $ rewrite ! 0 (λ (u₂ : Ptr). ‵ (Blank u₂)) (sym e) refl $
     rewrite ! 0
@@ -531,4 +559,4 @@ exchange_spec 𝓤 𝓛 𝓜 𝓡 wired X L =
     fjoin ! $ use1 𝓛 (‵ (Back.own_val (Some x) (back ∷ []))) (Some-of 𝓛 Bl x bv) $
     -- [the block; the token; the claim; nothing; the other tokens]
     move ! (3 ∷ []) $ drop ! $ move ! (1 ∷ 2 ∷ []) $
-    ends 𝓛 𝓜 𝓡 X y l pb o 1 (lit< tt) back held (Some x) Vacant is_index close (refl, refl, blank.0) refl))))))))))))))))))))
+    ends 𝓛 𝓜 𝓡 X y l pb o 1 (lit< tt) back held (Some x) Vacant refl is_index close (refl, refl, blank.0) refl))))))))))))))))))))))

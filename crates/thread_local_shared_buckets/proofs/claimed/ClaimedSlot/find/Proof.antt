@@ -19,6 +19,9 @@ use base.Fml.{fres}
 use base.Before.{before}
 use types.Run.{skips, returns_within}
 use types.Na.{before_dup}
+use types.Part.{store_in}
+use Rattle.thread_local_base.proofs.Names.{opens, closes, peeks, Is, shows, cell_at, stay_ref, Goes-ref, load, look_in, assigns, unit_lit, vunit, feq_i}
+use Rattle.thread_local_base.proofs.Names.{mut_vals, mut_Tells, named, List, full_share, fjoin3}
 use denote.RawPtr.{tests_null}
 use denote.Param.Laws.{Laws, of_field}
 use denote.Param.Shared.{copy_shared}
@@ -28,19 +31,19 @@ use Rattle.std.proofs.raw_atomic.Calls.{seq_cst, loads}
 use Rattle.std.proofs.raw_atomic.PtrCalls as calls
 use Rattle.std.proofs.raw_atomic.PtrCalls.{seq_cst_good}
 use Rattle.thread_local_ids.specs.Rights.{right_owns}
-use Rattle.thread_local_bucket_pointers.specs.Slots.{stride, value_words, word_offset, value_offset}
-use Rattle.thread_local_bucket_pointers.proofs.Flags.{in_chunks, value_near}
-use Rattle.thread_local_bucket_pointers.proofs.Slots.{IsWordNear, word_is_near, ptr_good}
+use Rattle.thread_local_buckets.specs.Slots.{stride, value_words, word_offset, value_offset}
+use Rattle.thread_local_buckets.proofs.Flags.{in_chunks, value_near}
+use Rattle.thread_local_buckets.proofs.Slots.{IsWordNear, word_is_near, ptr_good}
 use Rattle.thread_local_base.specs.Bits.{is_set}
 use Rattle.thread_local_base.proofs.Word.{masked_fits, place_below, bit_fits, shifted_right}
 use Rattle.thread_local_base.specs.Fact as facts
 use Rattle.thread_local_shared_buckets.specs.Shared.{BucketView, Turn, StandingBlock, Sized, block_code, len, bucket_invariant, loaded}
 use Rattle.thread_local_shared_buckets.proofs.Loads.{glimpse, reaches, reads}
-use Rattle.thread_local_base.specs.Learnt.{Learnt, Missing, Vacant, Finds}
-use Rattle.thread_local_shared_buckets.specs.Known.{HasLooked, MayLook, looked_in_vain, state_by, found_as}
+use Rattle.thread_local_base.specs.Learnt.{Learnt, Unknown, Missing, Standing, Vacant, Holding, Finds}
+use Rattle.thread_local_shared_buckets.specs.Known.{HasLooked, MayLook, looked_in_vain, state_by, state_of, found_as}
 use Rattle.thread_local_shared_buckets.proofs.Learning.{known_as, not_missing, kept_as, state_by-fits, state_by-flag}
 use Rattle.thread_local_shared_buckets.proofs.Learning.{finds_nothing, finds_slot, unfound, found as found_in}
-use Rattle.thread_local_shared_buckets.specs.Claims.{ClaimFields, flag_word_of, claim_fields, IsOf, IsStateOf, claims_side, value_at, has, has_slot, has_at}
+use Rattle.thread_local_shared_buckets.specs.Claims.{ClaimFields, flag_word_of, claim_fields, IsOf, IsStateOf, claims_side, value_at, has, has_slot, has_at, claim_owns}
 use Rattle.thread_local_shared_buckets.specs.contracts.claimed.ClaimedSlot as claim
 use Rattle.thread_local_shared_buckets.specs.contracts.claimed.ClaimedSlot.find.{ended, clauses, Key.name as #self}
 use Rattle.thread_local_shared_buckets.proofs.Early.{comes}
@@ -55,27 +58,36 @@ use Rattle.thread_local_shared_buckets.proofs.Inside.{placed}
 word_laws : Laws u64
 word_laws = of_field u64-field u64-laws refl (copy_shared u64-field u64-copy)
 
+-- a claim that may look has the number of one that has found no bucket
+still_none : {V : Type 0} (learnt : Learnt V) → MayLook learnt → state_of learnt ≡ 0
+still_none Unknown may = refl
+still_none Missing may = refl
+still_none Standing may = absurd may
+still_none Vacant may = absurd may
+still_none (Holding v) may = absurd may
+
 pub find_spec : {M : Type 1} → statement M
 find_spec 𝓤 𝓛 𝓜 𝓡 wired X L =
     let H = 𝓛.H in let 𝓣 = tables 𝓤 H 𝓜 𝓡 𝓡.env in let R : RattleType = param 0 X in let En = ended X in
     let c = clauses X 𝓛 𝓜.mem 𝓡.returns in let inst = bounded (a_type ∷ []) (X, tt) dnil in
     let fn = inst_fn inst code.function in let closed = code.unfolded 𝓤 H 𝓜 𝓡 wired (X, tt) in
-    let self = plain (λ κs. claim.the_row (named_lft 2 0 tt κs) R) in let number = plain (λ _. usize) in
+    let self = plain (λ κs. claim.the_row (named_lft 3 1 tt κs) R) in let number = plain (λ _. usize) in
     let hs : Stays En.signature.params En.kept =
-    (stay_dropped self no, (stay_dropped number yes, (stay_dropped number yes, tt))) in
+    (stay_ref (0 ∷ []) tt self, (stay_dropped number yes, (stay_dropped number yes, tt))) in
     proved 𝓛 En hs c 𝓜 𝓡 (
-      Goes-dropped 𝓛 2 self no (λ κs x f. refl),
-      (Goes-dropped 𝓛 2 number yes (λ κs x f. refl), (Goes-dropped 𝓛 2 number yes (λ κs x f. refl), tt)),
+      Goes-ref 𝓛 3 0 tt self,
+      (Goes-dropped 𝓛 3 number yes (λ κs x f. refl), (Goes-dropped 𝓛 3 number yes (λ κs x f. refl), tt)),
     )
     (#self inst) fn closed
-    (λ κs. ((λ x. value_of (kept_of x) ∷ []), (uint_vals w64, (uint_vals w64, tt))))
-    (λ κs. ((λ x vs so. told (named_lft 2 0 tt κs) R (kept_of x) vs so.0), (uint_Tells w64, (uint_Tells w64, tt))))
+    (λ κs. (mut_vals, (uint_vals w64, (uint_vals w64, tt))))
+    (λ κs. (mut_Tells (named 0) κs.0 (claim.the_row (named_lft 3 1 tt κs) R), (uint_Tells w64, (uint_Tells w64, tt))))
     (λ κs qs bounds a gh are.
-    let h = a.0 in let x : ℕ = a.1.0 in
+    let h = a.0.now in let rb : ℕ = a.0.ref_ptr.0 in
+    let ro : ℕ = a.0.ref_ptr.1 in
+    let x : ℕ = a.1.0 in
     let num : ℕ = a.1.1.0 in
-    let β : Lft = κs.0 in let q : Share = qs.0 in let others : Fml = fsep (flft κs.1.0 qs.1.0) ftrue in
-    let ℓ = named_lft 2 0 tt κs in let G : RattleType = claim.the_row ℓ R in
-    let u₀ : Val = value_of (kept_of h) in
+    let β : Lft = κs.1.0 in let q : Share = qs.1.0 in let others : Fml = fsep (flft κs.1.1.0 qs.1.1.0) ftrue in
+    let ℓ = named_lft 3 1 tt κs in let G : RattleType = claim.the_row ℓ R in let D : RattleType = FieldsType ℓ R in
     let F₁ : G.Denot → Type 0 = λ r.
     (r.table ≡ h.table) × (◌≡◌ {A = Option ℕ} r.sharing h.sharing) × (r.word ≡ h.word) × (r.id ≡ h.id)
     × (r.index ≡ h.index) in
@@ -87,21 +99,29 @@ find_spec 𝓤 𝓛 𝓜 𝓡 wired X L =
     let gone : Learnt X.Denot = Missing in
     let w : Ptr = h.bucket in let wb : ℕ = block_of w in let wo : ℕ = count_of w in let i : ℕ = h.index in
     let pl : ClaimFields = claim_fields h.id i w h.at h.sharing h.word h.reserved in
-    let y : (walk_of 𝓛 En hs c).Ghost = ((κs, qs, bounds, a, (u₀ ∷ [], (vint w64 x ∷ [], (vint w64 num ∷ [], tt)))), gh) in
+    let y : (walk_of 𝓛 En hs c).Ghost = ((κs, qs, bounds, a, (vptr rb ro ∷ [], (vint w64 x ∷ [], (vint w64 num ∷ [], tt)))), gh) in
     let Post : Val → SProp 𝓤 = (walk_of 𝓛 En hs c).post y in
-    qed 𝓛 (((‵ (flft β q) ⊛ ‵ others) ⊛ ‵ (owns (types_at En.signature.params κs) a y.0.4))
+    qed 𝓛 (((‵ (flft κs.0 qs.0) ⊛ ‵ (fsep (flft β q) others)) ⊛ ‵ (owns (types_at En.signature.params κs) a y.0.4))
     ∷ raw (fact 𝓤 _) ∷ raw (fact 𝓤 (MayLook l₀)) ∷ raw (fact 𝓤 (x ≡ i))
     ∷ raw (fact 𝓤 (num ≡ flag_word_of R h.id)) ∷ []) ∵
     keep ! (2 ∷ 3 ∷ 4 ∷ 0 ∷ []) $ heard ! (MayLook l₀) (λ unseen. heard ! (x ≡ i) (λ is_index.
     heard ! (num ≡ flag_word_of R h.id) (λ numbered. split ! $ split ! $ move ! (2 ∷ []) $
-    fsplit3 ! $ fsplit ! $ keep ! (1 ∷ 4 ∷ 5 ∷ []) $
+    fsplit3 ! $ fsplit3 ! $ keep ! (1 ∷ 2 ∷ 5 ∷ 6 ∷ []) $
     enter ! _ _ _ _ _ $ alloc_all ! (λ l.
     pass_all ! refl (
-      typed (kept_of h) (in_word ℓ R (kept_of h) (u₀ ∷ []) are.0.0),
+      (tt, tt),
       ((tt, record { fits = are.1.0.1 }), ((tt, record { fits = are.1.1.0.1 }), tt)),
     ) $
     let Ev = env fn.locals l in
-    fsplit ! $ drop ! $ fpick ! (λ z. fsplit ! $ fpick ! (λ of. drop ! $ fsplit ! $
+    opens ! tt G rb ro (λ ts. move ! (1 ∷ []) $ fsplit ! $
+    peeks ! D (Is D) (shows 𝓛 D) (fields_of ℓ R (kept_of h)) ts (λ is_so. drop ! $
+    -- [what the claim owns; its cell; the open borrow, in three entries; the other tokens]
+    let Cell = λ (ws : List Val). ‵ (cell_at full_share G.mir ws rb ro) in
+    rewrite ! 1 Cell (told ℓ R (kept_of h) ts is_so) refl $
+    move ! (5 ∷ []) $ fsplit ! $ move ! (2 ∷ 0 ∷ 1 ∷ []) $
+    -- [what the claim owns; the token; the other tokens; its cell; the open borrow]
+    use1 𝓛 (‵ (claim_owns R β h.table pl h.learnt h.state)) (id⊢ 𝓤 _) $
+    fsplit ! $ fpick ! (λ by_state. drop ! $ fpick ! (λ z. fsplit ! $ fpick ! (λ of. drop ! $ fsplit ! $
     move ! (1 ∷ []) $
     let d : BucketView = z.0 in let t : Turn = z.1 in
     let at : w ≡ block_ptr wb wo = at_block w of.0 in
@@ -122,7 +142,11 @@ find_spec 𝓤 𝓛 𝓜 𝓡 wired X L =
     move ! (4 ∷ []) $ use1 𝓛 (‵ (finv J) ⊛ ‵ (finv J)) (𝓛.invs.inv_dup J) $ split ! $
     use1 𝓛 (‵ (finv J) ⊛ ‵ (finv J)) (𝓛.invs.inv_dup J) $ split ! $
     let out : Ptr → Fml = λ p. fsep (flft t.life s) (glimpse 𝓛 R d t Pass W p) in
-    sets ! (is ! (of_opd ! (get_in ! (fld ! refl (stop !)) (sub ! 0 refl (whole !)))) (ap ptr_val (leads ∙ at))) refl (tt, tt) $
+    sets !
+    (is !
+    (of_opd ! (load ! (through ! refl (fld ! refl (stop !))) (look_in ! 9 (sub ! 0 refl (whole !)))))
+    (ap ptr_val (leads ∙ at)))
+    refl (tt, tt) $
     first ! $ blocks ! $ sets ! (of_opd ! (get ! refl)) refl (tt, tt) $
     sets ! (addr ! (through ! refl (fld ! refl (stop !)))) refl (tt, tt) $
     sets ! (agg ! (and_then ! (lit ! tt) (no_more !))) refl seq_cst_good $
@@ -158,23 +182,29 @@ find_spec 𝓤 𝓛 𝓜 𝓡 wired X L =
       reserved = h.reserved;
       learnt = gone;
     } in
-    sets ! (agg ! (no_more !)) refl (tt, tt) $
-    sets ! (agg ! (and_then ! (get ! refl) (and_then ! (lit ! tt) (and_then ! (get ! refl) (no_more !))))) refl (typed m (lit< tt)) $
+    sets ! (of_opd ! (unit_lit !)) refl (tt, tt) $
+    let none_yet : h.state ≡ 0 = by_state ∙ still_none l₀ unseen in
+    rewrite ! 7 (λ (k : Kept). Cell (value_of k ∷ [])) (λ j. record { at = (leads ∙ at) j; state = none_yet j }) refl $
     nothing ! $ fpack ! (block_ptr wb wo ≡ block_ptr wb wo) (λ _. ftrue) refl $ fjoin ! $
     move ! (4 ∷ 2 ∷ []) $ fjoin ! $ fjoin ! $ nothing ! $
     fpack ! (IsOf R h.table pl' d) (λ _. ftrue) (tt, of.1, of.2, of.3, of.4, of.5, of.6, of.7) $ fjoin ! $
     fpack ! (BucketView × Turn) (has_at R β h.table pl' gone) z $ nothing ! $ fpack ! (IsStateOf R 0 gone) (λ _. ftrue) refl $ fjoin ! $
     use0 𝓛 (‵ ((FieldsType ℓ R).own_val (fields_of ℓ R m) (value_of m ∷ [])))
     (made ℓ R 𝓛 m (lit< tt)) $
-    fjoin ! $ move ! (1 ∷ 4 ∷ []) $ join ! $ move ! (1 ∷ []) $
+    fjoin ! $
+    -- [what the claim owns; the token; the invariant; before; the other tokens; its cell; the open borrow]
+    move ! (5 ∷ 0 ∷ 6 ∷ 7 ∷ 8 ∷ []) $ closes ! tt G r (value_of m ∷ []) rb ro $
+    feq_i ! _ (vptr rb ro ∷ []) _ refl $ fjoin3 ! $
+    nothing ! $ nothing ! $ fjoin ! $ nothing ! $ fjoin ! $ move ! (1 ∷ 0 ∷ []) $ fjoin ! $
+    move ! (2 ∷ 5 ∷ []) $ fjoin ! $ move ! (2 ∷ 0 ∷ []) $ join ! $
     knows ! (F₅ r) (finds_nothing l₀ unseen) $
     knows ! (F₄ r) (refl, (λ is. let never : true ≡ false = sym is ∙ sym of.5 ∙ free in cc)) $
     join ! $ knows ! (F₃ r) (λ _. inl refl) $ join ! $
     knows ! (F₂ r) tt $ join ! $
     knows ! (F₁ r) (refl, refl, refl, refl, refl) $ join ! $
-    nothing ! $ nothing ! $ fjoin ! $ nothing ! $ fjoin ! $ nothing ! $ fjoin ! $
-    returns_within ! Post refl (look_at ! 0 refl) $ free_all ! refl $ keep ! (3 ∷ 0 ∷ 2 ∷ 1 ∷ []) $
-    by ! (leaves 𝓛 En hs c y (value_of m) r (tt, (tt, (tt, tt))) (tt, (tt, (tt, tt)))))
+    feq_i ! _ (vunit ∷ []) _ refl $
+    returns_within ! Post refl (look_at ! 0 refl) $ free_all ! refl $ keep ! (2 ∷ 3 ∷ 0 ∷ 1 ∷ []) $
+    by ! (leaves 𝓛 En hs c y vunit tt (r, (tt, (tt, tt))) (tt, (tt, (tt, tt)))))
     (λ wrong. absurd wrong)))
     (λ pb po.
     let p : Ptr = block_ptr pb po in let k : ℕ = i / 64 in let j : ℕ = i % 64 in
@@ -240,6 +270,8 @@ find_spec 𝓤 𝓛 𝓜 𝓡 wired X L =
     let pl' : ClaimFields = claim_fields h.id i (block_ptr wb wo) slot_at h.sharing h.word h.reserved in
     sets ! (of_opd ! (get ! refl)) refl (tt, record { fits = nf }) $
     sets ! (of_opd ! (get ! refl)) refl (tt, tt) $
+    assigns ! (of_opd ! (get ! refl)) (through ! refl (fld ! refl (stop !)))
+    (store_in ! 6 (sub ! 0 refl (whole !)) (tt, tt)) $
     sets ! (is ! (bin ! (get ! refl) (lit ! tt) (lit< tt))
     (ap (λ (n' : ℕ). vint w64 (n' % 64)) is_index))
     refl (tt, record { fits = bit_fits i }) $
@@ -252,8 +284,9 @@ find_spec 𝓤 𝓛 𝓜 𝓡 wired X L =
     (record { fits = subst (λ (x' : ℕ). x' < 2 ^ 64) (sym (state_by-flag n j)) seen_fits }))
     (ap (vint w64) (state_by-flag n j)))
     refl (tt, record { fits = seen_fits }) $
-    sets ! (agg ! (no_more !)) refl (tt, tt) $
-    sets ! (agg ! (and_then ! (get ! refl) (and_then ! (get ! refl) (and_then ! (get ! refl) (no_more !))))) refl (typed m seen_fits) $
+    assigns ! (of_opd ! (get ! refl)) (through ! refl (fld ! refl (stop !)))
+    (store_in ! 6 (sub ! 1 refl (whole !)) (tt, record { fits = seen_fits })) $
+    sets ! (of_opd ! (unit_lit !)) refl (tt, tt) $
     move ! (1 ∷ []) $ fpick ! (λ v'. fsplit ! $ fpick ! (λ known. drop ! $ move ! (2 ∷ 0 ∷ []) $
     fjoin ! $ nothing ! $ fpack ! (slot_at ≡ value_at R p i) (λ _. ftrue) refl $ fjoin ! $
     fpack ! StandingBlock (has_slot R d t β pl' v') s' $
@@ -264,7 +297,8 @@ find_spec 𝓤 𝓛 𝓜 𝓡 wired X L =
     fpack ! (IsStateOf R seen (found_as v')) (λ _. ftrue) (kept_as R v' set known.0) $ fjoin ! $
     use0 𝓛 (‵ ((FieldsType ℓ R).own_val (fields_of ℓ R m) (value_of m ∷ [])))
     (made ℓ R 𝓛 m seen_fits) $
-    fjoin ! $ move ! (1 ∷ 2 ∷ []) $ join ! $ move ! (1 ∷ []) $
+    fjoin ! $
+    -- [what the claim owns; the token; the other tokens; its cell; the open borrow]
     let r : G.Denot = record {
       at = slot_at;
       state = seen;
@@ -278,12 +312,16 @@ find_spec 𝓤 𝓛 𝓜 𝓡 wired X L =
       reserved = h.reserved;
       learnt = found_as v';
     } in
+    move ! (3 ∷ 0 ∷ 4 ∷ 5 ∷ 6 ∷ []) $ closes ! tt G r (value_of m ∷ []) rb ro $
+    feq_i ! _ (vptr rb ro ∷ []) _ refl $ fjoin3 ! $
+    nothing ! $ nothing ! $ fjoin ! $ nothing ! $ fjoin ! $ move ! (1 ∷ 0 ∷ []) $ fjoin ! $
+    move ! (2 ∷ 3 ∷ []) $ fjoin ! $ move ! (2 ∷ 0 ∷ []) $ join ! $
     knows ! (F₅ r) (finds_slot l₀ unseen v') $
     knows ! (F₄ r) (refl, (λ _. not_missing v')) $ join ! $
     knows ! (F₃ r) (λ was. inr (ap found_as (known.1 (ap looked_in_vain was)))) $
     join ! $ knows ! (F₂ r) (known_as v') $ join ! $
     knows ! (F₁ r) (refl, refl, refl, refl, refl) $ join ! $
-    nothing ! $ nothing ! $ fjoin ! $ nothing ! $ fjoin ! $ nothing ! $ fjoin ! $
-    returns ! (look_at ! 0 refl) $ free_all ! refl $ keep ! (3 ∷ 0 ∷ 2 ∷ 1 ∷ []) $
-    by ! (leaves 𝓛 En hs c y (value_of m) r (tt, (tt, (tt, tt)))
-    (tt, (tt, (tt, tt)))))))))))))))))))))))
+    feq_i ! _ (vunit ∷ []) _ refl $
+    returns ! (look_at ! 0 refl) $ free_all ! refl $ keep ! (2 ∷ 3 ∷ 0 ∷ 1 ∷ []) $
+    by ! (leaves 𝓛 En hs c y vunit tt (r, (tt, (tt, tt)))
+    (tt, (tt, (tt, tt))))))))))))))))))))))))))

@@ -14,7 +14,7 @@ use mathlib.Core.Logic.{inl, inr}
 use denote.Steps.{looks, shuts}
 use denote.Memory.{hidden_shr, shared_of}
 use denote.Param.Send.{IsSync}
-use Rattle.thread_local_judged.specs.Judged.{Shareable, Judged}
+use Rattle.thread_local_base.specs.Judged.{Shareable, Judged}
 use Rattle.thread_local_base.proofs.Bodies.{tail}
 use Rattle.thread_local_base.specs.Learnt.{Learnt, Holding}
 use Rattle.thread_local_shared_buckets.specs.Known.{value_held}

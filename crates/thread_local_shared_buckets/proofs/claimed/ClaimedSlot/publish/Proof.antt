@@ -14,6 +14,7 @@ use Rattle.thread_local_base.proofs.Names.{RattleType, owns, types_at, plain, Pt
 use Rattle.thread_local_base.proofs.Names.{uint_Tells, usize, yes, size_word, sets_last, ◌*◌, ◌∙◌, nothing, heard}
 use Rattle.thread_local_base.proofs.Names.{param, layout, param_laws, Stays, stay_dropped, walk_of, Goes-dropped}
 use Rattle.thread_local_base.proofs.Names.{Member, proved_at, leaves, fm, after, one, gather}
+use Rattle.thread_local_base.proofs.Names.{opens, closes, peeks, Is, shows, cell_at, stay_ref, Goes-ref, load, look_in, assigns, unit_lit, vunit, feq_i}
 use Rattle.std.proofs.Common.{◌<◌, ◌≤◌, ◌/◌, ◌%◌}
 use mir.Syntax.{dnil}
 use mir.Val.{vptr}
@@ -26,24 +27,25 @@ use types.Na.{before_dup}
 use types.Run.{Calls-last}
 use types.Tokens.{bor_open, obor_close}
 use denote.RawPtr.{ptr_val}
+use types.Part.{store_in}
 use denote.Param.{bounded}
 use denote.Signature.{named_lft}
 use Rattle.std.proofs.raw_atomic.Calls.{seq_cst, found, finds, adds}
 use Rattle.std.proofs.raw_atomic.PtrCalls.{seq_cst_good}
 use Rattle.std.specs.Coded.{coded_option}
 use Rattle.thread_local_base.proofs.Word.{place_below, bit_fits, shifted_left}
-use Rattle.thread_local_judged.specs.Judged.{Judged}
+use Rattle.thread_local_base.specs.Judged.{Judged}
 use Rattle.thread_local_ids.specs.Rights.{right_owns}
-use Rattle.thread_local_bucket_pointers.specs.Slots.{stride, value_words, word_offset, value_offset, content_at}
-use Rattle.thread_local_bucket_pointers.proofs.Flags.{in_chunks, value_near}
-use Rattle.thread_local_bucket_pointers.proofs.Slots.{IsWordNear, word_is_near}
+use Rattle.thread_local_buckets.specs.Slots.{stride, value_words, word_offset, value_offset, content_at}
+use Rattle.thread_local_buckets.proofs.Flags.{in_chunks, value_near}
+use Rattle.thread_local_buckets.proofs.Slots.{IsWordNear, word_is_near}
 use Rattle.thread_local_shared_buckets.specs.Shared.{name_at, BucketView, Turn, StandingBlock, Sized, block_code, len}
 use Rattle.thread_local_shared_buckets.specs.Shared.{value_code, tracked_value, pinned, age, opened, by as lent_by}
 use Rattle.thread_local_shared_buckets.specs.Shared.{bucket_invariant}
 use Rattle.thread_local_shared_buckets.proofs.Rested.{publishes}
 use Rattle.thread_local_ids.specs.Told.{tells}
 use Rattle.thread_local_base.specs.Learnt.{Learnt, Vacant, Holding}
-use Rattle.thread_local_shared_buckets.specs.Claims.{ClaimFields, flag_word_of, claim_fields, IsOf, IsStateOf, value_at, has, has_slot, has_at}
+use Rattle.thread_local_shared_buckets.specs.Claims.{ClaimFields, flag_word_of, claim_fields, IsOf, IsStateOf, value_at, has, has_slot, has_at, claim_owns}
 use Rattle.thread_local_shared_buckets.specs.contracts.claimed.ClaimedSlot as claim
 use Rattle.thread_local_shared_buckets.specs.contracts.claimed.ClaimedSlot.publish.{ended, clauses, Key.name as #self}
 use Rattle.thread_local_shared_buckets.proofs.ClaimSteps as steps
@@ -60,17 +62,17 @@ publish_spec 𝓤 𝓛 𝓜 𝓡 wired X L =
     let H = 𝓛.H in let 𝓣 = tables 𝓤 H 𝓜 𝓡 𝓡.env in let R : RattleType = param 0 X in let En = ended X in
     let c = clauses X 𝓛 𝓜.mem 𝓡.returns in let LR = param_laws 0 X L in let inst = bounded (a_type ∷ []) (X, tt) dnil in
     let fn = inst_fn inst code.function in let closed = code.unfolded 𝓤 H 𝓜 𝓡 wired (X, tt) in
-    let self = plain (λ κs. claim.the_row (named_lft 2 0 tt κs) R) in let number = plain (λ _. usize) in
+    let self = plain (λ κs. claim.the_row (named_lft 3 1 tt κs) R) in let number = plain (λ _. usize) in
     let value = plain (λ _. R) in
     let hs : Stays En.signature.params En.kept = (
-      stay_dropped self no,
+      stay_ref (0 ∷ []) tt self,
       (stay_dropped number yes, (stay_dropped number yes, (stay_dropped value no, tt))),
     ) in
     proved_at 𝓛 En hs c 𝓜 𝓡 (
-      Goes-dropped 𝓛 2 self no (λ κs x f. refl),
+      Goes-ref 𝓛 3 0 tt self,
       (
-        Goes-dropped 𝓛 2 number yes (λ κs x f. refl),
-        (Goes-dropped 𝓛 2 number yes (λ κs x f. refl), (Goes-dropped 𝓛 2 value no (λ κs x f. refl), tt)),
+        Goes-dropped 𝓛 3 number yes (λ κs x f. refl),
+        (Goes-dropped 𝓛 3 number yes (λ κs x f. refl), (Goes-dropped 𝓛 3 value no (λ κs x f. refl), tt)),
       ),
     )
     (#self inst) fn closed (λ y are.
@@ -78,17 +80,17 @@ publish_spec 𝓤 𝓛 𝓜 𝓡 wired X L =
     let qs = y.0.1 in
     let a = y.0.3 in
     let vss = y.0.4 in
-    let Post : Val → SProp 𝓤 = (walk_of 𝓛 En hs c).post y in let h = a.0 in
+    let Post : Val → SProp 𝓤 = (walk_of 𝓛 En hs c).post y in let h = a.0.now in
+    let rb : ℕ = a.0.ref_ptr.0 in
+    let ro : ℕ = a.0.ref_ptr.1 in
     let ix : ℕ = a.1.0 in
     let num : ℕ = a.1.1.0 in
-    let x : X.Denot = a.1.1.1.0 in let β : Lft = κs.0 in let q : Share = qs.0 in
-    let υ : Lft = κs.1.0 in
-    let r : Share = qs.1.0 in let others : Fml = fsep (flft υ r) ftrue in let ℓ = named_lft 2 0 tt κs in
-    let G : RattleType = claim.the_row ℓ R in
-    let u₀ : Val = value_of (kept_of h) in
+    let x : X.Denot = a.1.1.1.0 in let β : Lft = κs.1.0 in let q : Share = qs.1.0 in
+    let υ : Lft = κs.1.1.0 in
+    let r : Share = qs.1.1.0 in let others : Fml = fsep (flft υ r) ftrue in let ℓ = named_lft 3 1 tt κs in
+    let G : RattleType = claim.the_row ℓ R in let D : RattleType = FieldsType ℓ R in
     let w : Ptr = h.bucket in let wb : ℕ = block_of w in let wo : ℕ = count_of w in let i : ℕ = h.index in
     let pl : ClaimFields = claim_fields h.id i w h.at h.sharing h.word h.reserved in
-    let seen = told ℓ R (kept_of h) vss.0 are.0.0 in
     let see_index = uint_Tells w64 ix vss.1.0 are.1.0 in
     let see_number = uint_Tells w64 num vss.1.1.0 are.1.1.0 in
     let m : Member = record { row = R; ty = layout X } in
@@ -100,26 +102,33 @@ publish_spec 𝓤 𝓛 𝓜 𝓡 wired X L =
     let F₂ : G.Denot → Type 0 = λ g. g.learnt ≡ Holding x in
     let F₃ : G.Denot → Type 0 = λ g. g.reserved ≡ h.reserved in
     let Run : List Val → SProp 𝓤 = λ ws. WpFn 𝓤 H 𝓣.C 𝓣.Λ fn ws Post in
-    qed 𝓛 (((‵ (flft β q) ⊛ ‵ others) ⊛ ‵ (owns (types_at En.signature.params κs) a vss))
+    qed 𝓛 (((‵ (flft κs.0 qs.0) ⊛ ‵ (fsep (flft β q) others)) ⊛ ‵ (owns (types_at En.signature.params κs) a vss))
     ∷ raw (fact 𝓤 (Incl υ X.lives)) ∷ raw (fact 𝓤 (h.learnt ≡ Vacant)) ∷ raw (fact 𝓤 (ix ≡ i))
     ∷ raw (fact 𝓤 (num ≡ flag_word_of R h.id)) ∷ []) ∵
     move ! (1 ∷ 2 ∷ 3 ∷ 4 ∷ []) $ heard ! (Incl υ X.lives) (λ alive.
     heard ! (h.learnt ≡ Vacant) (λ empty. heard ! (ix ≡ i) (λ is_index.
     heard ! (num ≡ flag_word_of R h.id) (λ numbered. split ! $ split ! $ move ! (2 ∷ []) $
-    fsplit3 ! $ fsplit ! $
-    move ! (3 ∷ []) $ fsplit3 ! $ keep ! (4 ∷ 1 ∷ 6 ∷ 7 ∷ []) $
-    move ! (1 ∷ []) $ rewrite ! 0 (λ (ws : List Val). ‵ (R.own_val x ws)) got.1 refl $
-    let us : List Val = u₀ ∷ vint w64 ix ∷ vint w64 num ∷ vx ∷ [] in
+    fsplit3 ! $ fsplit3 ! $
+    move ! (4 ∷ []) $ fsplit3 ! $ keep ! (4 ∷ 5 ∷ 7 ∷ 1 ∷ 8 ∷ []) $
+    rewrite ! 3 (λ (ws : List Val). ‵ (R.own_val x ws)) got.1 refl $
+    let us : List Val = vptr rb ro ∷ vint w64 ix ∷ vint w64 num ∷ vx ∷ [] in
     suffices ! (Run us) (subst (λ (ws : List Val). ent 𝓤 (Run us) (Run ws))
-    (sym (λ j. seen j ++ (see_index j ++ (see_number j ++ (got.1 j ++ []))))) (id⊢ 𝓤 (Run us))) $
+    (sym (λ j. are.0.0 j ++ (see_index j ++ (see_number j ++ (got.1 j ++ []))))) (id⊢ 𝓤 (Run us))) $
     enter ! 𝓣.C 𝓣.Λ fn us Post $ alloc_all ! (λ l.
     pass_all ! refl (
-      typed (kept_of h) (in_word ℓ R (kept_of h) vss.0 are.0.0),
+      (tt, tt),
       ((tt, record { fits = are.1.0.1 }), ((tt, record { fits = are.1.1.0.1 }), (got.2, tt))),
     ) $
     let Ev = env fn.locals l in
-    -- [the value; what the claim owns; the token; the other tokens]
-    move ! (1 ∷ []) $ fsplit ! $ drop ! $ fpick ! (λ z. fsplit ! $ fpick ! (λ of. drop ! $
+    opens ! tt G rb ro (λ ts. move ! (1 ∷ []) $ fsplit ! $
+    peeks ! D (Is D) (shows 𝓛 D) (fields_of ℓ R (kept_of h)) ts (λ is_so. drop ! $
+    -- [what the claim owns; its cell; the open borrow, in three entries; the value; the other tokens]
+    let Cell = λ (ws : List Val). ‵ (cell_at full_share G.mir ws rb ro) in
+    rewrite ! 1 Cell (told ℓ R (kept_of h) ts is_so) refl $
+    move ! (6 ∷ []) $ fsplit ! $ move ! (2 ∷ 7 ∷ 0 ∷ 1 ∷ []) $
+    -- [what the claim owns; the value; the token; the other tokens; its cell; the open borrow]
+    use1 𝓛 (‵ (claim_owns R β h.table pl h.learnt h.state)) (id⊢ 𝓤 _) $
+    fsplit ! $ drop ! $ fpick ! (λ z. fsplit ! $ fpick ! (λ of. drop ! $
     fsplit ! $ move ! (1 ∷ []) $
     let d : BucketView = z.0 in let t : Turn = z.1 in
     rewrite ! 0 (λ (k : Learnt X.Denot). ‵ (has R d t β pl k)) empty refl $ fpick ! (λ s. fsplit ! $
@@ -172,7 +181,11 @@ publish_spec 𝓤 𝓛 𝓜 𝓡 wired X L =
     let ahead : i * stride R ≤ (value_words R (len R d) + k) * 8 = lies_ahead R (len R d) i of.4 in
     let far : ℕ = distance R (len R d) i in
     let far_fits : far < 2 ^ 64 = distance_fits R (len R d) i here.near in
-    sets ! (is ! (of_opd ! (get_in ! (fld ! refl (stop !)) (sub ! 0 refl (whole !)))) (ap ptr_val leads)) refl (tt, tt) $
+    sets !
+    (is !
+    (of_opd ! (load ! (through ! refl (fld ! refl (stop !))) (look_in ! 13 (sub ! 0 refl (whole !)))))
+    (ap ptr_val leads))
+    refl (tt, tt) $
     sets ! (of_opd ! (get ! refl)) refl (tt, record { fits = are.1.1.0.1 }) $
     sets ! (is ! (bin ! (get ! refl) (lit ! tt) (record { fits = near }))
     (ap (λ (n : ℕ). vint w64 (n * 8)) number_at))
@@ -253,9 +266,12 @@ publish_spec 𝓤 𝓛 𝓜 𝓡 wired X L =
     move ! (0 ∷ 2 ∷ []) $
     returns_token ! β t.life q g' $ await ! tt $
     let k : Kept = record { at = slot_at; state = 2 } in let pl' : ClaimFields = claim_fields h.id i w slot_at h.sharing h.word h.reserved in
-    sets ! (of_opd ! (get ! refl)) refl (tt, tt) $
-    sets ! (agg ! (no_more !)) refl (tt, tt) $
-    sets ! (agg ! (and_then ! (get ! refl) (and_then ! (lit ! tt) (and_then ! (get ! refl) (no_more !))))) refl (typed k (lit< tt)) $
+    -- [the token; filled and what is told; what is kept; the other tokens; for the claim; what is known; the row; the claim's
+    -- cell; the open borrow]
+    assigns ! (of_opd ! (lit ! tt)) (through ! refl (fld ! refl (stop !)))
+    (store_in ! 7 (sub ! 1 refl (whole !)) (tt, record { fits = lit< tt })) $
+    sets ! (of_opd ! (unit_lit !)) refl (tt, tt) $
+    rewrite ! 7 (λ (u : Ptr). Cell (value_of (record { at = u; state = 2 }) ∷ [])) leads refl $
     move ! (1 ∷ []) $ fsplit ! $ move ! (6 ∷ 1 ∷ []) $ fjoin ! $ move ! (1 ∷ 0 ∷ 5 ∷ []) $
     fjoin3 ! $ move ! (4 ∷ 0 ∷ []) $ fjoin ! $ nothing ! $
     fpack ! (slot_at ≡ value_at R s.at i) (λ _. ftrue) refl $ fjoin ! $
@@ -266,7 +282,8 @@ publish_spec 𝓤 𝓛 𝓜 𝓡 wired X L =
     fpack ! (IsStateOf R 2 (Holding x)) (λ _. ftrue) refl $ fjoin ! $
     use0 𝓛 (‵ ((FieldsType ℓ R).own_val (fields_of ℓ R k) (value_of k ∷ [])))
     (made ℓ R 𝓛 k (lit< tt)) $
-    fjoin ! $ move ! (1 ∷ 2 ∷ []) $ join ! $ move ! (1 ∷ []) $
+    fjoin ! $
+    -- [what the claim owns; the token; the other tokens; the claim's cell; the open borrow]
     let made_claim : G.Denot = record {
       at = slot_at;
       state = 2;
@@ -280,11 +297,16 @@ publish_spec 𝓤 𝓛 𝓜 𝓡 wired X L =
       reserved = h.reserved;
       learnt = Holding x;
     } in
+    move ! (3 ∷ 0 ∷ 4 ∷ 5 ∷ 6 ∷ []) $ closes ! tt G made_claim (value_of k ∷ []) rb ro $
+    feq_i ! (List Val) vss.0 (vptr rb ro ∷ []) are.0.0 $ fjoin3 ! $
+    nothing ! $ nothing ! $ fjoin ! $ nothing ! $ fjoin ! $ nothing ! $ fjoin ! $ move ! (1 ∷ 0 ∷ []) $ fjoin ! $
+    -- [what is left of the parameters; the reference's token; the token; the other tokens]
+    move ! (2 ∷ 3 ∷ []) $ fjoin ! $ move ! (2 ∷ 0 ∷ []) $ join ! $
     knows ! (F₃ made_claim) refl $
     knows ! (F₂ made_claim) refl $ join ! $
     knows ! (F₁ made_claim) (refl, refl, refl, refl, refl) $
     join ! $
-    nothing ! $ nothing ! $ fjoin ! $ nothing ! $ fjoin ! $ nothing ! $ fjoin ! $ nothing ! $
-    fjoin ! $ returns ! (look_at ! 0 refl) $ free_all ! refl $ keep ! (3 ∷ 0 ∷ 2 ∷ 1 ∷ []) $
-    by ! (leaves 𝓛 En hs c y (value_of k) made_claim (tt, (tt, (tt, (tt, tt))))
-    (tt, (tt, (tt, (tt, tt))))))))))))))))))))))
+    feq_i ! _ (vunit ∷ []) _ refl $
+    returns ! (look_at ! 0 refl) $ free_all ! refl $ keep ! (2 ∷ 3 ∷ 0 ∷ 1 ∷ []) $
+    by ! (leaves 𝓛 En hs c y vunit tt (made_claim, (tt, (tt, (tt, tt))))
+    (tt, (tt, (tt, (tt, tt))))))))))))))))))))))))

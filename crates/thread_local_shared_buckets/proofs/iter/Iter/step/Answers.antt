@@ -7,7 +7,7 @@ use denote.Param.{param}
 use Rattle.thread_local_base.specs.Cursor.{cursor_id}
 use Rattle.thread_local_ids.specs.TokenLists.{AllOf}
 use Rattle.thread_local_ids.specs.declared.witness.Witness.{Witness}
-use Rattle.thread_local_judged.specs.Judged.{Shareable}
+use Rattle.thread_local_base.specs.Judged.{Shareable}
 use Rattle.thread_local_shared_buckets.specs.Positions.{resting, owed, IsToldAt}
 use Rattle.thread_local_shared_buckets.specs.Walks.{WalkView, Goes, Ends, Yields, Meets, CanGo}
 use Rattle.thread_local_shared_buckets.specs.declared.steps.Walk.{Walk}

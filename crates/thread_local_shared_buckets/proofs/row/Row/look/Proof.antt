@@ -22,7 +22,7 @@ use denote.Steps.{looks, shuts}
 use denote.Memory.{hidden_shr, shared_of}
 use denote.Opens.{unhide}
 use denote.Ref.{ShrRef}
-use Rattle.thread_local_judged.specs.Judged.{Shareable}
+use Rattle.thread_local_base.specs.Judged.{Shareable}
 use denote.Struct.Lending.{lent_out}
 use Rattle.std.specs.contracts.marker.PhantomData as marker
 use Rattle.std.proofs.raw_atomic.Calls.{found, finds, loads, seq_cst}
@@ -32,9 +32,9 @@ use Rattle.thread_local_base.specs.Place.{id_at}
 use Rattle.thread_local_ids.specs.Views.{TokenView}
 use Rattle.thread_local_ids.specs.TokenLists.{AllOf, tell_each}
 use Rattle.thread_local_ids.specs.contracts.token_list.TokenList as TokenList
-use Rattle.thread_local_bucket_pointers.specs.Slots.{stride, each, value_words, flag_word_at, word_offset, value_offset}
-use Rattle.thread_local_bucket_pointers.proofs.Flags.{uncapped, value_near}
-use Rattle.thread_local_bucket_pointers.proofs.Slots.{IsWordNear, word_is_near}
+use Rattle.thread_local_buckets.specs.Slots.{stride, each, value_words, flag_word_at, word_offset, value_offset}
+use Rattle.thread_local_buckets.proofs.Flags.{uncapped, value_near}
+use Rattle.thread_local_buckets.proofs.Slots.{IsWordNear, word_is_near}
 use Rattle.thread_local_shared_buckets.specs.Shared.{BucketView, Turn, StandingBlock, block_code, pinned_and_told, Sized}
 use Rattle.thread_local_shared_buckets.specs.Shared.{first as first_id, bucket_invariant, row_owns, if_set, WereFlags, seen_as}
 use Rattle.thread_local_shared_buckets.proofs.ChunkLooks as steps

@@ -22,21 +22,21 @@ use denote.Memory.{hidden_shr, shared_of}
 use denote.Opens.{unhide, hide}
 use denote.Ref.{ShrRef}
 use denote.Struct.Tuple.{Tuple}
-use Rattle.thread_local_judged.specs.Judged.{Shareable}
+use Rattle.thread_local_base.specs.Judged.{Shareable}
 use denote.Struct.Lending.{lent_out}
 use Rattle.std.specs.contracts.marker.PhantomData as marker
 use Rattle.std.proofs.lemmas.Bool.{cases_lt}
 use Rattle.thread_local_base.specs.Bits.{is_set, is_set_in}
 use Rattle.thread_local_base.proofs.Pairs.{both, pair_in}
-use Rattle.thread_local_bucket_pointers.specs.Slots.{stride, value_offset}
-use Rattle.thread_local_bucket_pointers.proofs.Flags.{uncapped, value_near}
+use Rattle.thread_local_buckets.specs.Slots.{stride, value_offset}
+use Rattle.thread_local_buckets.proofs.Flags.{uncapped, value_near}
 use Rattle.thread_local_base.specs.Place.{id_at}
 use Rattle.thread_local_ids.specs.contracts.witness.Witness as Witness
 use Rattle.thread_local_ids.proofs.Made.{token_val, witness_made}
 use Rattle.thread_local_shared_buckets.specs.Shared.{BucketView, name_at, first as first_id, if_set, seen_value, seen_slot, seen_owns}
 use Rattle.thread_local_shared_buckets.proofs.ChunkLooks.{set_at_bit, behind_first}
 use Rattle.thread_local_shared_buckets.proofs.Inside.{name_at-get_or}
-use Rattle.thread_local_bucket_pointers.proofs.Each.{Put, each_at}
+use Rattle.thread_local_buckets.proofs.Each.{Put, each_at}
 use Rattle.thread_local_shared_buckets.specs.contracts.seen.Seen as Seen
 use Rattle.thread_local_shared_buckets.specs.contracts.seen.Seen.give.{ended, clauses}
 use Rattle.thread_local_shared_buckets.specs.contracts.seen.Seen.give.Key.{name as #self}
@@ -172,7 +172,7 @@ give_spec {M} 𝓤 𝓛 𝓜 𝓡 wired T L =
     let at_id : i + first_id R d ≡ id_at d.bucket i = omega arith in
     use0 𝓛 (raw (fact 𝓤 (IsTold (w₁, r))))
     (fact_i 𝓤 (IsTold (w₁, r)) (emp 𝓤) (refl, at_id, refl)) $
-    move ! (4 ∷ 0 ∷ []) $ join ! $ move ! (1 ∷ []) $
+    move ! (1 ∷ []) $
     nothing ! $ nothing ! $ fjoin ! $ nothing ! $ fjoin ! $
     returns ! (look_at ! 0 refl) $ free_all ! refl $ keep ! (3 ∷ 0 ∷ 1 ∷ 2 ∷ []) $
     by ! (leaves 𝓛 En hs c y u₁ (w₁, r) (tt, (tt, tt)) (tt, (tt, tt))))))))))))

@@ -24,14 +24,14 @@ use denote.Triple.Walked.{Stays, stay_dropped, walk_of, Goes-dropped}
 use Rattle.std.proofs.raw_atomic.Walks.{proved_at, leaves}
 use Rattle.std.proofs.cell.Inside.{Good}
 use Rattle.thread_local_base.specs.Owned.{IsOwned}
-use Rattle.thread_local_bucket_pointers.specs.contracts.bucket_pointers.BucketPointers as all_pointers
+use Rattle.thread_local_buckets.specs.contracts.bucket_pointers.BucketPointers as all_pointers
 use Rattle.thread_local_ids.specs.Told.{book_owns}
 use Rattle.thread_local_ids.specs.contracts.book.Book as Book
 use Rattle.thread_local_ids.proofs.Made.{token_val, book_made}
 use Rattle.thread_local_base.proofs.Pairs.{both, pair_in}
 use Rattle.std.proofs.ResultValues.{and_tt}
 use denote.Struct.Tuple.{Tuple}
-use Rattle.thread_local_bucket_pointers.proofs.bucket_pointers.BucketPointers.TheLaws as pointers'
+use Rattle.thread_local_buckets.proofs.bucket_pointers.BucketPointers.TheLaws as pointers'
 use Rattle.thread_local_shared_buckets.specs.TableView.{TableView}
 use Rattle.thread_local_shared_buckets.specs.contracts.shared.Shared as shared
 use Rattle.thread_local_shared_buckets.specs.contracts.shared.Shared.into_pointers.{ended, clauses, Key.name as #self}

@@ -10,7 +10,7 @@ use denote.Sharing.{said, some, ends, always}
 use denote.SharingLaws.{said_shr_laws, some_shr_laws, beside_shr_laws, ends_shr_laws, always_shr_laws}
 use denote.Param.Laws.{Laws}
 use Rattle.std.proofs.cell.BorrowLemmas.{by_one}
-use Rattle.thread_local_judged.specs.Judged.{Judged}
+use Rattle.thread_local_base.specs.Judged.{Judged}
 use Rattle.thread_local_base.specs.Fact.{fact}
 use Rattle.thread_local_shared_buckets.specs.Shared.{Turn, bucket_invariant, kept, bucket_shares}
 use Rattle.thread_local_shared_buckets.proofs.Lent.{P, lends_by}

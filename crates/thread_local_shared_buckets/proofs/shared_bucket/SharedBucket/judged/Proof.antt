@@ -8,7 +8,7 @@ use Rattle.thread_local_base.proofs.Names.{param, layouts, RefOf, shr_vals, shr_
 use Rattle.thread_local_base.proofs.Names.{Goes-dropped, proved, leaves}
 use Rattle.std.proofs.Common.{ℕ}
 use denote.Opens.{unhide}
-use Rattle.thread_local_judged.specs.Judged.{Judged}
+use Rattle.thread_local_base.specs.Judged.{Judged}
 use Rattle.thread_local_shared_buckets.specs.contracts.shared_bucket.SharedBucket as one_bucket
 use Rattle.thread_local_shared_buckets.specs.contracts.shared_bucket.SharedBucket.judged.{ended, clauses, Key.name as #self}
 use Rattle.thread_local_shared_buckets.proofs.shared_bucket.SharedBucket.judged.Statement.{statement}

@@ -28,7 +28,7 @@ use Rattle.std.proofs.raw_atomic.Calls.{seq_cst}
 use Rattle.std.proofs.raw_atomic.PtrCalls as calls
 use Rattle.std.proofs.raw_atomic.PtrCalls.{seq_cst_good}
 use Rattle.std.specs.contracts.option.Option as Opt
-use Rattle.thread_local_judged.specs.Judged.{Judged}
+use Rattle.thread_local_base.specs.Judged.{Judged}
 use Rattle.thread_local_base.specs.Fact.{fact as said_fact}
 use Rattle.thread_local_shared_buckets.specs.Shared.{BucketView, Sized, len, bucket_invariant, loaded, Found, row_as}
 use Rattle.thread_local_shared_buckets.specs.contracts.shared_bucket.SharedBucket as one_bucket
@@ -38,7 +38,7 @@ use Rattle.thread_local_shared_buckets.proofs.RowFields.{row_val, row_good, Fiel
 use Rattle.thread_local_shared_buckets.proofs.Loads.{glimpse, reaches, reads, NoneThere, none_there, forgets}
 use Rattle.thread_local_shared_buckets.proofs.shared_bucket.SharedBucket.load.Statement.{statement}
 use Rattle.thread_local_shared_buckets.proofs.shared_bucket.SharedBucket.load.Code as code
-use Rattle.thread_local_bucket_pointers.proofs.Slots.{ptr_good}
+use Rattle.thread_local_buckets.proofs.Slots.{ptr_good}
 use Rattle.thread_local_base.proofs.Walking.{knows, lends_token, returns_token}
 
 pub load_spec : {M : Type 1} → statement M

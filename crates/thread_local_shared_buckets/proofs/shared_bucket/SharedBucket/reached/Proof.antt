@@ -31,7 +31,7 @@ use Rattle.thread_local_shared_buckets.proofs.RowFields.{word_laws}
 use Rattle.thread_local_shared_buckets.proofs.Loads.{glimpse, reads}
 use Rattle.thread_local_shared_buckets.proofs.shared_bucket.SharedBucket.reached.Statement.{statement}
 use Rattle.thread_local_shared_buckets.proofs.shared_bucket.SharedBucket.reached.Code as code
-use Rattle.thread_local_bucket_pointers.proofs.Slots.{ptr_good}
+use Rattle.thread_local_buckets.proofs.Slots.{ptr_good}
 use Rattle.thread_local_base.proofs.Walking.{knows, lends_token, returns_token}
 
 pub reached_spec : {M : Type 1} → statement M

@@ -25,8 +25,8 @@ use Rattle.std.proofs.raw_atomic.PtrCalls as calls
 use Rattle.std.proofs.raw_atomic.PtrCalls.{seq_cst_good}
 use Rattle.thread_local_base.specs.Place.{id_at}
 use Rattle.thread_local_base.specs.Fact.{fact as said_fact}
-use Rattle.thread_local_bucket_pointers.specs.Slots.{stride, value_offset}
-use Rattle.thread_local_bucket_pointers.proofs.Flags.{uncapped, value_near}
+use Rattle.thread_local_buckets.specs.Slots.{stride, value_offset}
+use Rattle.thread_local_buckets.proofs.Flags.{uncapped, value_near}
 use Rattle.thread_local_ids.specs.Told.{tells}
 use Rattle.thread_local_ids.proofs.ToldElements.{told_dup}
 use Rattle.thread_local_ids.specs.contracts.witness.Witness as Witness
@@ -39,7 +39,7 @@ use Rattle.thread_local_shared_buckets.proofs.Loads.{glimpse, reaches, reads, un
 use Rattle.thread_local_shared_buckets.proofs.Looks.{finds}
 use Rattle.thread_local_shared_buckets.proofs.shared_bucket.SharedBucket.value.Statement.{statement}
 use Rattle.thread_local_shared_buckets.proofs.shared_bucket.SharedBucket.value.Code as code
-use Rattle.thread_local_bucket_pointers.proofs.Slots.{ptr_good}
+use Rattle.thread_local_buckets.proofs.Slots.{ptr_good}
 use Rattle.thread_local_base.proofs.Walking.{knows, lends_token, returns_token}
 use Rattle.thread_local_shared_buckets.proofs.Inside.{placed}
 

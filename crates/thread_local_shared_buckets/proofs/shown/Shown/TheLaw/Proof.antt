@@ -16,7 +16,7 @@ use denote.Struct.Lending.{of_Lends}
 use Rattle.std.specs.contracts.marker.PhantomData as P
 use Rattle.thread_local_ids.proofs.Twice.{lends_twice, said_laws}
 use Rattle.thread_local_base.specs.Fact.{fact}
-use Rattle.thread_local_judged.specs.Judged.{Shareable}
+use Rattle.thread_local_base.specs.Judged.{Shareable}
 use Rattle.thread_local_shared_buckets.specs.contracts.shown.Shown as C
 use Rattle.thread_local_shared_buckets.proofs.shown.Shown.TheLaw.Statement.{statement}
 

@@ -6,7 +6,7 @@ use Rattle.thread_local_base.proofs.Names.{fact, RattleType, nothing, heard, par
 use Rattle.thread_local_base.proofs.Names.{proved, leaves}
 use denote.Param.Send.{IsSync}
 use denote.Signature.{named_lft}
-use Rattle.thread_local_judged.specs.Judged.{Shareable}
+use Rattle.thread_local_base.specs.Judged.{Shareable}
 use Rattle.thread_local_shared_buckets.specs.contracts.shown.Shown.new.{ended, clauses, Key.name as #self}
 use Rattle.thread_local_shared_buckets.proofs.Fields.{shown_val, Bare, made}
 use Rattle.thread_local_shared_buckets.proofs.shown.Shown.new.Statement.{statement}

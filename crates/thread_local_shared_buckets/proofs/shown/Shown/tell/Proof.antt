@@ -12,7 +12,7 @@ use denote.Opens.{unhide}
 use denote.Signature.{named_lft}
 use denote.Struct.Lending.{lent_out}
 use Rattle.thread_local_base.specs.Fact.{fact as said_fact}
-use Rattle.thread_local_judged.specs.Judged.{Shareable}
+use Rattle.thread_local_base.specs.Judged.{Shareable}
 use Rattle.thread_local_shared_buckets.specs.contracts.shown.Shown as Shown
 use Rattle.thread_local_shared_buckets.specs.contracts.shown.Shown.tell.{ended, clauses, Key.name as #self}
 use Rattle.thread_local_shared_buckets.proofs.Fields.{Bare}

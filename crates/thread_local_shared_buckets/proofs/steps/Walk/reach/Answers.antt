@@ -1,5 +1,5 @@
 use Rattle.std.proofs.Common.{◌≡◌, ap, arith}
-use Rattle.thread_local_bucket_pointers.specs.declared.cursor.RawIter.{RawIter}
+use Rattle.thread_local_buckets.specs.declared.cursor.RawIter.{RawIter}
 use Rattle.thread_local_shared_buckets.proofs.AtHandLaws.{comes_nowhere, comes_by_look, comes_by_move, comes_then, reaches}
 use Rattle.thread_local_shared_buckets.proofs.steps.Walk.reach.Goals as goal
 

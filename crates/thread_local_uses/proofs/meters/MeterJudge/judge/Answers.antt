@@ -1,6 +1,6 @@
 -- A `&` to a `Meter` names a thread, as its first cell does: it holds the token of the one that may use the cell.
 use Rattle.std.proofs.Common.{[], inr, false}
-use Rattle.thread_local_judged.proofs.Everywhere.{known}
+use Rattle.thread_local_base.proofs.Everywhere.{known}
 use Rattle.thread_local_uses.proofs.meters.MeterJudge.judge.Goals as goal
 
 pub returns-clause-everywhere : goal.returns-clause-everywhere

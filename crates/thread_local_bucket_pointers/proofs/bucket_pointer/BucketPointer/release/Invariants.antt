@@ -1,5 +1,0 @@
-use Rattle.std.proofs.Common.{◌≡◌, ◌+◌, length}
-use Rattle.thread_local_bucket_pointers.proofs.bucket_pointer.BucketPointer.release.Given as goal
-
-abbrev pub invariant-slots : goal.invariant-slots
-invariant-slots g l = (l.retired.heap ≡ l.alloc) × (l.retired.gone ≡ l.index) × (length l.retired.slots + l.index ≡ l.len)

@@ -1,0 +1,138 @@
+-- How many values the flags of a chunk count.
+use Rattle.std.proofs.Common.{◌≡◌, ◌≢◌, ◌⊎◌, inl, inr, ℕ, ◌+◌, ◌-◌, ◌*◌, ◌/◌, ◌%◌, ◌^◌, ◌<◌, ◌≤◌, min, length}
+use Rattle.std.proofs.Common.{zero, suc, [], false, count_ones, is_some, sym, ap, subst, ◌∙◌, arith, ⊎_elim}
+use Rattle.std.proofs.lemmas.Bool.{cases_lt}
+use Rattle.std.proofs.lemmas.Nat.{pow_below, pow-add, zero_from_ones}
+use Rattle.thread_local_base.specs.Bits.{is_set, IsLowestSet, IsWordBut}
+use Rattle.thread_local_base.specs.Place.{id_at}
+use Rattle.thread_local_base.specs.Buckets.{Contents, row, values}
+use Rattle.thread_local_base.specs.Rows.{value_in}
+use Rattle.thread_local_base.specs.Counting.{count_below}
+use Rattle.thread_local_base.specs.Walk.{walk}
+use Rattle.thread_local_base.proofs.TakingLaws.{count_below-absent, count_below-fits, count_below-walk}
+use Rattle.thread_local_buckets.specs.Announced.{AreAhead}
+use Rattle.thread_local_buckets.proofs.Passing.{Takes, takes, none_ahead}
+use Rattle.thread_local_buckets.proofs.CountingLaws.{count_below-chunk}
+
+module _ {V : Type 0} (first now : Contents V) (b k word : ℕ) (same : now ≡ first)
+    (whole : length (row first b) ≡ 2 ^ b) (fits : word < 2 ^ 64)
+    (flags : (bit : ℕ) → bit < 64 → is_set word bit ≡ is_some (value_in now b (k * 64 + bit))) where
+  -- how many values there were at first before the slot at this index
+  abbrev first_to : ℕ → ℕ
+  first_to i = count_below (values first) (id_at b i)
+
+  chunk_adds : k * 64 ≤ 2 ^ b → first_to (min ((k + 1) * 64) (2 ^ b)) ≡ first_to (k * 64) + count_ones word
+  chunk_adds low =
+      count_below-chunk first b k word whole low
+      (λ bit within. flags bit within ∙ ap (λ w. is_some (value_in w b (k * 64 + bit))) same) fits
+
+  -- a further chunk adds what its word counts
+  pub chunk_counted : (base count : ℕ) → k < (2 ^ b + 63) / 64
+      → base + count ≡ first_to (min (k * 64) (2 ^ b))
+      → base + (count + count_ones word) ≡ first_to (min ((k + 1) * 64) (2 ^ b))
+  chunk_counted base count inside counted =
+      let here : min (k * 64) (2 ^ b) ≡ k * 64 = omega arith in
+      let before : base + count ≡ first_to (k * 64) = counted ∙ ap first_to here in
+      let more = chunk_adds (omega arith) in
+      omega (arith, before, more)
+
+  -- a chunk of 64 slots adds what its word counts
+  pub whole_counted : (k + 1) * 64 ≤ 2 ^ b → first_to ((k + 1) * 64) ≡ first_to (k * 64) + count_ones word
+  whole_counted inside =
+      let end : min ((k + 1) * 64) (2 ^ b) ≡ (k + 1) * 64 = omega arith in
+      let more = chunk_adds (omega arith) in
+      let next = ap first_to end in
+      omega (arith, more, next)
+
+  -- a word that is 0 counts nothing
+  pub none_counted : (k + 1) * 64 ≤ 2 ^ b → word ≡ 0 → first_to (k * 64) ≡ first_to ((k + 1) * 64)
+  unfolding lib.Count.ones
+  none_counted inside unset = let none : count_ones word ≡ 0 = ap count_ones unset in omega (arith, whole_counted inside, none)
+
+  -- and any other counts something
+  pub some_counted : (k + 1) * 64 ≤ 2 ^ b → word ≢ 0 → first_to (k * 64) < first_to ((k + 1) * 64)
+  some_counted inside set =
+      let some : count_ones word ≢ 0 = λ none. set (zero_from_ones word none) in
+      omega (arith, whole_counted inside, some)
+
+-- a bucket of 64 slots and more has whole chunks
+whole_chunks : (b : ℕ) → (2 ^ b < 64) ⊎ (2 ^ b % 64 ≡ 0)
+whole_chunks b =
+    ⊎_elim
+    (λ (small : b < 6). inl (pow_below b 6 small))
+    (λ (large : 6 ≤ b).
+    let parts : 2 ^ b ≡ 2 ^ (b - 6) * 64 = (let sum : b ≡ b - 6 + 6 = omega arith in ap (λ i. 2 ^ i) sum ∙ pow-add 2 (b - 6) 6) in
+    inr (omega arith))
+    (cases_lt b 6)
+
+-- groups of eight chunks are inside their bucket
+pub groups_inside : (b groups : ℕ) → groups ≤ (2 ^ b + 63) / 64 / 8 → groups * 8 * 64 ≤ 2 ^ b
+groups_inside b groups few = ⊎_elim (λ (small : 2 ^ b < 64). omega arith) (λ (whole : 2 ^ b % 64 ≡ 0). omega arith) (whole_chunks b)
+
+-- buckets that don't stand add none
+pub absent_counted : {V : Type 0} (c : Contents V) (first n : ℕ)
+    → ((k : ℕ) → first ≤ k → k < first + n → row c k ≡ [])
+    → count_below (values c) (id_at (first + n) 0) ≡ count_below (values c) (id_at first 0)
+absent_counted c first zero absent = let none : first + 0 ≡ first = omega arith in ap (λ b. count_below (values c) (id_at b 0)) none
+absent_counted c first (suc n) absent =
+    let next : first + suc n ≡ first + n + 1 = omega arith in
+    ap (λ b. count_below (values c) (id_at b 0)) next
+    ∙ count_below-absent c (first + n) (absent (first + n) (omega arith) (omega arith))
+    ∙ absent_counted c first n (λ k from within. absent k from (omega (arith, within)))
+
+-- the count of a bucket, which is the same for the pointers as they were at first
+pub counted_at_first : {V : Type 0} (now first : Contents V) (b n : ℕ) → now ≡ first
+    → count_below (values now) (id_at b 0) + n ≡ count_below (values now) (id_at (b + 1) 0)
+    → count_below (values first) (id_at b 0) + n ≡ count_below (values first) (id_at (b + 1) 0)
+counted_at_first now first b n same counted =
+    subst (λ (w : Contents _).
+    count_below (values w) (id_at b 0) + n ≡ count_below (values w) (id_at (b + 1) 0))
+    same counted
+
+-- a loop over announced buckets has counted the values of those that it has taken out of the word
+pub record IsCounted {V : Type 0} (contents : Contents V) (left count : ℕ) : Type 0 where
+  pub from : ℕ
+  pub low : from ≤ 63
+  pub ahead : AreAhead contents left from
+  pub counted : count ≡ count_below (values contents) (id_at from 0)
+
+module _ {V : Type 0} where
+  -- the values up to the bucket that the loop takes next
+  counted_up : (c : Contents V) (count rest from b : ℕ) → Takes c rest from b → count ≡ count_below (values c) (id_at from 0)
+      → count ≡ count_below (values c) (id_at b 0)
+  counted_up c count rest from b taken counted =
+      let order = taken.after in
+      let whole : from + (b - from) ≡ b = omega arith in
+      counted
+      ∙ sym (absent_counted c from (b - from) (λ k after near. taken.absent k after (omega (arith, near))))
+      ∙ ap (λ k. count_below (values c) (id_at k 0)) whole
+
+  -- the loop takes a bucket that stands
+  pub counted_more : (now c : Contents V) (count more left rest b : ℕ) → IsCounted c left count → IsLowestSet left b
+      → IsWordBut rest left b false → now ≡ c → count_below (values now) (id_at b 0) + more ≡ count_below (values now) (id_at (b + 1) 0)
+      → IsCounted c rest (count + more)
+  counted_more now c count more left rest b so low but same here =
+      let taken = takes c left rest so.from b so.ahead low but in
+      let before = counted_up c count rest so.from b taken so.counted in
+      let first = counted_at_first now c b more same here in
+      record {
+        from = b + 1;
+        low = (let low = taken.in_table in omega arith);
+        ahead = taken.ahead;
+        counted = omega (arith, before, first);
+      }
+
+  pub counted_fits : (c : Contents V) (left count : ℕ) → IsCounted c left count → count < 2 ^ 63
+  counted_fits c left count so =
+      let fits = count_below-fits (values c) so.from so.low in omega (arith, fits, so.counted)
+
+  -- where no bucket is left, all values are counted
+  pub counted_all : (c : Contents V) (left count : ℕ) → IsCounted c left count → left ≡ 0 → count ≡ length (walk (values c))
+  counted_all c left count so none =
+      let low = so.low in
+      let end : so.from + (63 - so.from) ≡ 63 = omega arith in
+      so.counted
+      ∙ sym (absent_counted c so.from (63 - so.from)
+      (λ k after near. none_ahead c left so.from so.ahead none k after (omega (arith, near))))
+      ∙ ap (λ k. count_below (values c) (id_at k 0)) end
+      ∙ count_below-walk (values c)

@@ -1,0 +1,86 @@
+use Rattle.std.proofs.Common.{◌≡◌, ◌≢◌, ℕ, zero, suc, ◌+◌, ◌*◌, ◌/◌, ◌%◌, ◌^◌, ◌<◌, bit_and, false, List, [], ◌∷◌, length, slice_set}
+use Rattle.std.proofs.Common.{Option, None, Some, is_some, refl, sym, ap, ◌∙◌, arith, ⊎_elim}
+use Rattle.std.proofs.lemmas.Bool.{cases_eq, ne_eqb}
+use Rattle.std.proofs.lemmas.List.{get_or-set_same, get_or-set_other, length-set}
+use Rattle.thread_local_base.specs.Bits.{is_set}
+use Rattle.thread_local_base.proofs.Word.{is_set-test, place_below}
+use Rattle.thread_local_buckets.specs.Slots.{slot_value, empty_slots}
+use Rattle.thread_local_buckets.proofs.bucket_pointer.BucketPointer.empty.Goals as goal
+use Rattle.thread_local_buckets.proofs.bucket_pointer.BucketPointer.empty.Goals.{then-flags-index-eq1, else-flags-index-eq1}
+
+-- slots that are all empty
+all_empty : {X : Type 0} (slots : List (Option X)) (n : ℕ) → length slots ≡ n
+    → ((k : ℕ) → k < n → slot_value slots k ≡ None)
+    → slots ≡ empty_slots n
+all_empty [] zero long each = refl
+all_empty [] (suc n) long each = absurd (omega arith)
+all_empty (s ∷ slots) zero long each = absurd (omega arith)
+all_empty (s ∷ slots) (suc n) long each =
+    let first : s ≡ None = each 0 (omega arith) in
+    let rest : slots ≡ empty_slots n = all_empty slots n (omega arith) (λ k near. each (suc k) (omega arith)) in
+    ap (λ t. t ∷ slots) first ∙ ap (λ ts. None ∷ ts) rest
+
+pub returns : goal.returns
+returns g c =
+    all_empty c.slots.self.slots c.args.len c.slots.invariant.whole
+    (λ k near. c.slots.invariant.empty k (omega (arith, near, c.slots-test.false)))
+
+-- a slot more is empty, once its value is taken
+emptied : {X : Type 0} (old new : List (Option X)) (index len : ℕ) → length old ≡ len → index < len
+    → ((k : ℕ) → k < index → slot_value old k ≡ None) → new ≡ slice_set old index None
+    → (length new ≡ len) × ((k : ℕ) → k < index + 1 → slot_value new k ≡ None)
+emptied {X = X} old new index len long near before is = (
+  ap length is ∙ length-set old index None ∙ long,
+  λ k below.
+      ap (λ (slots : List (Option X)). slot_value slots k) is ∙ ⊎_elim
+      (λ (here : k ≡ index). rw here (get_or-set_same old index None None (omega arith)))
+      (λ (apart : k ≢ index). get_or-set_other old index k None None apart ∙ before k (omega arith))
+      (cases_eq k index),
+)
+
+none_there : {X : Type 0} (slot : Option X) → is_some slot ≡ false → slot ≡ None
+none_there None none = refl
+none_there (Some x) none = cc
+
+-- or where its flag isn't set
+unset : {X : Type 0} (slots : List (Option X)) (index flags : ℕ)
+    → ((bit : ℕ) → bit < 64 → is_set flags bit ≡ is_some (slot_value slots (index / 64 * 64 + bit)))
+    → (bit_and (flags / 2 ^ (index % 64)) 1 ≢ 1)
+    → slot_value slots index ≡ None
+unset slots index flags seen not_one =
+    let at : index / 64 * 64 + index % 64 ≡ index = omega arith in
+    none_there (slot_value slots index)
+    (ap (λ (k : ℕ). is_some (slot_value slots k)) (sym at)
+    ∙ sym (seen (index % 64) (place_below index)) ∙ sym (is_set-test flags (index % 64))
+    ∙ ne_eqb (bit_and (flags / 2 ^ (index % 64)) 1) 1 not_one)
+
+kept_empty : {X : Type 0} (old new : List (Option X)) (index len : ℕ) → length old ≡ len
+    → ((k : ℕ) → k < index → slot_value old k ≡ None) → slot_value old index ≡ None → new ≡ old
+    → (length new ≡ len) × ((k : ℕ) → k < index + 1 → slot_value new k ≡ None)
+kept_empty {X = X} old new index len long before none is = (
+  ap length is ∙ long,
+  λ k below.
+      ap (λ (slots : List (Option X)). slot_value slots k) is ∙ ⊎_elim
+      (λ (here : k ≡ index). rw here none)
+      (λ (apart : k ≢ index). before k (omega arith))
+      (cases_eq k index),
+)
+
+pub slots-preserved : goal.slots-preserved
+slots-preserved g c =
+    let old : List (Option g.row.T.Denot) = c.slots.self.slots in
+    let new : List (Option g.row.T.Denot) = c.if-flags-index-eq1.self.slots in
+    let index : ℕ = c.slots.index in
+    let kept = c.slots.invariant in
+    elim c.if-flags-index-eq1.branch [
+      | then-flags-index-eq1 w ↦
+          let is : new ≡ slice_set old index None =
+          ap (λ p. p.slots) w.self-is ∙ w.take.ensures.after ∙ ap (λ p. slice_set p.slots index None) c.flags.ensures.same in
+          let more = emptied old new index c.args.len kept.whole c.slots-test.true kept.empty is in
+          record { whole = more.0; empty = more.1 }
+      | else-flags-index-eq1 w ↦
+          let is : new ≡ old = ap (λ p. p.slots) w.self-is ∙ ap (λ p. p.slots) c.flags.ensures.same in
+          let none = unset old index c.flags.result c.flags.ensures.value w.if-flags-index-eq1.false in
+          let more = kept_empty old new index c.args.len kept.whole kept.empty none is in
+          record { whole = more.0; empty = more.1 }
+    ]

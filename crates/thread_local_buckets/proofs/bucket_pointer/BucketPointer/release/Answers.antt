@@ -1,0 +1,88 @@
+use Rattle.std.proofs.Common.{◌≡◌, ◌⊎◌, ◌+◌, ◌<◌, ◌≤◌, ℕ, List, [], ◌∷◌, length, Option, true, false, inl, inr, refl, sym, ap, ◌∙◌, subst, arith}
+use Rattle.std.specs.Prelude.{nat_lt}
+use Rattle.std.proofs.lemmas.Bool.{lt-ltb, ltb-true, true≢false}
+use Rattle.thread_local_buckets.specs.Retired.{rest}
+use Rattle.thread_local_buckets.proofs.bucket_pointer.BucketPointer.release.Goals as goal
+
+no_slots : {X : Type 0} (cs : List X) → false ≡ nat_lt 0 (length cs) → cs ≡ []
+no_slots [] absent = refl
+no_slots (x ∷ cs) absent = absurd (true≢false (sym (lt-ltb 0 (length (x ∷ cs)) (omega arith)) ∙ sym absent))
+
+-- a block that stands has all its slots
+all_slots : (n len : ℕ) → (n ≡ 0) ⊎ (n ≡ len) → true ≡ nat_lt 0 n → n ≡ len
+all_slots n len (inl none) stands = absurd (let some = ltb-true 0 n (sym stands) in omega arith)
+all_slots n len (inr all) stands = all
+
+none_left : {X : Type 0} (cs : List (Option X)) (i len : ℕ) → length cs + i ≡ len → len ≤ i → cs ≡ []
+none_left [] i len all past = refl
+none_left (c ∷ cs) i len all past = absurd (omega arith)
+
+one_less : {X : Type 0} (cs ds : List (Option X)) (i len : ℕ) → ds ≡ rest cs → length cs + i ≡ len → i < len
+    → length ds + (i + 1) ≡ len
+one_less [] ds i len is all near = absurd (omega arith)
+one_less (c ∷ cs) ds i len is all near = let long : length ds ≡ length cs = ap length is in omega arith
+
+-- The search for each of these takes a quarter of a second or more.
+pub returns-then-not-stands : goal.returns-then-not-stands
+returns-then-not-stands g c =
+    ap (λ w. w.slots) c.stands.ensures.same ∙ no_slots c.args.self.now.slots c.if-not-stands.ensures.value
+
+pub lift-requires : goal.lift-requires
+lift-requires g c =
+    subst (λ w. 0 < length w.slots) (sym c.stands.ensures.same)
+    (ltb-true 0 (length c.args.self.now.slots) (sym c.if-not-stands.ensures.value))
+
+pub of-retired-requires-clause-whole : goal.of-retired-requires-clause-whole
+of-retired-requires-clause-whole g c = c.lift.ensures.block.2
+
+pub of-retired-requires-clause-empty : goal.of-retired-requires-clause-empty
+of-retired-requires-clause-empty g c = refl
+
+pub slots-init : goal.slots-init
+slots-init g c =
+    let slots = c.args.self.now.slots in
+    let long : (length slots ≡ 0) ⊎ (length slots ≡ c.args.len) = elim c.requires [
+      | inl none ↦ inl (ap length none)
+      | inr all ↦ inr all
+    ] in
+    let all : length slots ≡ c.args.len = all_slots (length slots) c.args.len long c.if-not-stands.ensures.value in
+    let same : c.of-retired.result.slots ≡ slots =
+    c.of-retired.ensures.1 ∙ c.lift.ensures.block.1 ∙ ap (λ w. w.slots) c.stands.ensures.same in
+    let still : length c.of-retired.result.slots ≡ c.args.len = ap length same ∙ all in (
+      c.of-retired.ensures.0 ∙ c.lift.ensures.block.0,
+      c.of-retired.ensures.2,
+      (let z : (n len : ℕ) → n ≡ len → n + 0 ≡ len = λ n len e. omega (arith, e) in z (length c.of-retired.result.slots) c.args.len still),
+    )
+
+pub drop_next-requires-clause-next : goal.drop_next-requires-clause-next
+drop_next-requires-clause-next g c =
+    let kept = c.slots.invariant in
+    let some : (n i len : ℕ) → n + i ≡ len → i < len → 0 < n = λ n i len all near. omega (arith, all, near) in
+    (sym kept.1, some (length c.slots.retired.slots) c.slots.index c.args.len kept.2 c.slots-test.true)
+
+pub drop_next-requires-clause-len : goal.drop_next-requires-clause-len
+drop_next-requires-clause-len g c =
+    let kept = c.slots.invariant in
+    let whole : (gone n i len : ℕ) → gone ≡ i → n + i ≡ len → len ≡ gone + n = λ gone n i len is all. omega (arith, is, all) in
+    whole c.slots.retired.gone (length c.slots.retired.slots) c.slots.index c.args.len kept.1 kept.2
+
+pub slots-preserved : goal.slots-preserved
+slots-preserved g c =
+    let kept = c.slots.invariant in
+    let after = c.drop_next.ensures in (
+      after.0 ∙ kept.0,
+      after.2 ∙ ap (λ (n : ℕ). n + 1) kept.1,
+      one_less c.slots.retired.slots c.drop_next.new.self.slots c.slots.index c.args.len after.1 kept.2 c.slots-test.true,
+    )
+
+pub deallocate-requires-clause-left : goal.deallocate-requires-clause-left
+deallocate-requires-clause-left g c =
+    let kept = c.slots.invariant in
+    let end : (n i len : ℕ) → n + i ≡ len → len ≤ i → i ≡ len = λ n i len all past. omega (arith, all, past) in (
+      kept.0,
+      none_left c.slots.retired.slots c.slots.index c.args.len kept.2 c.slots-test.false,
+      kept.1 ∙ end (length c.slots.retired.slots) c.slots.index c.args.len kept.2 c.slots-test.false,
+    )
+
+pub returns : goal.returns
+returns g c = c.lift.ensures.null

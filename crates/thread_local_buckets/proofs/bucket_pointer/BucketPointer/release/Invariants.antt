@@ -1,0 +1,5 @@
+use Rattle.std.proofs.Common.{◌≡◌, ◌+◌, length}
+use Rattle.thread_local_buckets.proofs.bucket_pointer.BucketPointer.release.Given as goal
+
+abbrev pub invariant-slots : goal.invariant-slots
+invariant-slots g l = (l.retired.heap ≡ l.alloc) × (l.retired.gone ≡ l.index) × (length l.retired.slots + l.index ≡ l.len)

@@ -1,0 +1,65 @@
+use Rattle.std.proofs.Common.{◌+◌, ◌∙◌, length, refl, ap, arith, lit<}
+use Rattle.thread_local_base.specs.Buckets.{Contents, row}
+use Rattle.thread_local_buckets.proofs.Counting.{counted_more, counted_fits, counted_all}
+use Rattle.thread_local_buckets.proofs.bucket_pointers.BucketPointers.count_further.Goals as goal
+
+pub overflow_add-count : goal.overflow_add-count
+overflow_add-count g c =
+    let so = c.buckets.invariant.counted in
+    let next =
+    counted_more c.stands.new.self c.args.self.now c.buckets.count c.count_in_bucket-count.result c.buckets.left
+    c.take_first-bucket.new.buckets c.take_first-bucket.result so c.take_first-bucket.ensures.first
+    c.take_first-bucket.ensures.rest (c.stands.ensures.same ∙ c.buckets.invariant.same)
+    c.count_in_bucket-count.ensures.counted in
+    let fits = counted_fits c.args.self.now c.take_first-bucket.new.buckets (c.buckets.count + c.count_in_bucket-count.result) next in
+    omega (arith, fits)
+
+pub buckets-preserved-then-stands : goal.buckets-preserved-then-stands
+buckets-preserved-then-stands g c =
+    record {
+      counted =
+          counted_more c.stands.new.self c.args.self.now c.buckets.count c.count_in_bucket-count.result c.buckets.left
+          c.take_first-bucket.new.buckets c.take_first-bucket.result c.buckets.invariant.counted
+          c.take_first-bucket.ensures.first c.take_first-bucket.ensures.rest
+          (c.stands.ensures.same ∙ c.buckets.invariant.same) c.count_in_bucket-count.ensures.counted;
+      same = c.count_in_bucket-count.ensures.same ∙ c.stands.ensures.same ∙ c.buckets.invariant.same;
+    }
+
+pub returns-clause-counted : goal.returns-clause-counted
+returns-clause-counted g c =
+    counted_all c.args.self.now c.buckets.left c.buckets.count c.buckets.invariant.counted c.buckets-test.false
+
+pub returns-clause-fits : goal.returns-clause-fits
+returns-clause-fits g c = counted_fits c.args.self.now c.buckets.left c.buckets.count c.buckets.invariant.counted
+
+-- The search for these takes a second.
+pub buckets-init : goal.buckets-init
+buckets-init g c = record {
+  counted = record { from = 7; low = omega arith; ahead = c.requires.ahead; counted = c.requires.counted };
+  same = refl;
+}
+
+pub stands-requires : goal.stands-requires
+stands-requires g c =
+    let first = c.take_first-bucket.ensures.first in
+    (lit< tt, (c.buckets.invariant.counted.ahead.inside c.take_first-bucket.result first.within first.set).1)
+
+pub bucket_size-requires : goal.bucket_size-requires
+bucket_size-requires g c = c.take_first-bucket.ensures.first.within
+
+pub count_in_bucket-count-requires : goal.count_in_bucket-count-requires
+count_in_bucket-count-requires g c =
+    let first = c.take_first-bucket.ensures.first in (
+      lit< tt,
+      (
+        (c.buckets.invariant.counted.ahead.inside c.take_first-bucket.result first.within first.set).1,
+        (
+          ap (λ (w : Contents g.row.T.Denot). length (row w c.take_first-bucket.result)) c.stands.ensures.same
+              ∙ c.stands.ensures.whole c.if-stands.true,
+          c.bucket_size.ensures,
+        ),
+      ),
+    )
+
+pub returns-clause-same : goal.returns-clause-same
+returns-clause-same g c = c.buckets.invariant.same

@@ -1,0 +1,97 @@
+use Rattle.std.specs.Prelude.{OnErr}
+use Rattle.std.proofs.Common.{◌≡◌, ◌∙◌, ◌*◌, ◌^◌, ◌%◌, ℕ, bit_or, List, Option, Result, Ok, Err, length, inr, lit<, sym, ap, subst, arith, pow_pos}
+use Rattle.std.proofs.lemmas.Bool.{cond-true, cond-false}
+use Rattle.thread_local_base.specs.Buckets.{Contents, row, stands}
+use Rattle.thread_local_base.specs.Rows.{with_row, empty_row}
+use Rattle.thread_local_base.proofs.RowLaws.{length-empty_row}
+use Rattle.thread_local_base.proofs.StandingLaws.{row-absent}
+use Rattle.thread_local_buckets.specs.Slots.{empty_slots}
+use Rattle.thread_local_buckets.specs.Pointers.{contents_of}
+use Rattle.thread_local_buckets.proofs.Announcing.{IsAnnounced, IsAnnounced-laid}
+use Rattle.thread_local_buckets.proofs.ContentsOf.{row_changes, row_seen}
+use Rattle.thread_local_buckets.proofs.bucket_pointers.BucketPointers.ensure_bucket.Goals as goal
+
+-- the slots of a new block are those of an empty bucket
+new_row : {X : Type 0} (slots : List (Option X)) (size b : ℕ) → slots ≡ empty_slots size → size ≡ 2 ^ b → slots ≡ empty_row b
+new_row {X = X} slots size b made is = made ∙ ap (λ (n : ℕ). empty_slots {X = X} n) is
+
+-- what holds in any case
+either : {X E P : Type 0} (result : Result X E) → P → OnErr result P
+either (Ok x) here = tt
+either (Err e) here = here
+
+-- The search for these takes two seconds.
+pub stands-requires : goal.stands-requires
+stands-requires g c = (lit< tt, c.requires)
+
+pub returns-then-stands-clause-err : goal.returns-then-stands-clause-err
+returns-then-stands-clause-err g c = tt
+
+pub returns-then-stands-clause-refused : goal.returns-then-stands-clause-refused
+returns-then-stands-clause-refused g c = tt
+
+pub returns-then-stands-clause-ok : goal.returns-then-stands-clause-ok
+returns-then-stands-clause-ok g c =
+    let now = c.args.self.now in
+    let b = c.args.bucket in
+    c.stands.ensures.same
+    ∙ sym (cond-true (stands now b) now (with_row now b (empty_row b)) (sym c.stands.ensures.value ∙ c.if-stands.true))
+
+pub returns-then-stands-clause-absent : goal.returns-then-stands-clause-absent
+returns-then-stands-clause-absent g c = λ missing. row-absent c.args.self.now c.args.bucket missing
+
+pub returns-then-stands-clause-table : goal.returns-then-stands-clause-table
+returns-then-stands-clause-table g c = c.stands.ensures.table
+
+pub lay-requires-clause-made : goal.lay-requires-clause-made
+lay-requires-clause-made g c =
+    let b : ℕ = c.args.bucket in
+    let long : length c.in_ok-block.block.slots ≡ 2 ^ b =
+    ap length (new_row c.in_ok-block.block.slots c.bucket_size.result b c.in_ok-block.ensures.1
+    c.bucket_size.ensures)
+    ∙ length-empty_row _ b in
+    (c.in_ok-block.ensures.2, omega (arith, long, pow_pos b))
+
+pub lay-requires-clause-null : goal.lay-requires-clause-null
+lay-requires-clause-null g c =
+    sym (row_seen c.self.inside.pointers c.stands.new.self c.args.bucket c.pointer_mut.result.now c.self.view_is
+    c.pointer_mut.ensures.value)
+    ∙ ap (λ (k : Contents g.row.T.Denot). row k c.args.bucket) c.stands.ensures.same
+    ∙ c.stands.ensures.absent c.if-stands.false
+
+pub invariant_of-self : goal.invariant_of-self
+invariant_of-self g c =
+    let b : ℕ = c.args.bucket in
+    let made = new_row c.in_ok-block.block.slots c.bucket_size.result b c.in_ok-block.ensures.1 c.bucket_size.ensures in
+    let s = c.self.inside.pointers in
+    let word : ℕ = c.self.inside.announced.bits in
+    subst (λ (z : Contents g.row.T.Denot). IsAnnounced (bit_or word (1 * 2 ^ b % 2 ^ 64)) z)
+    (sym (row_changes s b c.lay.new.self (empty_row b) (c.lay.ensures ∙ made)))
+    (IsAnnounced-laid word (contents_of s) b (empty_row b) c.requires (inr (length-empty_row _ b)) c.self.invariant)
+
+pub returns-clause-ok : goal.returns-clause-ok
+returns-clause-ok g c =
+    let now = c.args.self.now in
+    let b : ℕ = c.args.bucket in
+    let made = new_row c.in_ok-block.block.slots c.bucket_size.result b c.in_ok-block.ensures.1 c.bucket_size.ensures in
+    row_changes c.self.inside.pointers b c.lay.new.self (empty_row b) (c.lay.ensures ∙ made)
+    ∙ ap (λ (z : Contents g.row.T.Denot). with_row z b (empty_row b)) (c.self.view_is ∙ c.stands.ensures.same)
+    ∙ sym (cond-false (stands now b) now (with_row now b (empty_row b)) (sym c.stands.ensures.value ∙ c.if-stands.false))
+
+pub returns-clause-absent : goal.returns-clause-absent
+returns-clause-absent g c = λ missing. row-absent c.args.self.now c.args.bucket missing
+
+pub returns-clause-table : goal.returns-clause-table
+returns-clause-table g c = c.stands.ensures.table
+
+pub returns-in_err-block-clause-err : goal.returns-in_err-block-clause-err
+returns-in_err-block-clause-err g c = either c.from_residual.result c.stands.ensures.same
+
+pub returns-in_err-block-clause-refused : goal.returns-in_err-block-clause-refused
+returns-in_err-block-clause-refused g c = either c.from_residual.result (sym c.stands.ensures.value ∙ c.if-stands.false)
+
+pub returns-in_err-block-clause-absent : goal.returns-in_err-block-clause-absent
+returns-in_err-block-clause-absent g c = λ missing. row-absent c.args.self.now c.args.bucket missing
+
+pub returns-in_err-block-clause-table : goal.returns-in_err-block-clause-table
+returns-in_err-block-clause-table g c = c.stands.ensures.table

@@ -1,0 +1,143 @@
+//! Counting the values of a table by the flags of its slots, 64 at a time.
+ghost use Rattle.std.specs.Prelude.{◌≡◌, ◌≢◌, ◌+◌, ◌*◌, ◌/◌, ◌^◌, ◌<◌, ◌≤◌, min, length};
+ghost use Rattle.thread_local_base.specs.Place.{id_at};
+ghost use Rattle.thread_local_base.specs.Buckets.{row, values};
+ghost use Rattle.thread_local_base.specs.Walk.{walk};
+ghost use Rattle.thread_local_base.specs.Counting.{count_below};
+ghost use Rattle.thread_local_base.specs.Owner.{emptied};
+ghost use Rattle.thread_local_buckets.specs.Announced.{AreAhead};
+ghost use Rattle.thread_local_buckets.specs.Cursor.{values_left, IsOwnerWalk};
+
+use super::BucketPointers;
+use crate::{FlagSource, OwnerCursor, take_first};
+use thread_local_base::bucket_size;
+
+impl<T> BucketPointers<T> {
+    /// The flags of eight chunks, from this one on, or-ed together. They are 0 exactly where none of
+    /// the chunks has a value.
+    #[inline]
+    fn any_of_eight(&mut self, bucket: usize, chunk: usize) -> u64
+        requires in_table { bucket < 63 }
+        requires whole { length (row self.old bucket) ≡ 2 ^ bucket }
+        requires inside { (chunk + 8) * 64 ≤ 2 ^ bucket }
+        ensures same { self.new ≡ self.old }
+        ensures none { result ≡ 0
+            → count_below (values self.old) (id_at bucket (chunk * 64))
+            ≡ count_below (values self.old) (id_at bucket ((chunk + 8) * 64)) }
+        ensures some { result ≢ 0
+            → count_below (values self.old) (id_at bucket (chunk * 64))
+            < count_below (values self.old) (id_at bucket ((chunk + 8) * 64)) }
+    {
+        let mut any = 0;
+        for at in 0..8 {
+            any |= self.flags(bucket, chunk + at);
+        }
+        any
+    }
+
+    /// How many values the chunks `from..to` of a bucket have.
+    #[inline]
+    fn count_in_chunks(&mut self, bucket: usize, from: usize, to: usize) -> usize
+        requires in_table { bucket < 63 }
+        requires whole { length (row self.old bucket) ≡ 2 ^ bucket }
+        requires order { from ≤ to }
+        requires inside { to ≤ (2 ^ bucket + 63) / 64 }
+        ensures same { self.new ≡ self.old }
+        ensures counted { count_below (values self.old) (id_at bucket (min (from * 64) (2 ^ bucket))) + result
+            ≡ count_below (values self.old) (id_at bucket (min (to * 64) (2 ^ bucket))) }
+    {
+        let mut count = 0;
+        for chunk in from..to {
+            count += self.flags(bucket, chunk).count_ones() as usize;
+        }
+        count
+    }
+
+    /// How many values the bucket has. The caller passes the bucket's size. Eight words that are
+    /// all 0 are skipped at once.
+    fn count_in_bucket(&mut self, bucket: usize, size: usize) -> usize
+        requires in_table { bucket < 63 }
+        requires whole { length (row self.old bucket) ≡ 2 ^ bucket }
+        requires size { size ≡ 2 ^ bucket }
+        ensures same { self.new ≡ self.old }
+        ensures counted { count_below (values self.old) (id_at bucket 0) + result
+            ≡ count_below (values self.old) (id_at (bucket + 1) 0) }
+    {
+        let chunks = (size + 63) / 64;
+        let groups = chunks / 8;
+        let mut count = 0;
+        for group in 0..groups {
+            let first = group * 8;
+            if self.any_of_eight(bucket, first) != 0 {
+                count += self.count_in_chunks(bucket, first, first + 8);
+            }
+        }
+        count + self.count_in_chunks(bucket, groups * 8, chunks)
+    }
+
+    /// How many values the first seven buckets have. The flags of each are one word.
+    #[inline]
+    fn count_in_first(&mut self) -> usize
+        ensures same { self.new ≡ self.old }
+        ensures counted { result ≡ count_below (values self.old) (id_at 7 0) }
+    {
+        let mut count = 0;
+        for bucket in 0..7 {
+            if self.stands(bucket) {
+                count += self.count_in_chunks(bucket, 0, 1);
+            }
+        }
+        count
+    }
+
+    /// How many values there are, where so many are in the first seven buckets, and these are the
+    /// further buckets that are announced. It is never inlined, so that the count of a table without
+    /// such buckets is short.
+    #[cold]
+    #[inline(never)]
+    fn count_further(&mut self, counted: usize, further: u64) -> usize
+        requires counted { counted ≡ count_below (values self.old) (id_at 7 0) }
+        requires ahead { AreAhead self.old further 7 }
+        ensures same { self.new ≡ self.old }
+        ensures counted { result ≡ length (walk (values self.old)) }
+        ensures fits { result < 2 ^ 63 }
+    {
+        let mut count = counted;
+        let mut left = further;
+        'buckets: while left != 0 {
+            let bucket = take_first(&mut left);
+            if self.stands(bucket) {
+                count += self.count_in_bucket(bucket, bucket_size(bucket));
+            }
+        }
+        count
+    }
+
+    /// How many values there are. It reads the flags of all slots of the buckets that stand. Behind
+    /// the first seven buckets only announced ones are looked at.
+    #[inline(never)]
+    pub fn count_values(&mut self) -> usize
+        ensures same { self.new ≡ self.old }
+        ensures counted { result ≡ length (walk (values self.old)) }
+        ensures fits { result < 2 ^ 63 }
+    {
+        let count = self.count_in_first();
+        let further = self.further();
+        if further == 0 {
+            return count;
+        }
+        self.count_further(count, further)
+    }
+    /// The cursor of a walk over all values, which it counts.
+    #[inline]
+    pub fn begin_walk(&mut self) -> OwnerCursor
+        ensures same { self.new ≡ self.old }
+        ensures walk { IsOwnerWalk self.old result }
+        ensures raw { result.raw ≡ record { yielded = 0; bucket = 0; bucket_size = 1; index = 0 } }
+        ensures rest { result.rest ≡ 0 }
+        ensures ends { values_left result ≡ 0 → emptied self.old ≡ self.old }
+    {
+        let announced = self.announced();
+        OwnerCursor::new(self.count_values(), announced)
+    }
+}

@@ -1,0 +1,343 @@
+//! How an owner's walk finds its next value: it reads the flags of 64 slots at a time, and skips
+//! flags that are all 0.
+ghost use Rattle.std.specs.Prelude.{◌≡◌, ◌+◌, ◌*◌, ◌^◌, ◌<◌, ◌≤◌, true, false, [], ◌∷◌, ℕ, length, Some, None, is_some, IsSome};
+ghost use Rattle.thread_local_base.specs.Bits.{is_set, IsLowestSet, IsWordBut};
+ghost use Rattle.thread_local_base.specs.Place.{id_at};
+ghost use Rattle.thread_local_base.specs.Buckets.{Contents, row, stands, values};
+ghost use Rattle.thread_local_base.specs.Rows.{value_in, with_slot};
+ghost use Rattle.thread_local_base.specs.Walk.{walk, paired};
+ghost use Rattle.thread_local_base.specs.Owner.{NoneBelow};
+ghost use Rattle.thread_local_buckets.specs.Announced.{AreAhead};
+ghost use Rattle.thread_local_buckets.specs.Cursor.{at_bucket, behind_next, read_to, slot_at, values_left, AreFlagsAt};
+ghost use Rattle.thread_local_buckets.specs.Cursor.{HasRead, IsAt, IsOwnerWalk, MayRead};
+
+use crate::take_first;
+use std::fmt;
+use thread_local_base::bucket_size;
+
+/// What a walk reads: which buckets stand, and the flags of their slots, 64 to a word. A flag is
+/// set where its slot has a value. No call takes memory.
+pub trait FlagSource {
+    /// The type of the values.
+    type Value;
+
+    /// The contents that the flags describe.
+    ghost contents: { Self → Contents Self.Value };
+
+    /// The first id whose flag may be read.
+    ghost given: { Self → ℕ };
+
+    /// Whether the bucket stands.
+    fn stands(&mut self, bucket: usize) -> bool
+        requires { bucket < 63 }
+        ensures same { self.new ≡ self.old }
+        ensures value { result ≡ stands (contents self.old) bucket }
+        ensures whole { result ≡ true → length (row (contents self.old) bucket) ≡ 2 ^ bucket }
+        ensures absent { result ≡ false → row (contents self.old) bucket ≡ [] };
+
+    /// The flags of a chunk's slots, which begin with slot `chunk * 64` of the bucket. The bits
+    /// past the last slot are 0.
+    fn flags(&mut self, bucket: usize, chunk: usize) -> u64
+        requires in_table { bucket < 63 }
+        requires in_bucket { chunk * 64 < length (row (contents self.old) bucket) }
+        requires ahead { given self.old ≤ id_at bucket (chunk * 64) }
+        ensures same { self.new ≡ self.old }
+        ensures value { (bit : ℕ)
+            → bit < 64
+            → is_set result bit ≡ is_some (value_in (contents self.old) bucket (chunk * 64 + bit)) };
+}
+
+/// How many values a walk has given, and a place: behind the last value that a shared walk gave, or
+/// behind the flags that an owner's has read. The number is shown by `Debug`, as in the Rust crate;
+/// no walk goes by it.
+#[derive(Clone, Copy, Debug)]
+pub struct RawIter {
+    pub yielded: usize,
+    pub bucket: usize,
+    pub bucket_size: usize,
+    pub index: usize,
+}
+
+impl RawIter {
+    /// A walk at the first slot of the first bucket.
+    pub fn new() -> RawIter
+        ensures { result ≡ record { yielded = 0; bucket = 0; bucket_size = 1; index = 0 } }
+    {
+        RawIter {
+            yielded: 0,
+            bucket: 0,
+            bucket_size: 1,
+            index: 0,
+        }
+    }
+
+    /// Goes to the first slot of a bucket.
+    #[inline]
+    pub fn enter(&mut self, bucket: usize)
+        requires { bucket < 63 }
+        ensures { self.new ≡ at_bucket self.old bucket }
+    {
+        self.bucket = bucket;
+        self.bucket_size = bucket_size(bucket);
+        self.index = 0;
+    }
+}
+
+/// Writes a struct of one field, as a derived `Debug` does: what a walk's `Debug` writes. It stands
+/// here once, since a builder's steps cost a check more than all else of such an impl.
+pub fn write_struct<W: fmt::Write, D: fmt::Debug>(
+    f: &mut fmt::Formatter<W>,
+    name: &str,
+    field: &str,
+    value: &D,
+) -> fmt::Result {
+    f.debug_struct(name).field(field, value).finish()
+}
+
+/// Reads the flags of the bucket's next chunk, and goes behind it.
+#[inline]
+fn next_chunk<P: FlagSource>(source: &mut P, raw: &mut RawIter) -> u64
+    requires at { IsAt (P.contents source.old) raw.old 0 }
+    requires inside { raw.old.index < raw.old.bucket_size }
+    requires whole { length (row (P.contents source.old) raw.old.bucket) ≡ raw.old.bucket_size }
+    requires ahead { P.given source.old ≤ read_to raw.old }
+    ensures same { source.new ≡ source.old }
+    ensures at { IsAt (P.contents source.old) raw.new result }
+    ensures behind { raw.new ≡ behind_next raw.old }
+{
+    let flags = source.flags(raw.bucket, raw.index / 64);
+    raw.index += 64;
+    flags
+}
+
+/// Advances past the bucket's next flags that aren't 0 and returns them, or returns 0 where there
+/// are none. The bucket must have flags that aren't read.
+#[inline]
+fn flags_in_bucket<P: FlagSource>(source: &mut P, raw: &mut RawIter) -> u64
+    requires at { IsAt (P.contents source.old) raw.old 0 }
+    requires inside { raw.old.index < raw.old.bucket_size }
+    requires whole { length (row (P.contents source.old) raw.old.bucket) ≡ raw.old.bucket_size }
+    requires ahead { P.given source.old ≤ read_to raw.old }
+    ensures same { source.new ≡ source.old }
+    ensures at { IsAt (P.contents source.old) raw.new result }
+    ensures ahead { P.given source.old ≤ read_to raw.new }
+    ensures yielded { raw.new.yielded ≡ raw.old.yielded }
+    ensures bucket { raw.new.bucket ≡ raw.old.bucket }
+    ensures behind { result ≡ 0
+        → NoneBelow (values (P.contents source.old)) (id_at raw.old.bucket raw.old.bucket_size) }
+{
+    'chunks: loop {
+        let flags = next_chunk(source, raw);
+        if flags != 0 {
+            return flags;
+        }
+        if raw.index >= raw.bucket_size {
+            return 0;
+        }
+    }
+}
+
+/// `flags_in_bucket` where the bucket stands and has flags that aren't read, and else 0.
+#[inline]
+fn flags_here<P: FlagSource>(source: &mut P, raw: &mut RawIter) -> u64
+    requires at { IsAt (P.contents source.old) raw.old 0 }
+    requires ahead { P.given source.old ≤ read_to raw.old }
+    ensures same { source.new ≡ source.old }
+    ensures at { IsAt (P.contents source.old) raw.new result }
+    ensures ahead { P.given source.old ≤ read_to raw.new }
+    ensures yielded { raw.new.yielded ≡ raw.old.yielded }
+    ensures bucket { raw.new.bucket ≡ raw.old.bucket }
+    ensures before { P.given source.old ≤ id_at (raw.old.bucket + 1) 0 }
+    ensures behind { result ≡ 0 → NoneBelow (values (P.contents source.old)) (id_at (raw.old.bucket + 1) 0) }
+{
+    if raw.index >= raw.bucket_size {
+        return 0;
+    }
+    if !source.stands(raw.bucket) {
+        return 0;
+    }
+    flags_in_bucket(source, raw)
+}
+
+/// Advances past the next flags that aren't 0, in this bucket or one of those behind it, and returns
+/// them. A value must be left. `left` are the announced buckets behind this one.
+fn next_flags<P: FlagSource>(source: &mut P, raw: &mut RawIter, left: &mut u64) -> u64
+    requires at { IsAt (P.contents source.old) raw.old 0 }
+    requires ahead { P.given source.old ≤ read_to raw.old }
+    requires announced { AreAhead (P.contents source.old) left.old (raw.old.bucket + 1) }
+    requires some { 0 < length (walk (values (P.contents source.old))) }
+    ensures same { source.new ≡ source.old }
+    ensures at { IsAt (P.contents source.old) raw.new result }
+    ensures some { 0 < result }
+    ensures ahead { P.given source.old ≤ read_to raw.new }
+    ensures announced { AreAhead (P.contents source.old) left.new (raw.new.bucket + 1) }
+    ensures yielded { raw.new.yielded ≡ raw.old.yielded }
+{
+    'buckets: loop {
+        let flags = flags_here(source, raw);
+        if flags != 0 {
+            return flags;
+        }
+        raw.enter(take_first(left));
+    }
+}
+
+/// The flags, with the lowest set one cleared.
+#[inline]
+pub fn without_first(flags: u64) -> u64
+    requires { 0 < flags }
+    ensures rest { (first : ℕ) → IsLowestSet flags first → IsWordBut result flags first false }
+    ensures fewer { result < flags }
+{
+    flags & (flags - 1)
+}
+
+/// Where an owner's walk is, and how many values it has left. It reads the flags of 64 slots at a
+/// time, and goes by these until all their values are passed. No call takes memory.
+#[derive(Drop)]
+pub struct OwnerCursor {
+    /// The place behind the slots whose flags it read last, and how many values it has given once
+    /// it is there.
+    pub raw: RawIter,
+    /// The flags that it read last. 0 where it has read none.
+    pub read: u64,
+    /// Those of them whose values it hasn't passed.
+    pub rest: u64,
+    /// How many values lie behind these slots.
+    pub later: usize,
+    /// The announced buckets behind the one that it is in.
+    pub left: u64,
+}
+
+impl OwnerCursor {
+    /// A walk of so many values, before the first, of a table that has announced these buckets.
+    pub fn new(values: usize, announced: u64) -> OwnerCursor
+        ensures raw { result.raw ≡ record { yielded = 0; bucket = 0; bucket_size = 1; index = 0 } }
+        ensures rest { result.rest ≡ 0 }
+        ensures later { result.later ≡ values }
+        ensures buckets { IsWordBut result.left announced 0 false }
+        ensures left { values_left result ≡ values }
+    {
+        OwnerCursor {
+            raw: RawIter::new(),
+            read: 0,
+            rest: 0,
+            later: values,
+            left: announced & !1,
+        }
+    }
+
+    /// Whether no value is still to come.
+    #[inline]
+    pub fn is_over(&self) -> bool
+        ensures over { result ≡ true → values_left self.now ≡ 0 }
+        ensures goes_on { result ≡ false → 0 < values_left self.now }
+    {
+        self.rest == 0 && self.later == 0
+    }
+
+    /// How many values are still to come.
+    #[inline]
+    pub fn len(&self) -> usize
+        requires { values_left self.now < 2 ^ 64 }
+        ensures { result ≡ values_left self.now }
+    {
+        self.rest.count_ones() as usize + self.later
+    }
+
+    /// How many values the walk has given, and the place behind the last of them.
+    pub fn raw(&self) -> RawIter {
+        let passed = self.read & !self.rest;
+        RawIter {
+            yielded: self
+                .raw
+                .yielded
+                .saturating_sub(self.rest.count_ones() as usize),
+            bucket: self.raw.bucket,
+            bucket_size: self.raw.bucket_size,
+            index: self
+                .raw
+                .index
+                .saturating_sub(passed.leading_zeros() as usize),
+        }
+    }
+
+    /// Writes where the walk is, under the walk's name: the `Debug` of an owner's walks.
+    pub fn write_as<W: fmt::Write>(&self, f: &mut fmt::Formatter<W>, name: &str) -> fmt::Result {
+        write_struct(f, name, "raw", &self.raw())
+    }
+
+    /// Reads the next flags that aren't 0, where the values of those read last are all passed. A
+    /// value must be left.
+    #[inline]
+    pub fn read_on<P: FlagSource>(&mut self, source: &mut P)
+        requires may_read { MayRead (P.contents source.old) (P.given source.old) self.old }
+        requires passed { self.old.rest ≡ 0 }
+        ensures same { source.new ≡ source.old }
+        ensures read { HasRead (P.contents source.old) (P.given source.old) self.old self.new }
+    {
+        let mut raw = self.raw;
+        let mut left = self.left;
+        let flags = next_flags(source, &mut raw, &mut left);
+        let count = flags.count_ones() as usize;
+        raw.yielded += count;
+        self.raw = raw;
+        self.left = left;
+        self.read = flags;
+        self.rest = flags;
+        self.later -= count;
+    }
+
+    /// Reads on where no flag is at hand.
+    #[inline]
+    pub fn reach<P: FlagSource>(&mut self, source: &mut P)
+        requires may_read { MayRead (P.contents source.old) (P.given source.old) self.old }
+        ensures same { source.new ≡ source.old }
+        ensures read { HasRead (P.contents source.old) (P.given source.old) self.old self.new }
+    {
+        if self.rest == 0 {
+            self.read_on(source);
+        }
+    }
+
+    /// Passes the next value, whose flag must be at hand, and returns the number of that flag's
+    /// bit. The caller takes the value out of the source.
+    #[inline]
+    pub fn pass<P: FlagSource>(&mut self, source: &mut P) -> usize
+        requires walk { IsOwnerWalk (P.contents source.old) self.old }
+        requires given { NoneBelow (values (P.contents source.old)) (P.given source.old) }
+        requires some { 0 < self.old.rest }
+        ensures same { source.new ≡ source.old }
+        ensures raw { self.new.raw ≡ self.old.raw }
+        ensures read { 64 ≤ self.new.raw.index }
+        ensures in_bucket { slot_at self.new.raw result
+            < length (row (P.contents source.old) self.new.raw.bucket) }
+        ensures published { IsSome
+            (value_in (P.contents source.old) self.new.raw.bucket (slot_at self.new.raw result)) }
+        ensures ahead { P.given source.old ≤ id_at self.new.raw.bucket (slot_at self.new.raw result) }
+        ensures before { id_at self.new.raw.bucket (slot_at self.new.raw result) < read_to self.new.raw }
+        ensures left { values_left self.new + 1 ≡ values_left self.old }
+
+        // What is left is a walk of the contents without the value, and the value comes first.
+        ensures flags { AreFlagsAt
+            (with_slot (P.contents source.old) self.new.raw.bucket (slot_at self.new.raw result) None)
+            self.new.raw.bucket (slot_at self.new.raw result) self.new.rest }
+        ensures walk { IsOwnerWalk
+            (with_slot (P.contents source.old) self.new.raw.bucket (slot_at self.new.raw result) None)
+            self.new }
+        ensures behind { NoneBelow
+            (values (with_slot (P.contents source.old) self.new.raw.bucket (slot_at self.new.raw result) None))
+            (id_at self.new.raw.bucket (slot_at self.new.raw result) + 1) }
+        ensures first { (v : P.Value)
+            → value_in (P.contents source.old) self.new.raw.bucket (slot_at self.new.raw result) ≡ Some v
+            → walk (paired (values (P.contents source.old)))
+            ≡ (id_at self.new.raw.bucket (slot_at self.new.raw result), v)
+            ∷ walk (paired (values
+            (with_slot (P.contents source.old) self.new.raw.bucket (slot_at self.new.raw result) None))) }
+    {
+        let _ = source;
+        let bit = self.rest.trailing_zeros() as usize;
+        self.rest = without_first(self.rest);
+        bit
+    }
+}

@@ -1,5 +1,0 @@
-pub mod Alike
-pub mod Everywhere
-pub mod Empty
-pub mod Parts
-pub mod Containing

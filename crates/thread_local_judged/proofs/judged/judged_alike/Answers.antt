@@ -1,6 +1,0 @@
--- Any two proofs of the fact are equal.
-use Rattle.thread_local_judged.proofs.Alike.{judged_alike}
-use Rattle.thread_local_judged.proofs.judged.judged_alike.Goals as goal
-
-pub returns : goal.returns
-returns g c = record { alike = judged_alike g.row.T }
