@@ -27,11 +27,15 @@ pub struct Drain<'a, T> {
 impl<'a, T: Drop> Drop for Drain<'a, T> {
     ghost use Rattle.thread_local_buckets.specs.Drain.{drain_leaves};
 
+    // Where it is inlined, a walk that has given all its values ends without a call.
+    #[inline]
     fn drop(self)
         ensures leaves { self.exit.0.now ≡ drain_leaves self.entry }
     {
         let Drain { buckets, cursor } = self;
-        buckets.drop_rest(cursor.len());
+        if !cursor.is_over() {
+            buckets.drop_rest();
+        }
     }
 }
 

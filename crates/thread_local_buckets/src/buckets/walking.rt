@@ -32,17 +32,13 @@ impl<T> Buckets<T> {
         (index + (size - 1), value)
     }
 
-    /// Drops every value where a walk has some left, and keeps every bucket. It counts the values anew:
-    /// a drop can't lend the cursor that its value has.
-    pub(crate) fn drop_rest(&mut self, left: usize)
+    /// Drops every value, and keeps every bucket. It counts the values anew: a drop can't lend the
+    /// cursor that its value has.
+    pub(crate) fn drop_rest(&mut self)
     where
         T: Drop,
-        requires ends { left ≡ 0 → emptied self.old.contents ≡ self.old.contents }
         ensures { self.new ≡ owned_emptied self.old }
     {
-        if left == 0 {
-            return;
-        }
         let mut cursor = self.pointers.begin_walk();
         for _ in 0..cursor.len() {
             let (_, value) = self.take_next(&mut cursor);
