@@ -1,5 +1,6 @@
 //! The deprecated names of a table and of its walks. In Rust's crate `CachedThreadLocal` was once a
-//! faster table, and wraps a `ThreadLocal` today; here each is another name.
+//! faster table, and wraps a `ThreadLocal` today; here each is another name of `ThreadLocal`,
+//! `IterMut` or `IntoIter`.
 
 use crate::table::ThreadLocal;
 use thread_local_buckets::{IntoIter, IterMut};

@@ -188,8 +188,8 @@ impl<'a, T, R: Wait> Local<'a, T, R> {
         self.claim.id() < table.buckets.reserved()
     }
 
-    /// Makes room for a value in the slot, which is empty: the place of the id, and a block for its
-    /// bucket, where that was missing and isn't found.
+    /// Makes room for a value in the slot, which is empty. Answers the place of the id, and a block
+    /// where the bucket was missing and is missing still.
     #[inline(always)]
     fn room(&mut self, alloc: Global) -> Result<(Thread, Option<Block<T, Global>>), AllocError>
         requires empty { self.old.value ≡ None }

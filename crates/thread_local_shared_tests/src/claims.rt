@@ -1,5 +1,6 @@
 //! Claims that are sent or shared, and those of reserved buckets.
 
+use crate::same::assert_same;
 use crate::steps::{Kept, Table, left, publish_claimed, share};
 use std::cell::Cell;
 use std::test::Fail;
@@ -26,9 +27,9 @@ fn a_claim_goes_to_another_thread(rt: HostRuntime) -> Result<(), Fail> {
         claim: shared.claim(held, right),
     };
     let (published, _) = thread::join(&rt, || claimed.publish(Cell::new(7u64)), || ());
-    assert!(rt; published);
+    assert_same(&rt, published, true);
     let value = shared.into_buckets_and_book().0.into_iter().next();
-    assert_eq!(rt; value.map(|cell| cell.get()), Some(7));
+    assert_same(&rt, value.map(|cell| cell.get()), Some(7));
     Ok(())
 }
 
@@ -41,12 +42,12 @@ fn found(claim: &Claim<'_, u32>) -> Option<u32> {
 fn threads_share_a_claim(rt: HostRuntime) -> Result<(), Fail> {
     let table = Table::new(rt.alloc());
     let mut buckets = Buckets::new(rt.alloc());
-    assert!(rt; buckets.insert(Thread::new(0), 5u32).is_ok());
+    assert_same(&rt, buckets.insert(Thread::new(0), 5u32).is_ok(), true);
     let shared = share(buckets, &table.right);
     let (held, right) = table.take_id(&rt)?;
     let claim = shared.claim(held, right);
     let both = thread::join(&rt, || found(&claim), || found(&claim));
-    assert_eq!(rt; both, (Some(5), Some(5)));
+    assert_same(&rt, both, (Some(5), Some(5)));
     claim.give_up();
     Ok(())
 }
@@ -65,17 +66,19 @@ fn stand(shared: &Shared<u32>) -> [bool; 3] {
 fn reserved_buckets_stand(rt: HostRuntime) -> Result<(), Fail> {
     let table = Table::new(rt.alloc());
     let shared = share(Buckets::with_capacity(rt.alloc(), 4)?, &table.right);
-    assert_eq!(rt;
+    assert_same(
+        &rt,
         (shared.reserved(), stand(&shared)),
-        (7, [true, true, false])
+        (7, [true, true, false]),
     );
     let (held, right) = table.take_id(&rt)?;
     let claim = shared.claim(held, right);
     let is_vacant = !claim.is_missing() && claim.get().is_none();
     let published = publish_claimed(claim, 1).1;
-    assert_eq!(rt;
+    assert_same(
+        &rt,
         (is_vacant, published, left(shared)),
-        (true, true, (7, [Some(1), None, None]))
+        (true, true, (7, [Some(1), None, None])),
     );
     Ok(())
 }

@@ -1,6 +1,7 @@
 //! Each value is dropped once, and a claim is forgotten.
 ghost use Rattle.std.specs.Prelude.{◌≡◌};
 
+use crate::same::assert_same;
 use crate::steps::{Kept, Table, first_three, look, publish, share};
 use std::alloc::Global;
 use std::mem::forget;
@@ -8,7 +9,7 @@ use std::sync::atomic::AtomicU64;
 use std::sync::atomic::Ordering::SeqCst;
 use std::sync::{Arc, Wait};
 use std::test::Fail;
-use thread_local_base::{Thread, judge_sync};
+use thread_local_base::{LocalError, Thread, judge_sync};
 use thread_local_buckets::Buckets;
 use thread_local_ids::{HeldId, Right, Rights};
 use thread_local_shared_buckets::Shared;
@@ -21,13 +22,13 @@ fn each_value_is_dropped_once(rt: HostRuntime) -> Result<(), Fail> {
     let mut buckets = Buckets::new(rt.alloc());
     for id in 0..100 {
         let value = Counted::new(&drops)?;
-        assert!(rt; buckets.insert(Thread::new(id), value).is_ok());
+        assert_same(&rt, buckets.insert(Thread::new(id), value).is_ok(), true);
     }
     judge_sync::<Counted>();
     let shared = share(buckets, &rights.take(0));
     let before = drops.load(SeqCst);
     drop(shared);
-    assert_eq!(rt; (before, drops.load(SeqCst)), (0, 100));
+    assert_same(&rt, (before, drops.load(SeqCst)), (0, 100));
     Ok(())
 }
 
@@ -75,9 +76,10 @@ fn each_published_value_is_dropped_once(rt: HostRuntime) -> Result<(), Fail> {
     drop(values.next());
     let taken = drops.load(SeqCst);
     drop(values);
-    assert_eq!(rt;
+    assert_same(
+        &rt,
         [published, given_way, taken, drops.load(SeqCst)],
-        [100, 100, 101, 200]
+        [100, 100, 101, 200],
     );
     Ok(())
 }
@@ -95,26 +97,44 @@ fn found_and_forgotten(shared: &Shared<u32>, held: (HeldId, Right)) -> Option<u3
     found
 }
 
+/// Two claims of new ids find what stands and are forgotten, and a value is published at a third id.
+/// Answers what the two found, and whether the third was published.
+fn forget_two<R: Wait>(
+    shared: &Shared<u32>,
+    table: &Table,
+    rt: &R,
+    alloc: Global,
+) -> Result<([Option<u32>; 2], bool), LocalError>
+    requires { table.now.ids.table ≡ shared.now.table }
+{
+    let found = [
+        found_and_forgotten(shared, table.take_id(rt)?),
+        found_and_forgotten(shared, table.take_id(rt)?),
+    ];
+    let (held, right, tenure) = table.take(rt)?;
+    let (_third, published) = publish(shared, (held, right), &tenure, alloc, 6);
+    Ok((found, published))
+}
+
 // The first is forgotten where a value stands, the second before its bucket does, which the third
 // then makes.
 #[test]
-fn a_forgotten_claim_costs_its_own_slot(rt: HostRuntime) -> Result<(), Fail> {
+fn a_forgotten_claim_costs_its_own_slot(rt: HostRuntime) {
     let table = Table::new(rt.alloc());
     let mut buckets = Buckets::new(rt.alloc());
-    assert!(rt; buckets.insert(Thread::new(0), 5u32).is_ok());
+    let inserted = buckets.insert(Thread::new(0), 5u32).is_ok();
     let shared = share(buckets, &table.right);
-    let found = [
-        found_and_forgotten(&shared, table.take_id(&rt)?),
-        found_and_forgotten(&shared, table.take_id(&rt)?),
-    ];
-    let (held, right, tenure) = table.take(&rt)?;
-    let (_third, published) = publish(&shared, (held, right), &tenure, rt.alloc(), 6);
-    assert_eq!(rt; (found, published), ([Some(5), None], true));
+    let told = forget_two(&shared, &table, &rt, rt.alloc()).ok();
     let seen = [look(&shared, 0), look(&shared, 1), look(&shared, 2)];
-    assert_eq!(rt; seen, [Some(5), None, Some(6)]);
-    assert_eq!(rt;
-        first_three(shared.into_buckets_and_book().0),
-        [Some(5), Some(6), None]
+    let left = first_three(shared.into_buckets_and_book().0);
+    assert_same(
+        &rt,
+        (inserted, told, seen, left),
+        (
+            true,
+            Some(([Some(5), None], true)),
+            [Some(5), None, Some(6)],
+            [Some(5), Some(6), None],
+        ),
     );
-    Ok(())
 }

@@ -2,6 +2,7 @@
 ghost use Rattle.std.specs.Prelude.{◌≡◌, ◌-◌, ◌^◌, ◌<◌};
 ghost use Rattle.thread_local_base.specs.Judged.{Judged};
 
+use crate::same::assert_same;
 use crate::steps::{Table, look, publish, share};
 use std::alloc::Global;
 use std::cell::{Cell, RefCell};
@@ -70,9 +71,10 @@ fn a_number_is_handed_on_from_thread_to_thread(rt: HostRuntime) -> Result<(), Fa
     let (second, _) = thread::join(&rt, || add(there, held, 5), || ());
     let found = second.1;
     let left = shared.into_buckets_and_book().0.into_iter().next();
-    assert_eq!(rt;
+    assert_same(
+        &rt,
         (published, found, left.map(|cell| cell.get())),
-        (true, Some(7), Some(12))
+        (true, Some(7), Some(12)),
     );
     Ok(())
 }
@@ -81,14 +83,14 @@ fn a_number_is_handed_on_from_thread_to_thread(rt: HostRuntime) -> Result<(), Fa
 fn a_walker_sees_a_value_that_is_claimed(rt: HostRuntime) -> Result<(), Fail> {
     let table = Table::new(rt.alloc());
     let mut buckets = Buckets::new(rt.alloc());
-    assert!(rt; buckets.insert(Thread::new(0), 9).is_ok());
+    assert_same(&rt, buckets.insert(Thread::new(0), 9).is_ok(), true);
     let mut shared = share(buckets, &table.right);
     let held = table.take_id(&rt)?;
     let (own, seen) = look_while_claimed(&rt, &shared, held);
-    assert_eq!(rt; [own, seen, look(&shared, 1)], [Some(9), Some(9), None]);
-    assert!(rt; shared.owner().insert(Thread::new(1), 4).is_ok());
+    assert_same(&rt, [own, seen, look(&shared, 1)], [Some(9), Some(9), None]);
+    assert_same(&rt, shared.owner().insert(Thread::new(1), 4).is_ok(), true);
     let seen = [look(&shared, 0), look(&shared, 1), look(&shared, 2)];
-    assert_eq!(rt; seen, [Some(9), Some(4), None]);
+    assert_same(&rt, seen, [Some(9), Some(4), None]);
     Ok(())
 }
 
@@ -125,6 +127,6 @@ fn values_of_any_type_come_back(rt: HostRuntime) -> Result<(), Fail> {
         comes_back(&rt, alloc, Cell::new(7u64)),
         comes_back(&rt, alloc, RefCell::new(String::new(alloc))),
     ];
-    assert_eq!(rt; come_back, [true; 5]);
+    assert_same(&rt, come_back, [true; 5]);
     Ok(())
 }

@@ -4,6 +4,7 @@ ghost use Rattle.thread_local_buckets.specs.Slots.{empty_slots};
 ghost use Rattle.thread_local_ids.specs.Taken.{IsHeldIn};
 ghost use Rattle.thread_local_base.specs.Place.{bucket_of};
 
+use crate::same::assert_same;
 use crate::steps::{Kept, Table, left, look, publish_claimed, share};
 use std::alloc::Global;
 use std::cell::{Cell, RefCell};
@@ -125,9 +126,10 @@ fn blocks_that_come_second_are_freed(rt: HostRuntime) -> Result<(), Fail> {
     let taken = take_all_but(alloc, 1 << 30)?;
     let offered = offer_by_all(&shared, &table, &rt, &alloc, 1000);
     drop(taken);
-    assert_eq!(rt;
+    assert_same(
+        &rt,
         (offered, slots_and_values(shared)),
-        (1000, (1_048_576, 1000))
+        (1000, (1_048_576, 1000)),
     );
     Ok(())
 }
@@ -187,11 +189,12 @@ fn the_second_of_two_blocks_gives_way(rt: HostRuntime) -> Result<(), Fail> {
     let second = claim_early(&shared, table.take(&rt)?);
     let third = claim_early(&shared, table.take(&rt)?);
     let offered = offer_two(&shared, second, third, &rt.alloc());
-    assert_eq!(rt;
+    assert_same(
+        &rt,
         offered,
-        Some([[Some(1), None, Some(1)], [Some(1), Some(2), Some(2)]])
+        Some([[Some(1), None, Some(1)], [Some(1), Some(2), Some(2)]]),
     );
-    assert_eq!(rt; left(shared), (2, [Some(1), Some(2), None]));
+    assert_same(&rt, left(shared), (2, [Some(1), Some(2), None]));
     Ok(())
 }
 
@@ -217,9 +220,10 @@ fn an_early_claim_finds_its_bucket_later(rt: HostRuntime) -> Result<(), Fail> {
     let third = claim_early(&shared, table.take(&rt)?);
     let offered = third.offer(&rt.alloc(), 7);
     let published = publish_late(second, 5);
-    assert_eq!(rt;
+    assert_same(
+        &rt,
         (offered, published, look(&shared, 1), look(&shared, 2)),
-        (true, true, Some(5), Some(7))
+        (true, true, Some(5), Some(7)),
     );
     Ok(())
 }
@@ -254,8 +258,8 @@ fn an_early_claim_makes_no_block_where_its_bucket_stands(rt: HostRuntime) -> Res
     let third = claim_early(&shared, table.take(&rt)?);
     let offered = third.offer(&rt.alloc(), 7);
     let published = publish_in_room(second, &rt.alloc(), 5);
-    assert_eq!(rt; (offered, published), (true, true));
-    assert_eq!(rt; left(shared), (2, [Some(5), Some(7), None]));
+    assert_same(&rt, (offered, published), (true, true));
+    assert_same(&rt, left(shared), (2, [Some(5), Some(7), None]));
     Ok(())
 }
 
@@ -287,7 +291,7 @@ fn room_for_a_value_installs_nothing(rt: HostRuntime) -> Result<(), Fail> {
     let shared = share(Buckets::new(rt.alloc()), &table.right);
     let first = claim_early(&shared, table.take(&rt)?);
     let made = make_and_release(first, &rt.alloc());
-    assert_eq!(rt; (made, left(shared)), ([true; 2], (0, [None; 3])));
+    assert_same(&rt, (made, left(shared)), ([true; 2], (0, [None; 3])));
     Ok(())
 }
 
@@ -312,5 +316,5 @@ fn a_block_is_made_at_any_type(rt: HostRuntime) {
         made::<RefCell<String>>(&alloc, 32),
         made::<u64>(&alloc, 1 << 62),
     ];
-    assert_eq!(rt; are_made, [true, true, true, true, false]);
+    assert_same(&rt, are_made, [true, true, true, true, false]);
 }

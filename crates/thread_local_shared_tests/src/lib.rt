@@ -16,6 +16,8 @@ mod looks;
 #[cfg(test)]
 mod races;
 #[cfg(test)]
+mod same;
+#[cfg(test)]
 mod steps;
 #[cfg(test)]
 mod tokens;

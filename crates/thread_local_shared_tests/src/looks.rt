@@ -1,5 +1,6 @@
 //! A look finds the value of its own slot.
 
+use crate::same::assert_same;
 use crate::steps::{Table, look, share};
 use std::test::Fail;
 use thread_local_base::Thread;
@@ -21,11 +22,11 @@ fn a_look_finds_what_was_put_into_its_slot(rt: HostRuntime) -> Result<(), Fail> 
         buckets.insert(Thread::new(1), 6).is_ok(),
         buckets.insert(Thread::new(1234), 7).is_ok(),
     ];
-    assert_eq!(rt; inserted, [true; 3]);
+    assert_same(&rt, inserted, [true; 3]);
     let mut shared = share(buckets, &table.right);
     let before = seen(&shared);
     let slots = shared.owner().slots();
     let values = [Some(5), Some(6), Some(7)];
-    assert_eq!(rt; (before, slots, seen(&shared)), (values, 1027, values));
+    assert_same(&rt, (before, slots, seen(&shared)), (values, 1027, values));
     Ok(())
 }

@@ -1,6 +1,7 @@
 //! Threads race to install buckets and to publish.
 ghost use Rattle.std.specs.Prelude.{◌≡◌};
 
+use crate::same::assert_same;
 use crate::steps::{Table, publish, share};
 use std::alloc::Global;
 use std::sync::Wait;
@@ -72,7 +73,7 @@ fn eight_threads_race_to_install_and_publish(rt: HostRuntime) -> Result<(), Fail
         let alloc = rt.alloc();
         let racing = Racing::new(alloc);
         let published = publish_by_eight(&racing, &rt, alloc);
-        assert_eq!(rt; (published, gives_all(racing)), (128, true));
+        assert_same(&rt, (published, gives_all(racing)), (128, true));
     }
     Ok(())
 }

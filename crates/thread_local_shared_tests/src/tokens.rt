@@ -4,6 +4,7 @@ ghost use Rattle.thread_local_ids.specs.Taken.{IsHeldIn};
 ghost use Rattle.thread_local_base.specs.Buckets.{values};
 ghost use Rattle.thread_local_base.specs.Learnt.{Vacant};
 
+use crate::same::assert_same;
 use crate::steps::{Table, publish, share};
 use std::alloc::Global;
 use std::cell::Cell;
@@ -138,9 +139,10 @@ fn a_token_says_what_was_published(rt: HostRuntime) -> Result<(), Fail> {
     let read = (*shared.value(&token.again()), *shared.value(&other));
     let ids = (token.id(), other.id());
     let found = found_by_two(owned(shared, &token, &other), &token, &other);
-    assert_eq!(rt;
+    assert_same(
+        &rt,
         (seen, read, ids, found),
-        ((7, Some(0)), (7, 8), (0, 1), [Some(7), Some(8)])
+        ((7, Some(0)), (7, 8), (0, 1), [Some(7), Some(8)]),
     );
     Ok(())
 }
@@ -159,7 +161,7 @@ fn a_vacant_slot_has_no_token(rt: HostRuntime) -> Result<(), Fail> {
     };
     let after = after.map(|token| *shared.value(&token));
     claim.give_up();
-    assert_eq!(rt; (before, after), (true, Some(5)));
+    assert_same(&rt, (before, after), (true, Some(5)));
     Ok(())
 }
 
@@ -172,7 +174,7 @@ fn a_text_is_read_by_its_token(rt: HostRuntime) -> Result<(), Fail> {
     let text = String::new(rt.alloc());
     let (_, token) = told(&shared, (held, right), &tenure, rt.alloc(), text);
     let len = token.map(|token| read(&shared, &token).len());
-    assert_eq!(rt; len, Some(0));
+    assert_same(&rt, len, Some(0));
     Ok(())
 }
 
@@ -199,7 +201,7 @@ fn renewed_buckets_keep_their_values(rt: HostRuntime) -> Result<(), Fail> {
         .into_iter()
         .next()
         .map(|c| c.get());
-    assert_eq!(rt; (first.is_some(), second.is_some()), (true, true));
-    assert_eq!(rt; (slots, values), (1, Some(3)));
+    assert_same(&rt, (first.is_some(), second.is_some()), (true, true));
+    assert_same(&rt, (slots, values), (1, Some(3)));
     Ok(())
 }

@@ -32,8 +32,8 @@ impl<T> Buckets<T> {
         (index + (size - 1), value)
     }
 
-    /// Drops every value, and keeps every bucket. It counts the values anew: a drop can't lend the
-    /// cursor that its value has.
+    /// Drops every value, and keeps every bucket. It counts the values anew, since in a drop
+    /// nothing is known of the cursor but whether values are left.
     pub(crate) fn drop_rest(&mut self)
     where
         T: Drop,
