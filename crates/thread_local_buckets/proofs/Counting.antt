@@ -122,6 +122,18 @@ module _ {V : Type 0} where
         counted = omega (arith, before, first);
       }
 
+  -- and where a bucket doesn't stand, it adds nothing
+  pub counted_past : (now c : Contents V) (count left rest b : ℕ) → IsCounted c left count → IsLowestSet left b
+      → IsWordBut rest left b false → now ≡ c → row now b ≡ [] → IsCounted c rest count
+  counted_past now c count left rest b so low but same absent =
+      let taken = takes c left rest so.from b so.ahead low but in
+      record {
+        from = b + 1;
+        low = (let low = taken.in_table in omega arith);
+        ahead = taken.ahead;
+        counted = counted_up c count rest so.from b taken so.counted ∙ sym (count_below-absent c b (ap (λ w. row w b) (sym same) ∙ absent));
+      }
+
   pub counted_fits : (c : Contents V) (left count : ℕ) → IsCounted c left count → count < 2 ^ 63
   counted_fits c left count so =
       let fits = count_below-fits (values c) so.from so.low in omega (arith, fits, so.counted)

@@ -15,10 +15,10 @@ ghost use Rattle.thread_local_base.specs.Owner.{with_published, cleared_row, she
 use crate::drain::Drain;
 use crate::iter::{IntoEntries, IntoIter};
 use crate::iter_mut::{EntriesMut, IterMut};
+use crate::{BucketPointers, FlagSource, take_first};
 use std::alloc::{AllocError, Global};
 use std::marker::Model;
 use thread_local_base::{Thread, bucket_size};
-use crate::{BucketPointers, FlagSource, take_first};
 
 mod lends;
 mod walking;

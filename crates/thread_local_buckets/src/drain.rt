@@ -6,10 +6,10 @@ ghost use Rattle.std.specs.Iterator.SizeHint.{IsWithinCount};
 ghost use Rattle.thread_local_buckets.specs.Cursor.{values_left};
 ghost use Rattle.thread_local_base.specs.Owner.{emptied};
 
+use crate::OwnerCursor;
 use crate::buckets::Buckets;
 use std::fmt;
 use std::iter::FusedIterator;
-use crate::OwnerCursor;
 
 /// The values of a table's buckets, by ascending id, each moved out. The buckets stay.
 ///

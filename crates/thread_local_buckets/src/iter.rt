@@ -3,13 +3,13 @@ ghost use Rattle.std.specs.Prelude.{◌≡◌, length, Some, IfSome};
 ghost use Rattle.std.specs.Iterator.{YieldsFirst, UpTo, item_count};
 ghost use Rattle.std.specs.Iterator.SizeHint.{IsWithinCount};
 
+use crate::OwnerCursor;
 use crate::buckets::Buckets;
 pub use crate::drain::Drain;
 pub use crate::iter_mut::{EntriesMut, IterMut};
 use std::fmt;
 use std::iter::FusedIterator;
 use std::marker::Model;
-use crate::OwnerCursor;
 
 /// The values of a table's buckets with their ids, by ascending id, each moved out. Contracts see
 /// the list of those still to come.

@@ -10,12 +10,12 @@ ghost use Rattle.thread_local_buckets.specs.Cursor.{HasRead, MayRead};
 ghost use Rattle.thread_local_buckets.specs.LendingValues.{LendsValues};
 ghost use Rattle.thread_local_buckets.specs.Entered.{IsEntered};
 
+use crate::OwnerCursor;
 use crate::buckets::Buckets;
 use crate::loan::Loan;
 use std::fmt;
 use std::iter::FusedIterator;
 use std::marker::Model;
-use crate::OwnerCursor;
 
 /// The values of a table's buckets with their ids, by ascending id, each lent as `&mut`. Contracts
 /// see those still to come, the name of their loan, and the id after the last one that was given.

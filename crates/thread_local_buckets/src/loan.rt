@@ -10,9 +10,9 @@ ghost use Rattle.thread_local_base.specs.Bits.{is_set};
 ghost use Rattle.thread_local_buckets.specs.Slots.{flag_word_at};
 ghost use Rattle.thread_local_buckets.specs.Lent.{loan_owns};
 
+use crate::{Chunk, FlagSource, flag_word_at};
 use std::marker::{Model, PhantomData};
 use thread_local_base::bucket_size;
-use crate::{Chunk, FlagSource, flag_word_at};
 
 /// The pointers of an owner's buckets, lent to a walk that writes. It gives the values by ascending
 /// place, each at most once.

@@ -1,7 +1,7 @@
 -- The elements that rights own: how they are made, split, joined and compared. Assumes `Logic`.
 use Rattle.std.proofs.Common.{◌≡◌, ◌≢◌, ℕ, ◌==◌, Bool, true, false, not, List, [], ◌∷◌, if◌then◌else◌}
 use Rattle.std.proofs.Common.{refl, subst, sym, ap, ◌∙◌}
-use Rattle.std.proofs.lemmas.Bool.{eqb-true, eq-eqb, ne_eqb}
+use Rattle.std.proofs.lemmas.Bool.{eqb-true, eq-eqb, ne_eqb, false≢true}
 use native.Mathlib.Decide.{ℕ_discrete}
 use mathlib.Core.Logic.{dite}
 use mathlib.Core.Option.{Option, some}
@@ -79,7 +79,7 @@ cut_at false gone none_gone = Opt.mem-none-op telling.op (element_if (not gone))
 joined_at : (is gone : Bool) → (is ≡ true → gone ≡ true)
     → element_if (not (if is then false else gone)) ∈ at_key (element_if is) (element_if (not gone))
 joined_at true true all_gone = Opt.mem-op-none telling.op (some whole)
-joined_at true false all_gone = let no : false ≡ true = all_gone refl in cc
+joined_at true false all_gone = absurd (false≢true (all_gone refl))
 joined_at false gone all_gone = Opt.mem-none-op telling.op (element_if (not gone))
 
 clash : (is gone : Bool) → is ≡ true → gone ≡ false → OpDef at_key (element_if is) (element_if (not gone)) → ⊥

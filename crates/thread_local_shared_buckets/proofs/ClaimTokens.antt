@@ -1,7 +1,7 @@
 -- The tokens of a turn: a fresh name has all of them from an id on, and they are split off one by
 -- one. Assumes `Logic`.
 use Rattle.std.proofs.Common.{◌≡◌, ◌≢◌, ℕ, zero, suc, ◌==◌, Bool, true, false, [], refl, ap, subst, sym, ◌∙◌}
-use Rattle.std.proofs.lemmas.Bool.{eqb-true, eq-eqb}
+use Rattle.std.proofs.lemmas.Bool.{eqb-true, eq-eqb, true≢false, false≢true}
 use mathlib.Core.Option.{some}
 use mathlib.Mathlib.Data.Part.{◌∈◌}
 use seplogic.Ra.Ura.{Ura}
@@ -43,8 +43,8 @@ cut_at : (is here after : Bool) → (is ≡ true → here ≡ true) → (is ≡ 
     → (is ≡ false → here ≡ after)
     → element_if here ∈ at_key (element_if is) (element_if after)
 cut_at true true false a b c = Opt.mem-op-none telling.op (some (some full_share, []))
-cut_at true true true a b c = let no : true ≡ false = b refl in cc
-cut_at true false after a b c = let no : false ≡ true = a refl in cc
+cut_at true true true a b c = absurd (true≢false (b refl))
+cut_at true false after a b c = absurd (false≢true (a refl))
 cut_at false here after a b c =
     subst (λ (x : Bool). element_if here ∈ at_key (element_if false) (element_if x)) (c refl)
     (Opt.mem-none-op telling.op (element_if here))
@@ -66,4 +66,4 @@ module _ {M : Type 1} {𝓤 : Ura M} (𝓛 : Logic 𝓤) where
       cut_at (k == j) (from k j) (from (suc k) j)
       (λ is. subst (λ (x : ℕ). from k x ≡ true) (eqb-true k j is) (from_self k))
       (λ is. subst (λ (x : ℕ). from (suc k) x ≡ false) (eqb-true k j is) (from_next k))
-      (λ no. from_apart k j (λ e. let y : true ≡ false = sym (eq-eqb k j e) ∙ no in cc))))
+      (λ no. from_apart k j (λ e. true≢false (sym (eq-eqb k j e) ∙ no)))))

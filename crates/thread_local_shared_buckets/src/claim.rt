@@ -229,7 +229,8 @@ impl<'a, T> Claim<'a, T> {
         ensures learnt { learnt_by_publish self.old.learnt value ≡ Some self.new.learnt }
         ensures reserved { self.new.reserved ≡ self.old.reserved }
     {
-        self.slot.publish(thread.index, flag_word_of::<T>(thread), value);
+        self.slot
+            .publish(thread.index, flag_word_of::<T>(thread), value);
     }
 
     /// The id whose slot it is.

@@ -4,9 +4,9 @@ ghost use types.Logic.{sem};
 ghost use Rattle.thread_local_buckets.specs.LendingValues.{LendsValues};
 
 use super::Buckets;
+use crate::Chunk;
 use crate::loan::Loan;
 use std::marker::PhantomData;
-use crate::Chunk;
 
 impl<T> Buckets<T> {
     /// Lends the pointers for as long as the buckets are borrowed.

@@ -1,5 +1,5 @@
 -- The walk goes from one announced bucket to the next until it finds flags that aren't 0.
-use Rattle.std.proofs.Common.{◌≡◌, ◌+◌, ◌^◌, ◌<◌, ◌≤◌, ℕ, false, length, refl, sym, ◌∙◌, subst, arith, pow_mono, ⊎_elim}
+use Rattle.std.proofs.Common.{◌≡◌, ◌≢◌, ◌+◌, ◌-◌, ◌^◌, ◌<◌, ◌≤◌, ℕ, false, length, refl, sym, ◌∙◌, subst, arith, pow_mono, ⊎_elim}
 use Rattle.std.proofs.lemmas.Bool.{cases_lt}
 use Rattle.thread_local_base.specs.Bits.{IsLowestSet, IsWordBut}
 use Rattle.thread_local_base.specs.Place.{id_at}
@@ -70,6 +70,40 @@ is_passed contents left given raw new same announced none before = record {
   none = subst (λ (b : ℕ). NoneBelow (values contents) (id_at (b + 1) 0)) (sym same) none;
   before = subst (λ (b : ℕ). given ≤ id_at (b + 1) 0) (sym same) before;
 }
+
+above_zero : (n : ℕ) → n ≢ 0 → 0 < n
+above_zero n some = omega (arith, some)
+
+nearer : (old b : ℕ) (raw new : RawIter) → (old + 1 ≤ b) × (b < 63) → new ≡ at_bucket raw b → 63 - new.bucket < 63 - old
+nearer old b raw new inside is = subst (λ (r : RawIter). 63 - r.bucket < 63 - old) (sym is) (omega (arith, inside.0, inside.1))
+
+pub returns-then-flags-ne0-clause-at : goal.returns-then-flags-ne0-clause-at
+returns-then-flags-ne0-clause-at g c =
+    let read = c.flags_here-flags in
+    subst (λ (l : g.row.P.Denot). IsAt (g.P.FlagSource.contents l) read.new.raw read.result) c.buckets.invariant.same
+    read.ensures.at
+
+pub returns-then-flags-ne0-clause-ahead : goal.returns-then-flags-ne0-clause-ahead
+returns-then-flags-ne0-clause-ahead g c =
+    let read = c.flags_here-flags in
+    subst (λ (l : g.row.P.Denot). g.P.FlagSource.given l ≤ read_to read.new.raw) c.buckets.invariant.same read.ensures.ahead
+
+pub returns-then-flags-ne0-clause-announced : goal.returns-then-flags-ne0-clause-announced
+returns-then-flags-ne0-clause-announced g c =
+    let contents = g.P.FlagSource.contents c.args.source.now in
+    subst (λ (b : ℕ). AreAhead contents c.buckets.left (b + 1)) (sym c.flags_here-flags.ensures.bucket)
+    c.buckets.invariant.announced
+
+pub enter-requires : goal.enter-requires
+enter-requires g c =
+    let first = c.take_first.ensures.first in
+    (c.buckets.invariant.announced.inside c.take_first.result first.within first.set).1
+
+pub buckets-smaller : goal.buckets-smaller
+buckets-smaller g c =
+    let first = c.take_first.ensures.first in
+    nearer c.buckets.raw.bucket c.take_first.result c.flags_here-flags.new.raw c.enter.new.self
+    (c.buckets.invariant.announced.inside c.take_first.result first.within first.set) c.enter.ensures
 
 pub flags_here-flags-requires-clause-at : goal.flags_here-flags-requires-clause-at
 flags_here-flags-requires-clause-at g c =

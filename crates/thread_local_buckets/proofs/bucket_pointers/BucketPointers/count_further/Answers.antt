@@ -1,6 +1,6 @@
 use Rattle.std.proofs.Common.{◌+◌, ◌∙◌, length, refl, ap, arith, lit<}
 use Rattle.thread_local_base.specs.Buckets.{Contents, row}
-use Rattle.thread_local_buckets.proofs.Counting.{counted_more, counted_fits, counted_all}
+use Rattle.thread_local_buckets.proofs.Counting.{counted_more, counted_past, counted_fits, counted_all}
 use Rattle.thread_local_buckets.proofs.bucket_pointers.BucketPointers.count_further.Goals as goal
 
 pub overflow_add-count : goal.overflow_add-count
@@ -63,3 +63,13 @@ count_in_bucket-count-requires g c =
 
 pub returns-clause-same : goal.returns-clause-same
 returns-clause-same g c = c.buckets.invariant.same
+
+pub buckets-preserved : goal.buckets-preserved
+buckets-preserved g c =
+    record {
+      counted =
+          counted_past c.buckets.self c.args.self.now c.buckets.count c.buckets.left c.take_first-bucket.new.buckets
+          c.take_first-bucket.result c.buckets.invariant.counted c.take_first-bucket.ensures.first
+          c.take_first-bucket.ensures.rest c.buckets.invariant.same (c.stands.ensures.absent c.if-stands.false);
+      same = c.stands.ensures.same ∙ c.buckets.invariant.same;
+    }

@@ -14,7 +14,7 @@ invariant_of-self g c =
     record {
       few = c.args.self.few;
       ends = λ over. elim c.if-not-is_over.branch [
-        then-not-is_over w ↦
+        | then-not-is_over w ↦
             let left = w.drop_rest.ensures in
             subst IsEmpty (sym w.buckets-is)
             (ap (λ (s : Owned _). emptied s.contents) left

@@ -1,5 +1,7 @@
-use Rattle.std.proofs.Common.{◌≡◌, ◌+◌, ◌<◌, ℕ, arith, ◌∷◌, List, map, refl, ap, sym, ◌∙◌}
+use Rattle.std.proofs.Common.{◌≡◌, ◌+◌, ◌<◌, ℕ, arith, ◌∷◌, List, map, refl, ap, sym, ◌∙◌, lit<}
+use Rattle.std.proofs.lemmas.List.{nil_from_length}
 use Rattle.thread_local_base.specs.Buckets.{values}
+use Rattle.thread_local_base.specs.Walk.{walk}
 use Rattle.thread_local_buckets.proofs.EntriesLaws.{walk_of_entries}
 use Rattle.thread_local_buckets.proofs.drain.DrainIterator.next.Goals as goal
 
@@ -22,3 +24,18 @@ pub returns-clause-goes : goal.returns-clause-goes
 returns-clause-goes g c =
     let walk = c.take_next-value.ensures.walk in
     record { on = λ _. (walk, tt, fewer _ _ c.take_next-value.ensures.left); keeps = walk; rests = λ _. tt }
+
+-- The search for these takes a second.
+pub returns-then-is_over-clause-steps : goal.returns-then-is_over-clause-steps
+returns-then-is_over-clause-steps g c =
+    let over = c.is_over.ensures.over c.if-is_over.true in
+    let none = nil_from_length (walk (values c.args.self.now.buckets.now.contents)) (sym c.requires.counted ∙ over) in
+    ((none, none), (refl, refl), c.requires)
+
+pub take_next-value-requires : goal.take_next-value-requires
+take_next-value-requires g c = (lit< tt, (c.requires, c.is_over.ensures.goes_on c.if-is_over.false))
+
+pub invariant_of-self : goal.invariant_of-self
+invariant_of-self g c =
+    let taken = c.take_next-value in
+    record { few = taken.ensures.walk.few; ends = taken.ensures.ends }

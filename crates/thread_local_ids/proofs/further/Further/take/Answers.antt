@@ -1,13 +1,81 @@
-use Rattle.std.proofs.Common.{◌≡◌, ◌∙◌, ℕ, ◌-◌, ◌^◌, ◌≤◌, ap, sym, subst, arith, length, List}
+use Rattle.std.proofs.Common.{◌≡◌, ◌≢◌, ◌∙◌, ℕ, ◌-◌, ◌^◌, ◌≤◌, Bool, true, false, if◌then◌else◌}
+use Rattle.std.proofs.Common.{ap, refl, sym, subst, arith, length, List, ⊎_elim}
+use Rattle.std.proofs.lemmas.Bool.{eq-eqb, ne_eqb, cases_eq}
 use Rattle.std.specs.Prelude.{Err}
 use mathlib.Core.List.{IsPrefix}
-use Rattle.thread_local_base.specs.Held.{HoldsAllBelow}
+use Rattle.thread_local_base.specs.Held.{Manager, is_held, HoldsAllBelow, Gives}
 use Rattle.thread_local_base.specs.IdMoves.{IdMove, Take, held_after, noted}
 use Rattle.thread_local_ids.specs.FirstIds.{IsSameBeyond}
+use Rattle.thread_local_ids.specs.Filled.{IsFilled, TakesFurther}
+use Rattle.thread_local_ids.specs.FurtherIds.{IsFurther}
+use Rattle.thread_local_ids.specs.declared.further.Further.TheInside.{Inside}
+use Rattle.thread_local_ids.specs.declared.first.Log.{Log}
 use Rattle.thread_local_ids.specs.Taken.{IsTakenAfter}
 use Rattle.thread_local_ids.proofs.FirstLaws.{full_holds}
 use Rattle.thread_local_ids.proofs.FurtherLaws.{is_least, has_further, same_after, peak_after, all_held, if_took}
 use Rattle.thread_local_ids.proofs.further.Further.take.Goals as goal
+
+-- the moves of a log that a look took no id for
+if_not_took : (t : Bool) (a b c : List IdMove) → a ≡ (if t then b else c) → t ≡ false → a ≡ c
+if_not_took true a b c e is = cc
+if_not_took false a b c e is = e
+
+-- once it is given back, the further ids are held as before
+given_back : (old mid new : Manager) (id : ℕ) → IsFilled mid.held → TakesFurther old mid id → Gives mid new id
+    → IsFilled new.held × IsSameBeyond old.held new.held
+given_back old mid new id filled taken gives = (
+  λ j below.
+      gives.at j
+      ∙ rw (ne_eqb id j (λ e. absurd (omega (arith, e, below, taken.further)))) (filled j (omega (arith, below, gives.peak))),
+  λ j far. ⊎_elim
+      (λ (same : id ≡ j). ap (is_held old.held) (sym same) ∙ taken.free ∙ sym (gives.at j ∙ rw (eq-eqb id j same) refl))
+      (λ (apart : id ≢ j). sym (gives.at j ∙ rw (ne_eqb id j apart) (taken.at j far ∙ rw (ne_eqb id j apart) refl)))
+      (cases_eq id j),
+)
+
+-- where the log has no further move, and the manager holds the same further ids, the invariant stays
+still : (i : Inside) (manager : Manager) (log : Log) → IsFurther i → IsFilled manager.held → IsSameBeyond i.manager.held manager.held
+    → i.manager.room ≤ manager.room → (log.table ≡ i.log.table) × (log.whole ≡ false) × (log.moves ≡ i.log.moves)
+    → IsFurther (record { manager = manager; log = log; room = i.room; reached = i.reached })
+still i manager log kept filled same room is = record {
+  filled = filled;
+  half = is.1;
+  beyond = λ id far. ap (λ (l : List IdMove). is_held (held_after l) id) is.2 ∙ kept.beyond id far ∙ same id far;
+  reached = kept.reached ∙ sym (ap (λ (l : List IdMove). length (held_after l) - 58) is.2);
+  few = kept.few;
+  room = omega (arith, kept.room, room);
+  room_table = kept.room_table ∙ sym is.0;
+}
+
+pub invariant_of-self : goal.invariant_of-self
+invariant_of-self c =
+    let look = c.look-word in
+    let back = given_back c.self.inside.manager c.alloc.new.manager c.free.new.self c.in-Ok.id c.in-Ok.ensures.filled
+    c.in-Ok.ensures.ok c.free.ensures in
+    let not_full = sym c.is_full.ensures ∙ c.if-not-is_full.true in
+    let log = look.ensures.log in
+    let moves = if_not_took look.result.1.took look.new.log.moves (noted look.result.1.before Take) c.self.inside.log.moves log.2
+    (look.ensures.took ∙ not_full) in
+    still c.self.inside c.free.new.self look.new.log c.self.invariant back.0 back.1
+    (subst (λ (n : ℕ). c.self.inside.manager.room ≤ n) (sym c.free.ensures.room) c.in-Ok.ensures.room) (log.0, log.1, moves)
+
+pub invariant_of-self-then-not-is_full-2 : goal.invariant_of-self-then-not-is_full-2
+invariant_of-self-then-not-is_full-2 c =
+    let look = c.look-word-in-Err in
+    let log = look.ensures.log in
+    let moves = if_not_took look.result.1.took look.new.log.moves (noted look.result.1.before Take) c.self.inside.log.moves log.2
+    look.ensures.took in
+    still c.self.inside c.alloc.new.manager look.new.log c.self.invariant c.in-Err.ensures.filled c.in-Err.ensures.err
+    c.in-Err.ensures.room (log.0, log.1, moves)
+
+pub invariant_of-self-in-Err : goal.invariant_of-self-in-Err
+invariant_of-self-in-Err c =
+    let look = c.look-word-in-Err in
+    let log = look.ensures.log in
+    let moves = if_not_took look.result.1.took look.new.log.moves (noted look.result.1.before Take) c.self.inside.log.moves log.2
+    look.ensures.took in
+    still c.self.inside c.alloc.new.manager look.new.log c.self.invariant c.in-Err.ensures.filled c.in-Err.ensures.err
+    c.in-Err.ensures.room (log.0, log.1, moves)
 
 pub look-word-requires-clause-further : goal.look-word-requires-clause-further
 look-word-requires-clause-further c = λ _.
