@@ -70,6 +70,14 @@ module _ {V : Type 0} where
       (omega arith) (omega arith) at.behind)
       (cases_lt to (raw.index - 64 + 1))
 
+  -- a walk with flags at hand is behind their slots
+  pub behind_slots : (c : Contents V) (raw : RawIter) (word : ℕ) → IsAt c raw word → 0 < word → 64 ≤ raw.index
+  behind_slots c raw word at some =
+      let round = at.round in ⊎_elim
+      (λ (start : raw.index < 1). let nothing : word ≡ 0 = at.none (omega arith) in absurd (omega arith))
+      (λ (far : 1 ≤ raw.index). omega arith)
+      (cases_lt raw.index 1)
+
   -- the lowest set bit of the flags is that of the first value
   pub first_at_hand : (c : Contents V) (raw : RawIter) (word : ℕ) → word < 2 ^ 64 → 0 < word
       → IsAt c raw word
@@ -79,10 +87,8 @@ module _ {V : Type 0} where
       let bit : ℕ = trailing_zeros w64 word in
       let within : bit < 64 = low.within in
       let round = at.round in
-      let far : 0 < raw.index =
-      ⊎_elim (λ (start : raw.index < 1).
-      let nothing : word ≡ 0 = at.none (omega arith) in absurd (omega arith))
-      (λ (far : 1 ≤ raw.index). far) (cases_lt raw.index 1) in
+      let behind : 64 ≤ raw.index = behind_slots c raw word at some in
+      let far : 0 < raw.index = omega (arith, behind) in
       let from : ℕ = raw.index - 64 in
       let index : ℕ = from + bit in
       let chunk : index / 64 ≡ from / 64 = omega arith in

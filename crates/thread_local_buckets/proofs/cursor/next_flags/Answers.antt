@@ -1,5 +1,5 @@
 -- The walk goes from one announced bucket to the next until it finds flags that aren't 0.
-use Rattle.std.proofs.Common.{◌≡◌, ◌≢◌, ◌+◌, ◌-◌, ◌^◌, ◌<◌, ◌≤◌, ℕ, false, length, refl, sym, ◌∙◌, subst, arith, pow_mono, ⊎_elim}
+use Rattle.std.proofs.Common.{◌≡◌, ◌+◌, ◌-◌, ◌^◌, ◌<◌, ◌≤◌, ℕ, false, length, refl, sym, ◌∙◌, subst, arith, pow_mono, ⊎_elim}
 use Rattle.std.proofs.lemmas.Bool.{cases_lt}
 use Rattle.thread_local_base.specs.Bits.{IsLowestSet, IsWordBut}
 use Rattle.thread_local_base.specs.Place.{id_at}
@@ -70,9 +70,6 @@ is_passed contents left given raw new same announced none before = record {
   none = subst (λ (b : ℕ). NoneBelow (values contents) (id_at (b + 1) 0)) (sym same) none;
   before = subst (λ (b : ℕ). given ≤ id_at (b + 1) 0) (sym same) before;
 }
-
-above_zero : (n : ℕ) → n ≢ 0 → 0 < n
-above_zero n some = omega (arith, some)
 
 nearer : (old b : ℕ) (raw new : RawIter) → (old + 1 ≤ b) × (b < 63) → new ≡ at_bucket raw b → 63 - new.bucket < 63 - old
 nearer old b raw new inside is = subst (λ (r : RawIter). 63 - r.bucket < 63 - old) (sym is) (omega (arith, inside.0, inside.1))

@@ -1,21 +1,13 @@
-use Rattle.std.proofs.Common.{◌≡◌, ◌≢◌, refl, ◌-◌, ◌<◌, ◌≤◌, ℕ, ap, sym, subst, length, arith, ⊎_elim}
-use Rattle.std.proofs.lemmas.Bool.{cases_lt}
+use Rattle.std.proofs.Common.{◌≡◌, ◌≢◌, refl, ◌-◌, ◌<◌, ℕ, ap, sym, subst, length, arith}
 use Rattle.thread_local_base.specs.Buckets.{Contents, row}
 use Rattle.thread_local_buckets.specs.Cursor.{IsAt}
 use Rattle.thread_local_buckets.specs.declared.cursor.RawIter.{RawIter}
 use Rattle.thread_local_buckets.specs.declared.loan.Loan.{Loan}
+use Rattle.thread_local_buckets.proofs.FlagLaws.{behind_slots}
 use Rattle.thread_local_buckets.proofs.iter_mut.lead.Goals as goal
 
 above_zero : (n : ℕ) → n ≢ 0 → 0 < n
 above_zero n some = omega (arith, some)
-
--- a walk with flags at hand is behind 64 slots
-behind_slots : {V : Type 0} (c : Contents V) (raw : RawIter) (rest : ℕ) → IsAt c raw rest → 0 < rest → 64 ≤ raw.index
-behind_slots c raw rest at some =
-    let round = at.round in ⊎_elim
-    (λ (start : raw.index < 1). let nothing : rest ≡ 0 = at.none (omega arith) in absurd (omega arith))
-    (λ (far : 1 ≤ raw.index). omega arith)
-    (cases_lt raw.index 1)
 
 -- the chunk that it has read is in its bucket
 chunk_inside : {V : Type 0} (c d : Contents V) (raw : RawIter) (rest : ℕ) → d ≡ c → IsAt c raw rest → 0 < rest
