@@ -22,3 +22,4 @@ pub mod Returned
 pub mod Text
 pub mod WordList
 pub mod Judged
+pub mod Chain

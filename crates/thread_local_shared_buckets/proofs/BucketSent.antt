@@ -2,13 +2,13 @@
 use Rattle.std.proofs.Common.{ℕ, zero, suc, ◌+◌, Bool, true, false, List, [], ◌∷◌, ◌++◌, Option, None, Some}
 use mathlib.Core.Logic.{inl, inr}
 use base.Fml.{Lft, GName}
-use base.Before.{chain}
 use base.Shift.{Keyless}
 use denote.RattleType.{RattleType}
 use denote.RawPtr.{Ptr, block_ptr, null_ptr, block_of, count_of}
 use denote.Param.Send.{IsSend}
 use Rattle.thread_local_ids.proofs.ReachedElements.{reached_keyless}
 use Rattle.thread_local_ids.proofs.RightElements.{right_keyless}
+use Rattle.thread_local_base.specs.Chain.{chain_keyless}
 use Rattle.thread_local_base.specs.Judged.{Judged}
 use Rattle.thread_local_ids.proofs.ToldElements.{untold_keyless, tells_keyless, told_or_untold_keyless, all_telling_keyless}
 use Rattle.thread_local_base.specs.Bits.{is_set_in}
@@ -24,10 +24,6 @@ use Rattle.thread_local_buckets.proofs.Sent.{token_keyless, each_keyless, place_
 
 pub grown_keyless : (d : BucketView) → Keyless (grown d)
 grown_keyless d = (reached_keyless d.table (shown_by d), announced_keyless d.word d.bucket)
-
-pub chain_keyless : (νs : List Lft) (κ α : Lft) → Keyless (chain νs κ α)
-chain_keyless [] κ α = λ _. tt
-chain_keyless (ν ∷ νs) κ α = ((λ _. tt), chain_keyless νs (ν ++ κ) α)
 
 module _ (R : RattleType) (s : IsSend R) where
   words_keyless : (n b o : ℕ) (ns : List ℕ) → Keyless (each (flags_at R n b o) ns 0)

@@ -1,6 +1,9 @@
-//! `Judge` for values without parts: numbers, times, atomics, texts. Where a body names no value,
-//! the check finds one of the type by itself. Where it is empty, the check also shows by itself
-//! that threads may share such values.
+//! `Judge` for values without parts: numbers, times, atomics, texts.
+ghost use Rattle.std.specs.Prelude.{pos};
+ghost use Rattle.std.proofs.Common.{inl, lit<, rules};
+ghost use Rattle.thread_local_base.specs.Judged.{JudgedEverywhere};
+ghost use Rattle.thread_local_base.specs.Chain.{chain_keyless};
+
 use crate::judged::{Judge, judge_sync, judge_value};
 use std::boxed::BoxedStr;
 use std::cmp::Ordering;
@@ -16,228 +19,190 @@ use std::sync::atomic::{
 };
 use std::time::{Duration, Instant, SystemTime};
 
-impl Judge for u8 {
+/// A type without parts, whose `Judge` needs no function of its own. At run time it does nothing.
+pub trait Plain {
+    /// What `judge` shows.
+    ghost everywhere: { JudgedEverywhere Self.row };
+}
+
+impl<T: Plain> Judge for T {
     fn judge() {}
 }
 
-impl Judge for u16 {
-    fn judge() {}
+impl Plain for u8 {
+    ghost everywhere = { Prim.search rules };
 }
 
-impl Judge for u32 {
-    fn judge() {}
+impl Plain for u16 {
+    ghost everywhere = { Prim.search rules };
 }
 
-impl Judge for u64 {
-    fn judge() {}
+impl Plain for u32 {
+    ghost everywhere = { Prim.search rules };
 }
 
-impl Judge for u128 {
-    fn judge() {}
+impl Plain for u64 {
+    ghost everywhere = { Prim.search rules };
 }
 
-impl Judge for usize {
-    fn judge() {}
+impl Plain for u128 {
+    ghost everywhere = { Prim.search rules };
 }
 
-impl Judge for i8 {
-    fn judge() {
-        judge_value(&0i8);
-    }
+impl Plain for usize {
+    ghost everywhere = { Prim.search rules };
 }
 
-impl Judge for i16 {
-    fn judge() {
-        judge_value(&0i16);
-    }
+impl Plain for f32 {
+    ghost everywhere = { Prim.search rules };
 }
 
-impl Judge for i32 {
-    fn judge() {
-        judge_value(&0i32);
-    }
+impl Plain for f64 {
+    ghost everywhere = { Prim.search rules };
 }
 
-impl Judge for i64 {
-    fn judge() {
-        judge_value(&0i64);
-    }
+impl Plain for bool {
+    ghost everywhere = { Prim.search rules };
 }
 
-impl Judge for i128 {
-    fn judge() {
-        judge_value(&0i128);
-    }
+impl Plain for char {
+    ghost everywhere = { Prim.search rules };
 }
 
-impl Judge for isize {
-    fn judge() {
-        judge_value(&0isize);
-    }
+impl Plain for () {
+    ghost everywhere = { Prim.search rules };
 }
 
-impl Judge for f32 {
-    fn judge() {}
+impl Plain for NonZeroU8 {
+    ghost everywhere = { Prim.search rules };
 }
 
-impl Judge for f64 {
-    fn judge() {}
+impl Plain for NonZeroU16 {
+    ghost everywhere = { Prim.search rules };
 }
 
-impl Judge for bool {
-    fn judge() {}
+impl Plain for NonZeroU32 {
+    ghost everywhere = { Prim.search rules };
 }
 
-impl Judge for char {
-    fn judge() {}
+impl Plain for NonZeroU64 {
+    ghost everywhere = { Prim.search rules };
 }
 
-impl Judge for () {
-    fn judge() {}
+impl Plain for NonZeroU128 {
+    ghost everywhere = { Prim.search rules };
 }
 
-impl Judge for NonZeroU8 {
-    fn judge() {}
+impl Plain for NonZeroUsize {
+    ghost everywhere = { Prim.search rules };
 }
 
-impl Judge for NonZeroU16 {
-    fn judge() {}
+impl Plain for Ordering {
+    ghost everywhere = { Prim.search rules };
 }
 
-impl Judge for NonZeroU32 {
-    fn judge() {}
+impl Plain for Duration {
+    ghost everywhere = { Prim.search rules };
 }
 
-impl Judge for NonZeroU64 {
-    fn judge() {}
+impl Plain for SystemTime {
+    ghost everywhere = { Prim.search rules };
 }
 
-impl Judge for NonZeroU128 {
-    fn judge() {}
+impl Plain for i8 {
+    ghost everywhere = { inl (pos 0, Prim.search rules) };
 }
 
-impl Judge for NonZeroUsize {
-    fn judge() {}
+impl Plain for i16 {
+    ghost everywhere = { inl (pos 0, Prim.search rules) };
 }
 
-impl Judge for NonZeroI8 {
-    fn judge() {
-        judge_value(&NonZeroI8::MIN);
-    }
+impl Plain for i32 {
+    ghost everywhere = { inl (pos 0, Prim.search rules) };
 }
 
-impl Judge for NonZeroI16 {
-    fn judge() {
-        judge_value(&NonZeroI16::MIN);
-    }
+impl Plain for i64 {
+    ghost everywhere = { inl (pos 0, Prim.search rules) };
 }
 
-impl Judge for NonZeroI32 {
-    fn judge() {
-        judge_value(&NonZeroI32::MIN);
-    }
+impl Plain for i128 {
+    ghost everywhere = { inl (pos 0, Prim.search rules) };
 }
 
-impl Judge for NonZeroI64 {
-    fn judge() {
-        judge_value(&NonZeroI64::MIN);
-    }
+impl Plain for isize {
+    ghost everywhere = { inl (pos 0, Prim.search rules) };
 }
 
-impl Judge for NonZeroI128 {
-    fn judge() {
-        judge_value(&NonZeroI128::MIN);
-    }
+impl Plain for NonZeroI8 {
+    ghost everywhere = { inl (record { value = pos 1; ok = lit< tt }, Prim.search rules) };
 }
 
-impl Judge for NonZeroIsize {
-    fn judge() {
-        judge_value(&NonZeroIsize::MIN);
-    }
+impl Plain for NonZeroI16 {
+    ghost everywhere = { inl (record { value = pos 1; ok = lit< tt }, Prim.search rules) };
 }
 
-impl Judge for Ordering {
-    fn judge() {}
+impl Plain for NonZeroI32 {
+    ghost everywhere = { inl (record { value = pos 1; ok = lit< tt }, Prim.search rules) };
 }
 
-impl Judge for Duration {
-    fn judge() {}
+impl Plain for NonZeroI64 {
+    ghost everywhere = { inl (record { value = pos 1; ok = lit< tt }, Prim.search rules) };
 }
 
-impl Judge for Instant {
-    fn judge() {
-        judge_sync::<Instant>();
-    }
+impl Plain for NonZeroI128 {
+    ghost everywhere = { inl (record { value = pos 1; ok = lit< tt }, Prim.search rules) };
 }
 
-impl Judge for SystemTime {
-    fn judge() {}
+impl Plain for NonZeroIsize {
+    ghost everywhere = { inl (record { value = pos 1; ok = lit< tt }, Prim.search rules) };
 }
 
-impl Judge for AtomicBool {
-    fn judge() {
-        judge_sync::<AtomicBool>();
-    }
+impl Plain for Instant {
+    ghost everywhere = { inl (record { since_start = record { secs = 0; nanos = 0 } }, Prim.search rules) };
 }
 
-impl Judge for AtomicU8 {
-    fn judge() {
-        judge_sync::<AtomicU8>();
-    }
+impl Plain for AtomicBool {
+    ghost everywhere = { inl (record { word = tt }, Prim.search (rules, chain_keyless)) };
 }
 
-impl Judge for AtomicU16 {
-    fn judge() {
-        judge_sync::<AtomicU16>();
-    }
+impl Plain for AtomicU8 {
+    ghost everywhere = { inl (record { word = tt }, Prim.search (rules, chain_keyless)) };
 }
 
-impl Judge for AtomicU32 {
-    fn judge() {
-        judge_sync::<AtomicU32>();
-    }
+impl Plain for AtomicU16 {
+    ghost everywhere = { inl (record { word = tt }, Prim.search (rules, chain_keyless)) };
 }
 
-impl Judge for AtomicU64 {
-    fn judge() {
-        judge_sync::<AtomicU64>();
-    }
+impl Plain for AtomicU32 {
+    ghost everywhere = { inl (record { word = tt }, Prim.search (rules, chain_keyless)) };
 }
 
-impl Judge for AtomicUsize {
-    fn judge() {
-        judge_sync::<AtomicUsize>();
-    }
+impl Plain for AtomicUsize {
+    ghost everywhere = { inl (record { word = tt }, Prim.search (rules, chain_keyless)) };
 }
 
-impl Judge for AtomicI8 {
-    fn judge() {
-        judge_sync::<AtomicI8>();
-    }
+impl Plain for AtomicI8 {
+    ghost everywhere = { inl (record { word = tt }, Prim.search (rules, chain_keyless)) };
 }
 
-impl Judge for AtomicI16 {
-    fn judge() {
-        judge_sync::<AtomicI16>();
-    }
+impl Plain for AtomicI16 {
+    ghost everywhere = { inl (record { word = tt }, Prim.search (rules, chain_keyless)) };
 }
 
-impl Judge for AtomicI32 {
-    fn judge() {
-        judge_sync::<AtomicI32>();
-    }
+impl Plain for AtomicI32 {
+    ghost everywhere = { inl (record { word = tt }, Prim.search (rules, chain_keyless)) };
 }
 
-impl Judge for AtomicI64 {
-    fn judge() {
-        judge_sync::<AtomicI64>();
-    }
+impl Plain for AtomicI64 {
+    ghost everywhere = { inl (record { word = tt }, Prim.search (rules, chain_keyless)) };
 }
 
-impl Judge for AtomicIsize {
-    fn judge() {
-        judge_sync::<AtomicIsize>();
-    }
+impl Plain for AtomicIsize {
+    ghost everywhere = { inl (record { word = tt }, Prim.search (rules, chain_keyless)) };
+}
+
+impl Plain for AtomicU64 {
+    ghost everywhere = { inl (tt, Prim.search (rules, chain_keyless)) };
 }
 
 impl Judge for String {

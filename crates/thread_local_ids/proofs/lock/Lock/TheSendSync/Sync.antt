@@ -1,18 +1,13 @@
 -- Threads may share a lock if its value may go to another thread.
-use Rattle.std.proofs.Common.{ℕ, zero, suc, ◌+◌, List, [], ◌∷◌, ◌++◌}
+use Rattle.std.proofs.Common.{ℕ, zero, suc, ◌+◌}
 use base.Fraction.{full_share}
-use base.Fml.{Lft}
-use base.Before.{chain}
 use base.Shift.{Keyless}
 use denote.RattleType.{RattleType}
 use denote.Param.Send.{IsSend, IsSync, part_keyless}
+use Rattle.thread_local_base.specs.Chain.{chain_keyless}
 use Rattle.thread_local_ids.specs.Locking.{Fitting, offset, LockTurn, with_word}
 use Rattle.thread_local_ids.specs.declared.lock.Fits.{Ghosts}
 use Rattle.thread_local_ids.specs.contracts.lock.Lock.{the_row}
-
-chain_keyless : (νs : List Lft) (κ α : Lft) → Keyless (chain νs κ α)
-chain_keyless [] κ α = λ _. tt
-chain_keyless (ν ∷ νs) κ α = ((λ _. tt), chain_keyless νs (ν ++ κ) α)
 
 with_word_keyless : (R : RattleType) (ok : R.Denot → Type 0) → IsSend R
     → (b o : ℕ) (t : LockTurn) (n : ℕ)

@@ -1,7 +1,7 @@
 -- Threads may share the word of announced buckets.
 use denote.Param.Send.{IsSync}
 use Rattle.thread_local_shared_buckets.proofs.AnnouncingSent.{word_keyless}
-use Rattle.thread_local_shared_buckets.proofs.BucketSent.{chain_keyless}
+use Rattle.thread_local_base.specs.Chain.{chain_keyless}
 use Rattle.thread_local_shared_buckets.specs.contracts.announcements.Announcements.{the_row}
 
 pub sync : IsSync the_row
