@@ -29,10 +29,12 @@ mod locals;
 mod moves;
 mod owner;
 mod pools;
+mod race;
 
 use gate::Gate;
 use history::Record;
-use moves::{LOCALS, NUMBERS, Plan, round};
+use moves::{LOCALS, round};
+use race::{NUMBERS, Plan};
 use std::alloc::{AllocError, Global};
 use std::io::{self, BufWriter, Print, Write};
 use std::sync::Wait;
@@ -181,7 +183,7 @@ fn live_pool<R: Threads + Wait + Sync, W: Write>(
         writeln!(out, "round")?;
         let mut owner = Record::new(alloc, clock, asked.threads, asked.numbers(past));
         let gate = Gate::new(plan.threads);
-        let Some(records) = pools::round(&pool, rt, alloc, clock, &gate, plan)? else {
+        let Some(records) = pools::round(&pool, rt, alloc, clock, &gate, plan) else {
             return Err(AllocError.into());
         };
         for record in records {

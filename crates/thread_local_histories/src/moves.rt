@@ -4,11 +4,10 @@ ghost use Rattle.std.specs.Prelude.{IsSome};
 use crate::gate::Gate;
 use crate::history::Record;
 use crate::locals::{Held, Told, entries, tokens, walk};
+use crate::race::{Moves, Plan, race, stirred};
 use std::alloc::{AllocError, Global};
 use std::sync::atomic::AtomicU64;
-use std::sync::atomic::Ordering::SeqCst;
 use std::sync::{Mutex, Wait};
-use std::thread;
 use std::thread::Threads;
 use thread_local::ThreadLocal;
 
@@ -18,8 +17,8 @@ pub(crate) const LOCALS: usize = 6;
 /// How many `Local`s may lie between two threads, and how many tokens.
 const BETWEEN: usize = 8;
 
-/// What the threads of a round share: a table, `Local`s on their way from one thread to another,
-/// tokens, and what each thread recorded.
+/// What the threads of a round share: a table, `Local`s on their way from one thread to another, and
+/// tokens.
 #[derive(Drop)]
 struct Room<'a, R: Wait> {
     table: &'a ThreadLocal<u64>,
@@ -27,15 +26,7 @@ struct Room<'a, R: Wait> {
     locals: usize,
     handed: Mutex<Vec<Held<'a, R>>>,
     told: Mutex<Vec<Told<'a>>>,
-    kept: Mutex<Vec<Record<'a>>>,
     ghost named: { IsSome table.now.sharing },
-}
-
-/// The next state of a thread's choices.
-pub(crate) fn stirred(state: u64) -> u64 {
-    state
-        .wrapping_mul(6364136223846793005)
-        .wrapping_add(1442695040888963407)
 }
 
 /// How many values a walk is asked for: in half of the walks all.
@@ -188,9 +179,10 @@ impl<'a, R: Wait> Room<'a, R> {
             _ => held.get(record),
         }
     }
+}
 
-    /// Makes moves at random, from a state of its own, until so many calls are recorded. Then it
-    /// drops its `Local`s.
+impl<'a, R: Wait> Moves for Room<'a, R> {
+    /// At the end it drops its `Local`s.
     fn moves(&self, record: &mut Record<'_>, count: usize, seed: u64) -> Result<(), AllocError> {
         let mut hand = Vec::with_capacity(record.alloc, LOCALS)?;
         let mut state = seed;
@@ -215,29 +207,7 @@ impl<'a, R: Wait> Room<'a, R> {
         }
         Ok(())
     }
-
-    /// Makes the moves, and keeps their record.
-    fn play(&self, record: Record<'a>, count: usize, seed: u64) -> Result<(), AllocError> {
-        let mut record = record;
-        let moved = self.moves(&mut record, count, seed);
-        self.kept.lock(self.rt).push(record)?;
-        moved
-    }
 }
-
-/// What a round is given: how many threads, how many `Local`s each holds at most, how many calls it
-/// makes at least, a seed, and the number from which the threads make theirs.
-#[derive(Clone, Copy)]
-pub(crate) struct Plan {
-    pub(crate) threads: u64,
-    pub(crate) locals: usize,
-    pub(crate) calls: usize,
-    pub(crate) seed: u64,
-    pub(crate) first: u64,
-}
-
-/// How many numbers each thread may make in a round.
-pub(crate) const NUMBERS: u64 = 4096;
 
 /// The threads make their moves at once. `Local`s that lie between them at the end are dropped by
 /// the owner. Answers what was recorded, or none where a thread could not be started or had no
@@ -259,51 +229,17 @@ pub(crate) fn round<'a, R: Threads + Wait + Sync>(
         locals: plan.locals,
         handed: Mutex::new(Vec::new(alloc)),
         told: Mutex::new(Vec::new(alloc)),
-        kept: Mutex::new(Vec::new(alloc)),
     };
-    let refused = AtomicU64::new(0);
-    race(&room, alloc, clock, gate, plan, &refused);
+    let recorded = race(rt, &room, alloc, clock, gate, plan);
     let Room {
         table: _,
         rt: _,
         locals: _,
         handed,
         told: _,
-        kept,
     } = room;
     for held in handed.into_inner() {
         held.give_back(owner)?;
     }
-    if refused.load(SeqCst) == 0 {
-        Ok(Some(kept.into_inner()))
-    } else {
-        Ok(None)
-    }
-}
-
-/// Starts the threads and waits for their end. Counts those that could not be started or had no
-/// memory.
-fn race<'a, R: Threads + Wait + Sync>(
-    room: &Room<'a, R>,
-    alloc: Global,
-    clock: &'a AtomicU64,
-    gate: &'a Gate,
-    plan: Plan,
-    refused: &AtomicU64,
-) {
-    thread::scope(thread::scope_env(), room.rt, |scope| {
-        for number in 0..plan.threads {
-            let first = plan.first.wrapping_add(number.wrapping_mul(NUMBERS));
-            let seed = stirred(plan.seed.wrapping_mul(64).wrapping_add(number));
-            let started = scope.spawn(move || {
-                let record = Record::racing(alloc, clock, gate, plan.calls, number, first);
-                if room.play(record, plan.calls, seed).is_err() {
-                    refused.fetch_add(1, SeqCst);
-                }
-            });
-            if started.is_err() {
-                refused.fetch_add(1, SeqCst);
-            }
-        }
-    });
+    Ok(recorded)
 }

@@ -2,12 +2,10 @@
 
 use crate::gate::Gate;
 use crate::history::{Answer, Call, Item, Record};
-use crate::moves::{NUMBERS, Plan, stirred};
+use crate::race::{Moves, Plan, race, stirred};
 use std::alloc::{AllocError, Global};
+use std::sync::Wait;
 use std::sync::atomic::AtomicU64;
-use std::sync::atomic::Ordering::SeqCst;
-use std::sync::{Mutex, Wait};
-use std::thread;
 use std::thread::Threads;
 use thread_local::thread_id::LocalError;
 use thread_local_pool::{Pool, Pooled};
@@ -74,17 +72,16 @@ impl<'a, R: Wait> Loan<'a, R> {
     }
 }
 
-/// What the threads of a round share: a pool, and what each thread recorded.
+/// What the threads of a round share: a pool.
 #[derive(Drop)]
 struct Room<'a, R: Wait> {
     pool: &'a Pool<u64>,
     rt: &'a R,
     loans: usize,
-    kept: Mutex<Vec<Record<'a>>>,
 }
 
-impl<'a, R: Wait> Room<'a, R> {
-    /// Makes moves at random until so many calls are recorded. Then it puts back what it has.
+impl<'a, R: Wait> Moves for Room<'a, R> {
+    /// At the end it puts back what it has.
     fn moves(&self, record: &mut Record<'_>, count: usize, seed: u64) -> Result<(), AllocError> {
         let mut hand = Vec::with_capacity(record.alloc, self.loans)?;
         let mut state = seed;
@@ -114,72 +111,24 @@ impl<'a, R: Wait> Room<'a, R> {
         }
         Ok(())
     }
-
-    /// Makes the moves, and keeps their record.
-    fn play(&self, record: Record<'a>, count: usize, seed: u64) -> Result<(), AllocError> {
-        let mut record = record;
-        let moved = self.moves(&mut record, count, seed);
-        self.kept.lock(self.rt).push(record)?;
-        moved
-    }
 }
 
 /// The threads make their moves at once. Answers what was recorded, or none where a thread could not
 /// be started or had no memory.
 pub(crate) fn round<'a, R: Threads + Wait + Sync>(
-    pool: &'a Pool<u64>,
-    rt: &'a R,
+    pool: &Pool<u64>,
+    rt: &R,
     alloc: Global,
     clock: &'a AtomicU64,
     gate: &'a Gate,
     plan: Plan,
-) -> Result<Option<Vec<Record<'a>>>, AllocError> {
+) -> Option<Vec<Record<'a>>> {
     let room = Room {
         pool,
         rt,
         loans: plan.locals,
-        kept: Mutex::new(Vec::new(alloc)),
     };
-    let refused = AtomicU64::new(0);
-    race(&room, alloc, clock, gate, plan, &refused);
-    let Room {
-        pool: _,
-        rt: _,
-        loans: _,
-        kept,
-    } = room;
-    if refused.load(SeqCst) == 0 {
-        Ok(Some(kept.into_inner()))
-    } else {
-        Ok(None)
-    }
-}
-
-/// Starts the threads and waits for their end. Counts those that could not be started or had no
-/// memory.
-fn race<'a, R: Threads + Wait + Sync>(
-    room: &Room<'a, R>,
-    alloc: Global,
-    clock: &'a AtomicU64,
-    gate: &'a Gate,
-    plan: Plan,
-    refused: &AtomicU64,
-) {
-    thread::scope(thread::scope_env(), room.rt, |scope| {
-        for number in 0..plan.threads {
-            let first = plan.first.wrapping_add(number.wrapping_mul(NUMBERS));
-            let seed = stirred(plan.seed.wrapping_mul(64).wrapping_add(number));
-            let started = scope.spawn(move || {
-                let record = Record::racing(alloc, clock, gate, plan.calls, number, first);
-                if room.play(record, plan.calls, seed).is_err() {
-                    refused.fetch_add(1, SeqCst);
-                }
-            });
-            if started.is_err() {
-                refused.fetch_add(1, SeqCst);
-            }
-        }
-    });
+    race(rt, &room, alloc, clock, gate, plan)
 }
 
 /// Writes another value in the place of each.
