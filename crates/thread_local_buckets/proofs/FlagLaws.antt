@@ -12,7 +12,7 @@ use Rattle.thread_local_base.specs.Rows.{value_in}
 use Rattle.thread_local_base.specs.Owner.{NoneBelow}
 use Rattle.thread_local_buckets.specs.Cursor.{at_bucket, behind_next, AreFlagsAt, IsAt}
 use Rattle.thread_local_buckets.specs.declared.cursor.RawIter.{RawIter}
-use Rattle.thread_local_base.proofs.TakingLaws.{NoneBelow-slot}
+use Rattle.thread_local_base.proofs.TakingLaws.{NoneBelow-slot, id_at-next}
 
 -- a slot is the first that has a value, and these are the flags of its chunk, of which its own is
 -- the lowest that is set
@@ -69,6 +69,14 @@ module _ {V : Type 0} where
       none_in_chunk c raw.bucket (raw.index - 64) to (at.flags (omega arith)) (omega arith)
       (omega arith) (omega arith) at.behind)
       (cases_lt to (raw.index - 64 + 1))
+
+  -- and where its bucket has no further flags, none before the next bucket
+  pub none_to_next : (c : Contents V) (raw : RawIter) → IsAt c raw 0 → raw.bucket_size ≤ raw.index
+      → NoneBelow (values c) (id_at (raw.bucket + 1) 0)
+  none_to_next c raw at past id below =
+      let size = at.size in
+      let next = id_at-next raw.bucket in
+      none_at_hand c raw raw.bucket_size at past (omega arith) id (omega (arith, below, size, next))
 
   -- a walk with flags at hand is behind their slots
   pub behind_slots : (c : Contents V) (raw : RawIter) (word : ℕ) → IsAt c raw word → 0 < word → 64 ≤ raw.index

@@ -61,6 +61,14 @@ pub record Takes {V : Type 0} (contents : Contents V) (rest from bucket : ℕ) :
   pub absent : (k : ℕ) → from ≤ k → k < bucket → row contents k ≡ []
   pub ahead : AreAhead contents rest (bucket + 1)
 
+-- what a walk knows that has read all flags of its bucket: no value stands before the next one, and
+-- the word has the announced buckets from there on
+pub record IsPassed {V : Type 0} (contents : Contents V) (left given bucket : ℕ) : Type 0 where
+  pub in_table : bucket < 63
+  pub announced : AreAhead contents left (bucket + 1)
+  pub none : NoneBelow (values contents) (id_at (bucket + 1) 0)
+  pub before : given ≤ id_at (bucket + 1) 0
+
 module _ {V : Type 0} where
   -- a bucket that is behind and isn't in the word doesn't stand
   pub absent_ahead : (c : Contents V) (word from b : ℕ) → AreAhead c word from → from ≤ b → b < 63 → is_set word b ≡ false → stands c b ≡ false

@@ -145,8 +145,9 @@ impl<T> FlagSource for BucketPointers<T> {
 
     /// The flags of a chunk's slots, a bit each. The bits past the last slot are 0.
     #[inline]
-    fn flags(&mut self, bucket: usize, chunk: usize) -> u64
+    fn flags(&mut self, bucket: usize, size: usize, chunk: usize) -> u64
         requires in_table { bucket < 63 }
+        requires size { size ≡ 2 ^ bucket }
         requires in_bucket { chunk * 64 < length (row self.old bucket) }
         ensures same { self.new ≡ self.old }
         ensures value { (bit : ℕ)
@@ -154,7 +155,7 @@ impl<T> FlagSource for BucketPointers<T> {
             → is_set result bit ≡ is_some (value_in self.old bucket (chunk * 64 + bit)) }
         ensures table { IsTable self.old }
     {
-        let flag_word = flag_word_at::<T>(bucket_size(bucket), chunk);
+        let flag_word = flag_word_at::<T>(size, chunk);
         self.pointers.pointer_mut(bucket).flags(chunk, flag_word)
     }
 }

@@ -36,9 +36,10 @@ pub trait FlagSource {
         ensures absent { result ≡ false → row (contents self.old) bucket ≡ [] };
 
     /// The flags of a chunk's slots, which begin with slot `chunk * 64` of the bucket. The bits
-    /// past the last slot are 0.
-    fn flags(&mut self, bucket: usize, chunk: usize) -> u64
+    /// past the last slot are 0. The caller passes the bucket's size.
+    fn flags(&mut self, bucket: usize, size: usize, chunk: usize) -> u64
         requires in_table { bucket < 63 }
+        requires size { size ≡ 2 ^ bucket }
         requires in_bucket { chunk * 64 < length (row (contents self.old) bucket) }
         requires ahead { given self.old ≤ id_at bucket (chunk * 64) }
         ensures same { self.new ≡ self.old }
@@ -94,69 +95,30 @@ pub fn write_struct<W: fmt::Write, D: fmt::Debug>(
     f.debug_struct(name).field(field, value).finish()
 }
 
-/// Reads the flags of the bucket's next chunk, and goes behind it.
-#[inline]
-fn next_chunk<P: FlagSource>(source: &mut P, raw: &mut RawIter) -> u64
-    requires at { IsAt (P.contents source.old) raw.old 0 }
-    requires inside { raw.old.index < raw.old.bucket_size }
-    requires whole { length (row (P.contents source.old) raw.old.bucket) ≡ raw.old.bucket_size }
-    requires ahead { P.given source.old ≤ read_to raw.old }
-    ensures same { source.new ≡ source.old }
-    ensures at { IsAt (P.contents source.old) raw.new result }
-    ensures behind { raw.new ≡ behind_next raw.old }
-{
-    let flags = source.flags(raw.bucket, raw.index / 64);
-    raw.index += 64;
-    flags
-}
-
 /// Advances past the bucket's next flags that aren't 0 and returns them, or returns 0 where there
-/// are none. The bucket must have flags that aren't read.
+/// are none. The bucket must have flags that aren't read, if it stands.
 #[inline]
 fn flags_in_bucket<P: FlagSource>(source: &mut P, raw: &mut RawIter) -> u64
     requires at { IsAt (P.contents source.old) raw.old 0 }
     requires inside { raw.old.index < raw.old.bucket_size }
-    requires whole { length (row (P.contents source.old) raw.old.bucket) ≡ raw.old.bucket_size }
     requires ahead { P.given source.old ≤ read_to raw.old }
     ensures same { source.new ≡ source.old }
     ensures at { IsAt (P.contents source.old) raw.new result }
     ensures ahead { P.given source.old ≤ read_to raw.new }
     ensures yielded { raw.new.yielded ≡ raw.old.yielded }
     ensures bucket { raw.new.bucket ≡ raw.old.bucket }
-    ensures behind { result ≡ 0
-        → NoneBelow (values (P.contents source.old)) (id_at raw.old.bucket raw.old.bucket_size) }
-{
-    'chunks: loop {
-        let flags = next_chunk(source, raw);
-        if flags != 0 {
-            return flags;
-        }
-        if raw.index >= raw.bucket_size {
-            return 0;
-        }
-    }
-}
-
-/// `flags_in_bucket` where the bucket stands and has flags that aren't read, and else 0.
-#[inline]
-fn flags_here<P: FlagSource>(source: &mut P, raw: &mut RawIter) -> u64
-    requires at { IsAt (P.contents source.old) raw.old 0 }
-    requires ahead { P.given source.old ≤ read_to raw.old }
-    ensures same { source.new ≡ source.old }
-    ensures at { IsAt (P.contents source.old) raw.new result }
-    ensures ahead { P.given source.old ≤ read_to raw.new }
-    ensures yielded { raw.new.yielded ≡ raw.old.yielded }
-    ensures bucket { raw.new.bucket ≡ raw.old.bucket }
-    ensures before { P.given source.old ≤ id_at (raw.old.bucket + 1) 0 }
     ensures behind { result ≡ 0 → NoneBelow (values (P.contents source.old)) (id_at (raw.old.bucket + 1) 0) }
 {
-    if raw.index >= raw.bucket_size {
-        return 0;
-    }
     if !source.stands(raw.bucket) {
         return 0;
     }
-    flags_in_bucket(source, raw)
+    'chunks: loop {
+        let flags = source.flags(raw.bucket, raw.bucket_size, raw.index / 64);
+        raw.index += 64;
+        if flags != 0 || raw.index >= raw.bucket_size {
+            return flags;
+        }
+    }
 }
 
 /// Advances past the next flags that aren't 0, in this bucket or one of those behind it, and returns
@@ -173,12 +135,18 @@ fn next_flags<P: FlagSource>(source: &mut P, raw: &mut RawIter, left: &mut u64) 
     ensures announced { AreAhead (P.contents source.old) left.new (raw.new.bucket + 1) }
     ensures yielded { raw.new.yielded ≡ raw.old.yielded }
 {
-    'buckets: loop {
-        let flags = flags_here(source, raw);
+    if raw.index < raw.bucket_size {
+        let flags = flags_in_bucket(source, raw);
         if flags != 0 {
             return flags;
         }
+    }
+    'buckets: loop {
         raw.enter(take_first(left));
+        let flags = flags_in_bucket(source, raw);
+        if flags != 0 {
+            return flags;
+        }
     }
 }
 

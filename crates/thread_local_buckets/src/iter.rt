@@ -45,7 +45,7 @@ impl<T: Drop> Iterator for IntoEntries<T> {
 
     /// The next value, with its id.
     #[tactic(auto, using(crate::proofs::EntriesLaws::no_entries))]
-    #[inline]
+    #[inline(always)]
     fn next(&mut self) -> Option<(usize, T)> {
         if self.cursor.is_over() {
             return None;
@@ -109,7 +109,7 @@ impl<T: Drop> Iterator for IntoIter<T> {
     ghost remaining = { item_count (λ rest. rest) };
 
     /// The next value, whose flag is cleared before it moves out.
-    #[inline]
+    #[inline(always)]
     fn next(&mut self) -> Option<T> {
         match self.entries.next() {
             Some((_, value)) => Some(value),

@@ -12,7 +12,6 @@ ghost use Rattle.thread_local_buckets.specs.Lent.{loan_owns};
 
 use crate::{Chunk, FlagSource, flag_word_at};
 use std::marker::{Model, PhantomData};
-use thread_local_base::bucket_size;
 
 /// The pointers of an owner's buckets, lent to a walk that writes. It gives the values by ascending
 /// place, each at most once.
@@ -127,8 +126,9 @@ impl<T> FlagSource for Loan<'_, T> {
 
     /// The flags of a chunk's slots, of which no value has been given yet.
     #[inline]
-    fn flags(&mut self, bucket: usize, chunk: usize) -> u64
+    fn flags(&mut self, bucket: usize, size: usize, chunk: usize) -> u64
         requires in_table { bucket < 63 }
+        requires size { size ≡ 2 ^ bucket }
         requires in_bucket { chunk * 64 < length (row self.old.contents bucket) }
         requires ahead { self.old.given ≤ id_at bucket (chunk * 64) }
         ensures same { self.new ≡ self.old }
@@ -137,7 +137,7 @@ impl<T> FlagSource for Loan<'_, T> {
             → is_set result bit ≡ is_some (value_in self.old.contents bucket (chunk * 64 + bit)) }
         ensures table { IsTable self.old.contents }
     {
-        self.flags_at(bucket, chunk, flag_word_at::<T>(bucket_size(bucket), chunk))
+        self.flags_at(bucket, chunk, flag_word_at::<T>(size, chunk))
     }
 }
 

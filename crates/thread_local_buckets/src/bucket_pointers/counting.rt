@@ -16,8 +16,9 @@ impl<T> BucketPointers<T> {
     /// The flags of eight chunks, from this one on, or-ed together. They are 0 exactly where none of
     /// the chunks has a value.
     #[inline]
-    fn any_of_eight(&mut self, bucket: usize, chunk: usize) -> u64
+    fn any_of_eight(&mut self, bucket: usize, size: usize, chunk: usize) -> u64
         requires in_table { bucket < 63 }
+        requires size { size ≡ 2 ^ bucket }
         requires whole { length (row self.old bucket) ≡ 2 ^ bucket }
         requires inside { (chunk + 8) * 64 ≤ 2 ^ bucket }
         ensures same { self.new ≡ self.old }
@@ -30,15 +31,16 @@ impl<T> BucketPointers<T> {
     {
         let mut any = 0;
         for at in 0..8 {
-            any |= self.flags(bucket, chunk + at);
+            any |= self.flags(bucket, size, chunk + at);
         }
         any
     }
 
     /// How many values the chunks `from..to` of a bucket have.
     #[inline]
-    fn count_in_chunks(&mut self, bucket: usize, from: usize, to: usize) -> usize
+    fn count_in_chunks(&mut self, bucket: usize, size: usize, from: usize, to: usize) -> usize
         requires in_table { bucket < 63 }
+        requires size { size ≡ 2 ^ bucket }
         requires whole { length (row self.old bucket) ≡ 2 ^ bucket }
         requires order { from ≤ to }
         requires inside { to ≤ (2 ^ bucket + 63) / 64 }
@@ -48,7 +50,7 @@ impl<T> BucketPointers<T> {
     {
         let mut count = 0;
         for chunk in from..to {
-            count += self.flags(bucket, chunk).count_ones() as usize;
+            count += self.flags(bucket, size, chunk).count_ones() as usize;
         }
         count
     }
@@ -68,11 +70,11 @@ impl<T> BucketPointers<T> {
         let mut count = 0;
         for group in 0..groups {
             let first = group * 8;
-            if self.any_of_eight(bucket, first) != 0 {
-                count += self.count_in_chunks(bucket, first, first + 8);
+            if self.any_of_eight(bucket, size, first) != 0 {
+                count += self.count_in_chunks(bucket, size, first, first + 8);
             }
         }
-        count + self.count_in_chunks(bucket, groups * 8, chunks)
+        count + self.count_in_chunks(bucket, size, groups * 8, chunks)
     }
 
     /// How many values the first seven buckets have. The flags of each are one word.
@@ -84,7 +86,7 @@ impl<T> BucketPointers<T> {
         let mut count = 0;
         for bucket in 0..7 {
             if self.stands(bucket) {
-                count += self.count_in_chunks(bucket, 0, 1);
+                count += self.count_in_chunks(bucket, bucket_size(bucket), 0, 1);
             }
         }
         count

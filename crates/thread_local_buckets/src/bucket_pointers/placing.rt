@@ -37,8 +37,9 @@ impl<T> BucketPointers<T> {
         ensures within { result ≡ true → thread.index < length (row self.old thread.bucket) }
         ensures stands { result ≡ true → stands self.old thread.bucket ≡ true }
     {
+        let size = bucket_size(thread.bucket);
         self.stands(thread.bucket)
-            && self.flags(thread.bucket, thread.index / 64) >> (thread.index % 64) & 1 == 1
+            && self.flags(thread.bucket, size, thread.index / 64) >> (thread.index % 64) & 1 == 1
     }
 }
 

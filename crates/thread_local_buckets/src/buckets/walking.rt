@@ -12,7 +12,7 @@ use crate::OwnerCursor;
 impl<T> Buckets<T> {
     /// Moves out the next value of a walk, of which there must be one, and returns it with its id.
     /// Its flag is cleared before it moves out.
-    #[inline]
+    #[inline(always)]
     pub(crate) fn take_next(&mut self, cursor: &mut OwnerCursor) -> (usize, T)
         requires walk { IsOwnerWalk self.old.contents cursor.old }
         requires some { 0 < values_left cursor.old }

@@ -1,16 +1,13 @@
-use Rattle.std.proofs.Common.{◌≡◌, ◌+◌, ◌-◌, ◌≤◌}
-use Rattle.thread_local_buckets.specs.Announced.{AreAhead}
-use Rattle.thread_local_buckets.specs.Cursor.{read_to, IsAt}
+use Rattle.std.proofs.Common.{◌≡◌, ◌-◌}
+use Rattle.thread_local_buckets.proofs.Passing.{IsPassed}
 use Rattle.thread_local_buckets.proofs.cursor.next_flags.Given as goal
 
--- no value stands before the walk's place, and the word has the announced buckets behind
+-- no value stands before the end of the walk's bucket, and the word has the announced buckets behind
 abbrev pub invariant-buckets : goal.invariant-buckets
 invariant-buckets g l = record {
-  at : IsAt (g.P.FlagSource.contents l.initial.source) l.raw 0;
-  announced : AreAhead (g.P.FlagSource.contents l.initial.source) l.left (l.raw.bucket + 1);
-  same : l.source ≡ l.initial.source;
-  ahead : g.P.FlagSource.given l.initial.source ≤ read_to l.raw;
-  yielded : l.raw.yielded ≡ l.initial.raw.yielded;
+  passed : IsPassed (g.P.FlagSource.contents l.fn.source) l.left (g.P.FlagSource.given l.fn.source) l.raw.bucket;
+  same : l.source ≡ l.fn.source;
+  yielded : l.raw.yielded ≡ l.fn.raw.yielded;
 }
 
 abbrev pub decreases-buckets : goal.decreases-buckets

@@ -19,7 +19,7 @@ flags-any-requires g c =
     let long : length (row c.loop-at.self c.args.bucket)
     ≡ length (row c.args.self.now c.args.bucket) =
     ap (λ (w : Contents g.row.T.Denot). length (row w c.args.bucket)) c.loop-at.invariant.same in
-    (lit< tt, (c.requires.in_table, omega (arith, long, c.requires.whole, c.requires.inside, c.loop-at-test.true)))
+    (lit< tt, (c.requires.in_table, (c.requires.size, omega (arith, long, c.requires.whole, c.requires.inside, c.loop-at-test.true))))
 
 pub loop-at-preserved : goal.loop-at-preserved
 loop-at-preserved g c =

@@ -57,9 +57,12 @@ any_of_eight-requires g c =
       (
         c.requires.in_table,
         (
-          long_as c.loop-group.self c.args.self.now c.args.bucket c.loop-group.invariant.same
-              c.requires.whole,
-          omega (arith, inside),
+          c.requires.size,
+          (
+            long_as c.loop-group.self c.args.self.now c.args.bucket c.loop-group.invariant.same
+                c.requires.whole,
+            omega (arith, inside),
+          ),
         ),
       ),
     )
@@ -69,7 +72,7 @@ count_in_chunks-count-requires g c =
     let whole =
     long_as c.any_of_eight.new.self c.args.self.now c.args.bucket
     (c.any_of_eight.ensures.same ∙ c.loop-group.invariant.same) c.requires.whole in
-    (lit< tt, (c.requires.in_table, (whole, (omega arith, omega (arith, c.loop-group-test.true, c.requires.size)))))
+    (lit< tt, (c.requires.in_table, (c.requires.size, (whole, (omega arith, omega (arith, c.loop-group-test.true, c.requires.size))))))
 
 pub overflow_add-count : goal.overflow_add-count
 overflow_add-count g c =
@@ -120,7 +123,7 @@ loop-group-preserved g c =
 pub count_in_chunks-requires : goal.count_in_chunks-requires
 count_in_chunks-requires g c =
     let whole = long_as c.loop-group.self c.args.self.now c.args.bucket c.loop-group.invariant.same c.requires.whole in
-    (lit< tt, (c.requires.in_table, (whole, (omega arith, omega (arith, c.requires.size)))))
+    (lit< tt, (c.requires.in_table, (c.requires.size, (whole, (omega arith, omega (arith, c.requires.size))))))
 
 -- the count of a whole bucket, from the count up to the last group's end
 bucket_counted : {V : Type 0} (first now : Contents V) (b size group groups count more : ℕ)

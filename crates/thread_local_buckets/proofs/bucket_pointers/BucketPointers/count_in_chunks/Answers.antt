@@ -16,7 +16,7 @@ flags-requires g c =
     ≡ length (row c.args.self.now c.args.bucket) =
     ap (λ (w : Contents g.row.T.Denot). length (row w c.args.bucket))
     c.loop-chunk.invariant.same in
-    (lit< tt, (c.requires.in_table, omega (arith, long, c.requires.whole, c.requires.inside, c.loop-chunk-test.true)))
+    (lit< tt, (c.requires.in_table, (c.requires.size, omega (arith, long, c.requires.whole, c.requires.inside, c.loop-chunk-test.true))))
 
 pub overflow_add-count : goal.overflow_add-count
 overflow_add-count g c =

@@ -11,8 +11,8 @@ pub flags-requires-clause-flag_word : goal.flags-requires-clause-flag_word
 flags-requires-clause-flag_word g c = c.flag_word_at-flag_word.ensures
     ∙ ap (λ (n : ℕ). flag_word_at (T-row g.row.T) n (c.args.chunk))
     (size_of_pointer c.self.inside.pointers c.args.self.now c.args.bucket (c.args.chunk * 64)
-    c.bucket_size.result c.pointer_mut.result.now c.self.view_is c.self.invariant.0
-    c.pointer_mut.ensures.value c.requires.in_bucket c.bucket_size.ensures)
+    c.args.size c.pointer_mut.result.now c.self.view_is c.self.invariant.0
+    c.pointer_mut.ensures.value c.requires.in_bucket c.requires.size)
 
 -- The search for these takes seconds.
 pub flags-requires-clause-in_block : goal.flags-requires-clause-in_block
