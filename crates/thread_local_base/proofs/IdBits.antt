@@ -1,18 +1,20 @@
 -- What each step of the bits of ids makes of their words, their peak, their lowest unset bit and their end.
 use Rattle.std.proofs.Common.{◌≡◌, ◌≢◌, ℕ, ◌+◌, ◌-◌, ◌*◌, ◌/◌, ◌^◌, ◌<◌, ◌≤◌, min, max, Bool, true, false, List, []}
-use Rattle.std.proofs.Common.{◌∷◌, ◌++◌, length, take, set, replicate, refl, ap, sym, ◌∙◌, arith, ⊎_elim}
+use Rattle.std.proofs.Common.{◌∷◌, ◌++◌, length, take, set, replicate, ap, sym, ◌∙◌, arith, ⊎_elim, add-one, not, IsTrue}
 use Rattle.std.specs.Int.{div_ceil}
 use Rattle.std.proofs.lemmas.Bool.{both_ways, true_from_ne_false, cases_eq, cases_lt}
 use Rattle.std.proofs.lemmas.List.{length-replicate, length_push, length-take, get_or-set_same, get_or-set_other}
-use Rattle.thread_local_base.specs.Bits.{bits_of, IsNextUnset}
+use Rattle.thread_local_base.specs.Bits.{bits_of, is_set_in, IsNextUnset}
 use Rattle.thread_local_base.proofs.WordBits.{length-bits_of, get_or-bits_of, is_set_in-zeros}
-use Rattle.thread_local_base.specs.Held.{is_held, least, HoldsAllBelow}
+use Rattle.thread_local_base.specs.Held.{is_held, least, with_least, HoldsAllBelow, Takes, NeedsMemory, IsExhausted}
+use Rattle.thread_local_base.proofs.HeldLaws.{least_lower, least_only, least_bounded, takes}
 use Rattle.thread_local_base.proofs.Views.{IsFreeFrom-set, HoldsAllBelow-set, HoldsAllBelow-hold, was_free, is_held-push, take-push}
-use Rattle.thread_local_base.specs.Entries.{AreEntries}
-use Rattle.thread_local_base.specs.declared.id_bits.IdBits.TheInside.{Inside}
+use Rattle.thread_local_base.proofs.Views.{is_held-take, least-take, taken_at_peak, taken_below_peak}
+use Rattle.thread_local_base.specs.Entries.{entries_of, AreEntries}
+use Rattle.thread_local_base.specs.declared.id_bits.IdBits.{IdBits}
 
 -- the held ids that contracts see fit into the room
-pub in_room : (m : Inside) → AreEntries m → length (take m.peak (bits_of m.words)) ≤ min (length m.words * 64) (2 ^ 63 - 1)
+pub in_room : (m : IdBits) → AreEntries m → length (take m.peak (bits_of m.words)) ≤ min (length m.words * 64) (2 ^ 63 - 1)
 in_room m is = omega (arith, length-take m.peak (bits_of m.words), is.peak, is.in_range)
 
 -- the room is no more than there are ids
@@ -28,7 +30,7 @@ room_for ids bits count words fewer counted zeros =
     let many : length words ≡ count = ap length zeros ∙ length-replicate count 0 in (omega arith, omega arith)
 
 -- words that are all 0 hold no id
-pub of_zeros : (new : Inside) (count : ℕ) → new.words ≡ replicate count 0 → count ≤ 2 ^ 57
+pub of_zeros : (new : IdBits) (count : ℕ) → new.words ≡ replicate count 0 → count ≤ 2 ^ 57
     → new.peak ≡ 0 → new.lowest_unset ≡ 0
     → AreEntries new
 of_zeros new count zeros within peak lowest_unset =
@@ -45,7 +47,7 @@ of_zeros new count zeros within peak lowest_unset =
     }
 
 -- a further word, all of whose bits are free
-pub pushed : (old new : Inside) → AreEntries old → new.words ≡ old.words ++ 0 ∷ [] → length old.words < 2 ^ 57
+pub pushed : (old new : IdBits) → AreEntries old → new.words ≡ old.words ++ 0 ∷ [] → length old.words < 2 ^ 57
     → new.peak ≡ old.peak → new.lowest_unset ≡ old.lowest_unset → new.end ≡ old.end → AreEntries new
 pushed old new is items within peak lowest_unset end = record {
   words = rw items (omega (arith, length_push old.words 0));
@@ -57,44 +59,102 @@ pushed old new is items within peak lowest_unset end = record {
   end = λ id below free. let lower = is.end id (omega arith) (rw (items, is_held-push old.words id) at free) in omega arith;
 }
 
--- a first word, all of whose bits are free, where there was none
-module _ (old new : List ℕ) (kept : 0 < length old → new ≡ old) (made : length old ≡ 0 → new ≡ old ++ 0 ∷ []) where
-  pub begun_length : length new ≡ max (length old) 1
-  begun_length =
-      ⊎_elim
-      (λ (none : length old ≡ 0). rw (made none) (omega (arith, length_push old 0, none)))
-      (λ (some : length old ≢ 0). rw (kept (omega (arith, some))) (omega (arith, some)))
-      (cases_eq (length old) 0)
+-- how bits are seen, and what turning one makes of them
+module _ (m : IdBits) (is : AreEntries m) where
+  -- as many ids are seen as the peak says
+  pub seen_peak : m.peak ≡ length (entries_of m).held
+  seen_peak = omega (arith, length-take m.peak (bits_of m.words), length-bits_of m.words, is.peak)
 
-  pub begun_held : (peak : ℕ) → peak ≤ length old * 64 → take peak (bits_of new) ≡ take peak (bits_of old)
-  begun_held peak within =
-      ⊎_elim
-      (λ (none : length old ≡ 0). rw (made none) (take-push old peak within))
-      (λ (some : length old ≢ 0). rw (kept (omega (arith, some))) refl)
-      (cases_eq (length old) 0)
+  pub first_unset : m.lowest_unset ≡ least (bits_of m.words)
+  first_unset = least_only (bits_of m.words) m.lowest_unset is.lowest_is_unset is.lowest_unset
 
-pub begun : (old new : Inside) → AreEntries old
-    → (0 < length old.words → new.words ≡ old.words)
-    → (length old.words ≡ 0 → new.words ≡ old.words ++ 0 ∷ [])
-    → new.peak ≡ old.peak → new.lowest_unset ≡ old.lowest_unset → new.end ≡ old.end → AreEntries new
-begun old new is kept made peak lowest_unset end =
-    ⊎_elim
-    (λ (none : length old.words ≡ 0). pushed old new is (made none) (omega (arith, none)) peak lowest_unset end)
-    (λ (some : length old.words ≢ 0).
-    let items : new.words ≡ old.words = kept (omega (arith, some)) in
-    record {
-      words = rw items is.words;
-      peak = rw (items, peak) is.peak;
-      in_range = rw peak is.in_range;
-      above = λ id from. rw items (is.above id (omega arith));
-      lowest_unset = λ id below. rw items (is.lowest_unset id (omega arith));
-      lowest_is_unset = rw (items, lowest_unset) is.lowest_is_unset;
-      end = λ id below free. let lower = is.end id (omega arith) (rw items at free) in omega arith;
-    })
-    (cases_eq (length old.words) 0)
+  -- the lowest bit that isn't set is the least id that isn't held
+  pub seen_least : m.lowest_unset ≡ least (entries_of m).held
+  seen_least =
+      first_unset
+      ∙ sym (least-take (bits_of m.words) m.peak (omega (arith, length-bits_of m.words, is.peak)) is.above)
+
+  pub lowest_within : m.lowest_unset ≤ m.peak
+  lowest_within = omega (arith, seen_least, seen_peak, least_bounded (entries_of m).held)
+
+  -- a bit is set where its id is held
+  pub seen_bit : (id : ℕ) → is_set_in m.words id ≡ is_held (entries_of m).held id
+  seen_bit id = sym (get_or-bits_of m.words id) ∙ sym (is_held-take (bits_of m.words) m.peak id is.above)
+
+  -- every id is held
+  pub exhausted : 2 ^ 63 - 1 ≤ m.lowest_unset → IsExhausted (entries_of m)
+  exhausted top =
+      let within = lowest_within in let under = is.peak in let range = is.in_range in record {
+        full = λ k below. least_lower (entries_of m).held k (omega (arith, seen_least));
+        peak = omega (arith, seen_peak);
+        room = omega arith;
+      }
+
+  -- every id is held that has a bit
+  pub needs_memory : length m.words ≤ m.lowest_unset / 64 → m.lowest_unset < 2 ^ 63 - 1 → NeedsMemory (entries_of m)
+  needs_memory past range =
+      let within = lowest_within in let under = is.peak in record {
+        full = λ k below. least_lower (entries_of m).held k (omega (arith, seen_least, seen_peak));
+        no_room = omega (arith, seen_peak);
+        in_range = omega arith;
+      }
+
+  -- the lowest bit that isn't set is set
+  pub lowest_set : (words : List ℕ)
+      → bits_of words ≡ set (bits_of m.words) m.lowest_unset (not (is_set_in m.words m.lowest_unset))
+      → bits_of words ≡ set (bits_of m.words) m.lowest_unset true
+  lowest_set words turned =
+      turned
+      ∙ ap (λ (b : Bool). set (bits_of m.words) m.lowest_unset (not b))
+      (sym (get_or-bits_of m.words m.lowest_unset) ∙ is.lowest_is_unset)
+
+  -- a bit that is set is cleared
+  pub held_cleared : (words : List ℕ) (id : ℕ) → IsTrue (is_held (entries_of m).held id)
+      → bits_of words ≡ set (bits_of m.words) id (not (is_set_in m.words id))
+      → bits_of words ≡ set (bits_of m.words) id false
+  held_cleared words id here turned = turned ∙ ap (λ (b : Bool). set (bits_of m.words) id (not b)) (seen_bit id ∙ here)
+
+  -- the ids that are held once the lowest bit that isn't set is set, which is the peak or below it
+  pub held-at_peak : (words : List ℕ) → bits_of words ≡ set (bits_of m.words) m.lowest_unset true
+      → m.lowest_unset ≡ m.peak → m.lowest_unset < length m.words * 64
+      → take (m.peak + 1) (bits_of words) ≡ with_least (entries_of m).held
+  held-at_peak words bits at inside =
+      let here =
+      taken_at_peak (bits_of m.words) m.peak (omega (arith, length-bits_of m.words)) is.above
+      (omega (arith, first_unset)) in
+      rw (bits, at, add-one) here
+
+  pub held-below_peak : (words : List ℕ) → bits_of words ≡ set (bits_of m.words) m.lowest_unset true
+      → m.lowest_unset ≢ m.peak → take m.peak (bits_of words) ≡ with_least (entries_of m).held
+  held-below_peak words bits apart =
+      rw (bits, first_unset)
+      (taken_below_peak (bits_of m.words) m.peak (omega (arith, length-bits_of m.words, is.peak)) is.above
+      (λ same. apart (first_unset ∙ same)))
+
+  -- that bit's id is taken
+  pub takes_lowest : (new : IdBits) → AreEntries new → length new.words ≡ length m.words
+      → m.lowest_unset < (entries_of m).room → (entries_of new).held ≡ with_least (entries_of m).held
+      → Takes (entries_of m) (entries_of new) m.lowest_unset
+  takes_lowest new are many inside held =
+      let same : (entries_of new).room ≡ (entries_of m).room = ap (λ (count : ℕ). min (count * 64) (2 ^ 63 - 1)) many in
+      takes _ _ _ seen_least (omega (arith, inside)) held (omega (arith, same)) (λ _. same)
+      (omega (arith, same)) (in_room new are) (room_bounded (length new.words))
+
+  -- the same where a further word was made for it
+  pub takes_pushed : (words : List ℕ) (new : IdBits) → words ≡ m.words ++ 0 ∷ []
+      → length m.words ≤ m.lowest_unset / 64 → m.lowest_unset < 2 ^ 63 - 1
+      → Takes (entries_of (record m { words = words })) (entries_of new) m.lowest_unset
+      → Takes (entries_of m) (entries_of new) m.lowest_unset
+  takes_pushed words new items past range taken =
+      let held : take m.peak (bits_of words) ≡ (entries_of m).held = rw items (take-push m.words m.peak is.peak) in
+      let many : length words ≡ length m.words + 1 = rw items (length_push m.words 0) in
+      let within = lowest_within in let under = is.peak in
+      let room : (entries_of new).room ≡ min (length words * 64) (2 ^ 63 - 1) = taken.stays (omega arith) in
+      takes _ _ _ seen_least range (taken.held ∙ ap with_least held) (omega arith) (λ inside. absurd (omega (arith, inside)))
+      (omega arith) taken.peak_in_room taken.room_in_range
 
 -- the least free id is the peak, and is held from now on
-pub held_at_peak : (old new : Inside) (id : ℕ) → AreEntries old → bits_of new.words ≡ set (bits_of old.words) id true
+pub held_at_peak : (old new : IdBits) (id : ℕ) → AreEntries old → bits_of new.words ≡ set (bits_of old.words) id true
     → length new.words ≡ length old.words → id ≡ least (bits_of old.words) → id ≡ old.peak
     → id < length old.words * 64 → id < 2 ^ 63 - 1
     → new.peak ≡ old.peak + 1 → new.lowest_unset ≡ old.peak + 1 → AreEntries new
@@ -116,7 +176,7 @@ held_at_peak old new id is bits many first at room range peak lowest_unset =
     }
 
 -- the least free id is the only free one below the peak, and is held from now on
-pub held_last : (old new : Inside) (id : ℕ) → AreEntries old → bits_of new.words ≡ set (bits_of old.words) id true
+pub held_last : (old new : IdBits) (id : ℕ) → AreEntries old → bits_of new.words ≡ set (bits_of old.words) id true
     → length new.words ≡ length old.words → id ≡ least (bits_of old.words) → id < old.peak → old.end ≤ id + 1
     → new.peak ≡ old.peak → new.lowest_unset ≡ old.peak → AreEntries new
 held_last old new id is bits many first below end peak lowest_unset =
@@ -140,7 +200,7 @@ held_last old new id is bits many first below end peak lowest_unset =
     }
 
 -- others below the peak may be free, and the next unset bit is known
-pub held_below_peak : (old new : Inside) (id : ℕ) → AreEntries old → bits_of new.words ≡ set (bits_of old.words) id true
+pub held_below_peak : (old new : IdBits) (id : ℕ) → AreEntries old → bits_of new.words ≡ set (bits_of old.words) id true
     → length new.words ≡ length old.words → id ≡ least (bits_of old.words) → id < old.peak
     → new.peak ≡ old.peak → new.end ≡ old.end → IsNextUnset new.words (id / 64 * 64) new.lowest_unset → AreEntries new
 held_below_peak old new id is bits many first below peak end next =
@@ -162,7 +222,7 @@ held_below_peak old new id is bits many first below peak end next =
     }
 
 -- an id below the peak is freed
-pub freed : (old new : Inside) (id : ℕ) → AreEntries old → bits_of new.words ≡ set (bits_of old.words) id false
+pub freed : (old new : IdBits) (id : ℕ) → AreEntries old → bits_of new.words ≡ set (bits_of old.words) id false
     → length new.words ≡ length old.words → id < old.peak → new.peak ≡ old.peak
     → new.lowest_unset ≡ min old.lowest_unset id → new.end ≡ max old.end (id + 1)
     → AreEntries new

@@ -1,7 +1,7 @@
 -- One 64-bit word: testing, setting and clearing a bit, finding the lowest set or unset one, keeping
 -- the highest, and counting the set ones.
 use Rattle.std.proofs.Common.{◌≡◌, ◌≢◌, ℕ, zero, suc, ◌+◌, ◌-◌, ◌*◌, ◌/◌, ◌%◌, ◌^◌, ◌<◌, ◌≤◌, Bool, true, false, cond}
-use Rattle.std.proofs.Common.{eqb, min, max, length, get_or, bit_and, bit_or, count_ones, zero-mul, refl, ap, sym}
+use Rattle.std.proofs.Common.{eqb, min, max, length, get_or, bit_and, bit_or, bit_xor, not, count_ones, zero-mul, refl, ap, sym}
 use Rattle.std.proofs.Common.{subst, ◌∙◌, arith, ⊎_elim}
 use Rattle.std.specs.Int.{w64, bit_not, bit_at, trailing_ones, trailing_zeros}
 use Rattle.std.specs.Int.Bits.{or_add_and}
@@ -11,7 +11,8 @@ use Rattle.std.proofs.lemmas.List.{map-id}
 use Rattle.std.proofs.lemmas.List.FromFn.{length-map-range_with_len, get_or-map-range_with_len}
 use Rattle.std.proofs.Math.Nat.{div-le_self, two-pow-succ}
 use Rattle.std.proofs.lemmas.Nat.{pow_pos, pow_below, one_shl, or_lt, and_le_l, and_mask}
-use Rattle.std.proofs.lemmas.Nat.Bits.{shr_and_one, bit_at-zero, bit_at-lt, bit_at_and, bit_at_or, and_pow, bit_at_ones}
+use Rattle.std.proofs.lemmas.Nat.Bits.{shr_and_one, bit_at-zero, bit_at-lt, bit_at_and, bit_at_or, bit_at_xor, and_pow, bit_at_ones}
+use Rattle.std.proofs.lemmas.Nat.Bits.{bit_at-pow_same, bit_at-pow_other}
 use Rattle.std.proofs.lemmas.Nat.Bits.{bit_at_ones_above, bit_at-trailing_zeros, bit_at_set_same, bit_at_set_other}
 use Rattle.std.proofs.lemmas.Nat.Bits.{bit_at_clear_same, bit_at_clear_other, bit_at-trailing_ones}
 use Rattle.std.proofs.lemmas.Nat.Bits.{same_from_bits_below}
@@ -42,6 +43,31 @@ clear_bit word bit within i inside =
     (λ (same : bit ≡ i). rw (same, eq-eqb i i refl) (ap (λ b. eqb b 1) (bit_at_clear_same w64 word i inside)))
     (λ apart. rw (ne_eqb bit i apart) (ap (λ b. eqb b 1) (bit_at_clear_other w64 word bit within i inside (λ e. apart (sym e)))))
     (cases_eq bit i)
+
+-- a bit that is added to 1 turns
+turned : (bit : ℕ) → bit < 2 → eqb ((bit + 1) % 2) 1 ≡ not (eqb bit 1)
+turned zero within = refl
+turned (suc zero) within = refl
+turned (suc (suc bit)) within = absurd (omega arith)
+
+-- turning a bit, `word ^ 1 << bit`, changes that bit and no other
+pub turn_bit : (word bit : ℕ) → bit < 64
+    → IsWordBut (bit_xor word (1 * 2 ^ bit % 2 ^ 64)) word bit (not (is_set word bit))
+turn_bit word bit within i inside =
+    let here = bit_at-lt word i in
+    rw (one_shl bit 64 within)
+    (⊎_elim
+    (λ (same : bit ≡ i).
+    rw (same, eq-eqb i i refl)
+    (ap (λ b. eqb b 1) (bit_at_xor word (2 ^ i) i ∙ ap (λ b. (bit_at word i + b) % 2) (bit_at-pow_same i))
+    ∙ turned (bit_at word i) here))
+    (λ apart.
+    rw (ne_eqb bit i apart)
+    (ap (λ b. eqb b 1)
+    (bit_at_xor word (2 ^ bit) i
+    ∙ ap (λ b. (bit_at word i + b) % 2) (bit_at-pow_other bit i (λ e. apart (sym e)))
+    ∙ omega arith)))
+    (cases_eq bit i))
 
 -- every bit of the largest word is set
 pub is_set-all_ones : (bit : ℕ) → bit < 64 → is_set (2 ^ 64 - 1) bit ≡ true

@@ -1,16 +1,14 @@
 -- The words as one list: what a write of the first word, or of one of the rest, makes of their bits,
 -- which bit isn't set, and what they are once they are made, cleared or added to.
-use Rattle.std.proofs.Common.{◌≡◌, ◌≢◌, ℕ, suc, ◌+◌, ◌-◌, ◌*◌, ◌/◌, ◌%◌, ◌^◌, ◌<◌, ◌≤◌, Bool, false, List, ◌∷◌, length, get_or}
-use Rattle.std.proofs.Common.{zero, [], ◌++◌, replicate, take, set, refl, ap, subst, sym, ◌∙◌, arith, ⊎_elim}
-use Rattle.std.specs.Int.{w64, trailing_ones}
+use Rattle.std.proofs.Common.{◌≡◌, ℕ, suc, ◌+◌, ◌-◌, ◌*◌, ◌/◌, ◌%◌, ◌^◌, ◌<◌, ◌≤◌, Bool, false, not, List, ◌∷◌, length, get_or}
+use Rattle.std.proofs.Common.{zero, [], ◌++◌, replicate, bit_xor, take, set, refl, ap, sym, ◌∙◌, arith}
 use Rattle.std.proofs.lemmas.List.{take_all, get_or_read, get_or_past, length-set, length-take, length_push, take-replicate}
-use Rattle.std.proofs.lemmas.Bool.{both_ways, cases_lt}
 use Rattle.std.proofs.Math.Seq.{take-nil}
-use Rattle.thread_local_base.specs.Bits.{bits_of, is_set, is_set_in, IsWordBut, IsNextUnset}
-use Rattle.thread_local_base.proofs.Word.{is_set-zero}
+use Rattle.thread_local_base.specs.Bits.{bits_of, is_set, is_set_in, IsWordBut}
+use Rattle.thread_local_base.proofs.Word.{is_set-zero, turn_bit, place_below}
 use Rattle.thread_local_base.specs.declared.words.Words.TheInside.{Inside}
 use Rattle.thread_local_base.specs.WordList.{words_of, AreWords}
-use Rattle.thread_local_base.proofs.WordBits.{bits_of-set, is_set_in-all_ones, next_unset, next_unset_from, none_behind}
+use Rattle.thread_local_base.proofs.WordBits.{bits_of-set}
 
 -- where there is a word, all of them are the first and the rest
 all_words : (count first : ℕ) (rest : List ℕ) → length rest ≡ count - 1 → 0 < count
@@ -76,56 +74,30 @@ later_bit w words bit old word value are view within high read but =
     ∙ bits_of-set (w.first ∷ w.rest.items) bit word value (omega arith) (rw (here, ← was) but)
     ∙ ap (λ words. set (bits_of words) bit value) all
 
--- a bit behind the first word is a bit of the rest
-in_rest : (first : ℕ) (rest : List ℕ) (bit later : ℕ) → bit ≡ 64 + later
-    → is_set_in (first ∷ rest) bit ≡ is_set_in rest later
-in_rest first rest bit later same =
-    let word : bit / 64 ≡ suc (later / 64) = omega arith in
-    let place : bit % 64 ≡ later % 64 = omega arith in
-    rw (word, place) refl
-
--- the next unset bit of the rest is that of all words, 64 bits further on
-pub next_in_rest : (count first : ℕ) (rest : List ℕ) (from later bit : ℕ) → length rest ≡ count - 1
-    → 0 < length (take count (first ∷ rest)) → from ≡ 64 + later → IsNextUnset rest later bit
-    → IsNextUnset (take count (first ∷ rest)) from (64 + bit)
-next_in_rest count first rest from later bit are some same next =
-    let after = next.after in
-    rw (all_words count first rest are (omega (arith, length-take count (first ∷ rest))))
-    (record {
-      after = omega arith;
-      unset = in_rest first rest (64 + bit) bit refl ∙ next.unset;
-      between = λ i lower below. in_rest first rest i (i - 64) (omega arith) ∙ next.between (i - 64) (omega arith) (omega arith);
-    })
-
--- where the first word isn't full, the first unset bit is there
-pub next_in_first : (words : List ℕ) (first : ℕ) → first ≡ get_or words 0 0 → first < 2 ^ 64
-    → first ≢ 2 ^ 64 - 1
-    → IsNextUnset words 0 (trailing_ones w64 first)
-next_in_first words first read fits apart =
-    let same : 0 * 64 + trailing_ones w64 first ≡ trailing_ones w64 first = omega arith in
-    subst (IsNextUnset words 0) same (next_unset words 0 first read fits apart)
-
--- where it is full, the first unset bit is behind it
-pub next_behind_first : (words : List ℕ) (first bit : ℕ) → first ≡ get_or words 0 0
-    → first ≡ 2 ^ 64 - 1 → IsNextUnset words 64 bit
-    → IsNextUnset words 0 bit
-next_behind_first words first bit read full next =
-    next_unset_from words 0 64 bit (omega arith)
-    (λ i _ below. is_set_in-all_ones words 0 i (sym read ∙ full) (omega arith) (omega arith)) next
-
--- the next unset bit is no further than the end of the words
-pub next_within : (words : List ℕ) (from bit : ℕ) → IsNextUnset words from bit → from ≤ length words * 64
-    → bit ≤ length words * 64
-next_within words from bit next within =
-    ⊎_elim
-    (λ past. absurd (both_ways _ (none_behind words).unset (next.between (length words * 64) within past)))
-    (λ inside. inside)
-    (cases_lt (length words * 64) bit)
-
 -- past the last word no bit is set
 pub unset_past : (words : List ℕ) (bit : ℕ) → length words ≤ bit / 64 → false ≡ is_set_in words bit
 unset_past words bit past =
     sym (ap (λ (word : ℕ). is_set word (bit % 64)) (get_or_past words (bit / 64) 0 past) ∙ is_set-zero (bit % 64))
+
+-- a bit of the first word is turned
+pub first_turned : (w : Inside) (words : List ℕ) (bit : ℕ) → AreWords w → words_of w ≡ words
+    → bit < length words * 64 → bit < 64
+    → bits_of (take w.count (bit_xor w.first (1 * 2 ^ (bit % 64) % 2 ^ 64) ∷ w.rest.items))
+    ≡ set (bits_of words) bit (not (is_set_in words bit))
+first_turned w words bit are view within low =
+    let read = first_word w words are view (bit / 64) (omega arith) (omega arith) in
+    first_bit w words bit _ _ are view within low
+    (rw (← read) (turn_bit w.first (bit % 64) (place_below bit)))
+
+-- a bit of a later word, which was `old`, is turned
+pub later_turned : (w : Inside) (words : List ℕ) (bit old : ℕ) → AreWords w → words_of w ≡ words
+    → bit < length words * 64 → 64 ≤ bit → old ≡ get_or w.rest.items (bit / 64 - 1) old
+    → bits_of (take w.count (w.first ∷ set w.rest.items (bit / 64 - 1) (bit_xor old (1 * 2 ^ (bit % 64) % 2 ^ 64))))
+    ≡ set (bits_of words) bit (not (is_set_in words bit))
+later_turned w words bit old are view within high found =
+    let read = rest_word w words are view (bit / 64) old (omega arith) (omega arith) found in
+    later_bit w words bit old _ _ are view within high found
+    (rw (← read) (turn_bit old (bit % 64) (place_below bit)))
 
 -- a write doesn't change how many words there are
 pub first_written : (w : Inside) (words : List ℕ) (word : ℕ) → words_of w ≡ words
@@ -163,6 +135,12 @@ cleared (suc n) first left rest now words are many view filled =
     let all : suc n ≡ length words = omega (arith, ap length view, length-take (suc n) (first ∷ rest)) in
     let zeros : take n now ≡ replicate n 0 = ap (λ (ws : List ℕ). take n ws) filled ∙ take-replicate n left 0 (omega arith) in
     ap (λ (ws : List ℕ). 0 ∷ ws) zeros ∙ ap (λ (k : ℕ). replicate k 0) all
+
+-- a further word behind the others, or the first one
+pub first_made : (count : ℕ) (rest words : List ℕ) → length rest ≡ count - 1 → count ≤ 0 → words ≡ []
+    → take (count + 1) (0 ∷ rest) ≡ words ++ 0 ∷ []
+first_made zero rest words are none empty = rw empty refl
+first_made (suc n) rest words are none empty = absurd (omega arith)
 
 -- a further word behind the others
 pub one_more : (count first : ℕ) (rest now words : List ℕ) → length rest ≡ count - 1 → 0 < count

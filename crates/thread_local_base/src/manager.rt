@@ -4,6 +4,7 @@ ghost use Rattle.std.specs.Prelude.{alloc_error};
 ghost use Rattle.thread_local_base.specs.Held.{is_held, without, Takes, Gives, NeedsMemory, IsExhausted};
 
 use crate::id_bits::IdBits;
+use crate::words::Words;
 use std::alloc::{AllocError, Global};
 use std::marker::Model;
 
@@ -56,7 +57,12 @@ impl ThreadIdManager {
         ensures room { result.room ≡ 0 }
     {
         ThreadIdManager {
-            bits: IdBits::new(alloc),
+            bits: IdBits {
+                words: Words::new(alloc),
+                peak: 0,
+                lowest_unset: 0,
+                end: 0,
+            },
             returned: IDS,
         }
     }
@@ -71,7 +77,12 @@ impl ThreadIdManager {
         ensures no_ids { ids ≡ 0 → IsOk result }
     {
         Ok(ThreadIdManager {
-            bits: IdBits::with_room(alloc, ids)?,
+            bits: IdBits {
+                words: Words::with_len(alloc, ids.min(IDS).div_ceil(64))?,
+                peak: 0,
+                lowest_unset: 0,
+                end: 0,
+            },
             returned: IDS,
         })
     }
@@ -87,14 +98,22 @@ impl ThreadIdManager {
         ensures exhausted { result ≡ Err LocalError.Exhausted → IsExhausted self.old }
         ensures err { OnErr result (self.new ≡ self.old) }
     {
-        let least = self.bits.least_free();
-        if self.returned < least {
+        let id = self.bits.lowest_unset;
+        if self.returned < id {
             let id = self.returned;
             self.returned = IDS;
             return Ok(id);
         }
-        self.bits.alloc()?;
-        Ok(least)
+        if id >= IDS {
+            return Err(LocalError::Exhausted);
+        }
+        if id / 64 < self.bits.words.len() {
+            self.bits.set_lowest();
+            return Ok(id);
+        }
+        self.bits.words.push_zero()?;
+        self.bits.set_lowest();
+        Ok(id)
     }
 
     /// Whether an id is held. `id` may be any number.
@@ -103,14 +122,14 @@ impl ThreadIdManager {
         ensures peak_in_room { length self.now.held ≤ self.now.room }
         ensures room_in_range { self.now.room ≤ 2 ^ 63 - 1 }
     {
-        self.returned != id && self.bits.is_held(id)
+        self.returned != id && self.bits.words.is_set(id)
     }
 
     /// The peak: the most ids held at one moment since the manager was new or cleared.
     pub fn peak(&self) -> usize
         ensures { result ≡ length self.now.held }
     {
-        self.bits.peak()
+        self.bits.peak
     }
 
     /// Takes back an id, which the caller shows to be held.
@@ -122,7 +141,7 @@ impl ThreadIdManager {
         let before = self.returned;
         self.returned = id;
         if before != IDS {
-            self.bits.free(before);
+            self.bits.clear(before);
         }
     }
 
@@ -131,7 +150,10 @@ impl ThreadIdManager {
         ensures held { self.new.held ≡ [] }
         ensures room { self.new.room ≡ self.old.room }
     {
-        self.bits.clear();
+        self.bits.words.clear();
+        self.bits.peak = 0;
+        self.bits.lowest_unset = 0;
+        self.bits.end = 0;
         self.returned = IDS;
     }
 }

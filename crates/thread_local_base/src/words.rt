@@ -1,5 +1,5 @@
 //! The words of the bits, the first of which lies in the struct.
-ghost use Rattle.std.specs.Prelude.{◌≡◌, ◌*◌, ◌/◌, ◌^◌, ◌<◌, ◌≤◌, ◌++◌, ◌∷◌, [], true, false};
+ghost use Rattle.std.specs.Prelude.{◌≡◌, ◌*◌, ◌/◌, ◌^◌, ◌<◌, ◌≤◌, ◌++◌, ◌∷◌, [], not};
 ghost use Rattle.std.specs.Prelude.{length, replicate, slice_index, slice_set, IsOk, OnOk, OnErr, IfOk};
 ghost use Rattle.thread_local_base.specs.Bits.{bits_of, is_set_in, IsNextUnset};
 
@@ -63,25 +63,20 @@ impl Words {
         self.count
     }
 
-    /// Makes the first word, which is 0, where there is none. It needs no memory.
-    #[inline]
-    pub(crate) fn begin(&mut self)
-        ensures kept { 0 < length self.old → self.new ≡ self.old }
-        ensures begun { length self.old ≡ 0 → self.new ≡ self.old ++ 0 ∷ [] }
-    {
-        if self.count == 0 {
-            self.first = 0;
-            self.count = 1;
-        }
-    }
-
-    /// Appends a word that is 0, where there is a first one. `Err` means out of memory.
+    /// Appends a word that is 0. The first one needs no memory. It stands apart, so that its caller
+    /// saves no registers.
+    #[cold]
+    #[inline(never)]
     pub(crate) fn push_zero(&mut self) -> Result<(), AllocError>
-        requires begun { 0 < length self.old }
         requires few { length self.old < 2 ^ 57 }
         ensures ok { OnOk result (self.new ≡ self.old ++ 0 ∷ []) }
         ensures err { OnErr result (self.new ≡ self.old) }
     {
+        if self.count == 0 {
+            self.first = 0;
+            self.count = 1;
+            return Ok(());
+        }
         self.rest.push(0)?;
         self.count += 1;
         Ok(())
@@ -106,31 +101,17 @@ impl Words {
         bit / 64 < self.count && (self.word(bit / 64) >> (bit % 64)) & 1 == 1
     }
 
-    /// Sets a bit.
-    pub(crate) fn set_bit(&mut self, bit: usize)
+    /// Sets a bit that isn't set, or clears one that is.
+    pub(crate) fn turn_bit(&mut self, bit: usize)
         requires { bit < length self.old * 64 }
-        ensures bits { bits_of self.new ≡ slice_set (bits_of self.old) bit true }
+        ensures bits { bits_of self.new ≡ slice_set (bits_of self.old) bit (not (is_set_in self.old bit)) }
         ensures len { length self.new ≡ length self.old }
     {
         let mask = 1 << (bit % 64);
         if bit < 64 {
-            self.first |= mask;
+            self.first ^= mask;
         } else {
-            self.rest[bit / 64 - 1] |= mask;
-        }
-    }
-
-    /// Clears a bit.
-    pub(crate) fn clear_bit(&mut self, bit: usize)
-        requires { bit < length self.old * 64 }
-        ensures bits { bits_of self.new ≡ slice_set (bits_of self.old) bit false }
-        ensures len { length self.new ≡ length self.old }
-    {
-        let mask = !(1 << (bit % 64));
-        if bit < 64 {
-            self.first &= mask;
-        } else {
-            self.rest[bit / 64 - 1] &= mask;
+            self.rest[bit / 64 - 1] ^= mask;
         }
     }
 
@@ -144,32 +125,16 @@ impl Words {
 
     /// The lowest bit that isn't set, from word `from` on. Past the last word no bit is set.
     pub(crate) fn next_unset(&self, from: usize) -> usize
-        requires within { from < length self.now }
+        requires within { from ≤ length self.now }
         requires few { length self.now ≤ 2 ^ 57 }
         ensures { IsNextUnset self.now (from * 64) result }
     {
-        if from > 0 {
-            return 64 + next_unset(&self.rest, from - 1);
+        for at in from..self.count {
+            let word = self.word(at);
+            if word != u64::MAX {
+                return at * 64 + word.trailing_ones() as usize;
+            }
         }
-        let first = self.word(0);
-        if first != u64::MAX {
-            return first.trailing_ones() as usize;
-        }
-        64 + next_unset(&self.rest, 0)
+        self.count * 64
     }
-}
-
-/// The lowest bit that isn't set, from word `from` on. Past the last word no bit is set.
-fn next_unset(words: &[u64], from: usize) -> usize
-    requires within { from ≤ length words.now }
-    requires few { length words.now ≤ 2 ^ 57 }
-    ensures { IsNextUnset words.now (from * 64) result }
-{
-    for at in from..words.len() {
-        let word = words[at];
-        if word != u64::MAX {
-            return at * 64 + word.trailing_ones() as usize;
-        }
-    }
-    words.len() * 64
 }

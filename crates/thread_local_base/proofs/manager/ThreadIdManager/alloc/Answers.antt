@@ -1,59 +1,73 @@
-use Rattle.std.proofs.Common.{◌≤◌, arith, rules, refl, inl}
-use Rattle.thread_local_base.specs.Held.{least}
+use Rattle.std.proofs.Common.{arith, refl}
+use Rattle.std.proofs.lemmas.List.{length_push}
+use Rattle.thread_local_base.specs.Entries.{entries_of}
 use Rattle.thread_local_base.proofs.Returned.{takes_returned, takes_another, none_returned, still_held}
+use Rattle.thread_local_base.proofs.IdBits.{seen_least, lowest_within, in_room, room_bounded, exhausted, needs_memory}
+use Rattle.thread_local_base.proofs.IdBits.{pushed, takes_pushed}
 use Rattle.thread_local_base.proofs.manager.ThreadIdManager.alloc.Goals as goal
-use Rattle.thread_local_base.proofs.manager.ThreadIdManager.alloc.Goals.{After-alloc}
 
--- the least free bit is the lower one
-above : (c : After-alloc) → least c.self.inside.bits.held ≤ c.self.inside.returned
-above c = let told = c.least_free-least.ensures.least in let higher = c.if-self-least.false in omega arith
+pub returns-then-self-id-clause-ok : goal.returns-then-self-id-clause-ok
+returns-then-self-id-clause-ok c =
+    let m = c.self.inside.bits in let is = c.self.invariant.bits in
+    rw (← c.self.view_is)
+    (takes_returned (entries_of m) c.self.inside.returned (omega (arith, c.if-self-id.true, seen_least m is))
+    (in_room m is) (room_bounded _))
 
-pub returns-then-self-least-clause-ok : goal.returns-then-self-least-clause-ok
-returns-then-self-least-clause-ok c =
-    let told = c.least_free-least.ensures.least in
-    let lower = c.if-self-least.true in
-    rw (← c.self.view_is) (takes_returned c.self.inside.bits c.self.inside.returned (omega arith)
-    c.self.invariant.peak_in_room c.self.invariant.room_in_range)
-
-pub returns-clause-ok : goal.returns-clause-ok
-returns-clause-ok c =
-    let at = (goal.at.returns-clause-ok c).After-alloc in
-    let first = c.least_free-least.ensures.least in
-    rw (← c.self.view_is, first)
-    (takes_another c.self.inside.bits c.alloc.new.self c.self.inside.returned _
-    c.self.invariant.returned (above at) c.in_ok-alloc.ensures.ok)
-
-pub returns-in_err-alloc-clause-memory : goal.returns-in_err-alloc-clause-memory
-returns-in_err-alloc-clause-memory c = λ refused.
-    let at = (goal.at.returns-in_err-alloc-clause-memory c).After-alloc in
-    let needs = c.alloc.ensures.memory (search rules) in
-    rw (← c.self.view_is, none_returned c.self.inside.bits.held c.self.inside.returned needs.full (above at)) needs
-
-pub returns-in_err-alloc-clause-exhausted : goal.returns-in_err-alloc-clause-exhausted
-returns-in_err-alloc-clause-exhausted c = λ refused.
-    let at = (goal.at.returns-in_err-alloc-clause-exhausted c).After-alloc in
-    let none = c.alloc.ensures.exhausted (search rules) in
-    let peak = none.peak in
+pub returns-then-id-ge-IDS-clause-exhausted : goal.returns-then-id-ge-IDS-clause-exhausted
+returns-then-id-ge-IDS-clause-exhausted c = λ _.
+    let m = c.self.inside.bits in let is = c.self.invariant.bits in
+    let none = exhausted m is c.if-id-ge-IDS.true in let peak = none.peak in
     rw (
       ← c.self.view_is,
-      none_returned c.self.inside.bits.held c.self.inside.returned
-          (λ id below. none.full id (omega arith)) (above at),
+      none_returned (entries_of m).held c.self.inside.returned (λ id below. none.full id (omega arith))
+          (omega (arith, c.if-self-id.false, seen_least m is)),
     )
     none
 
--- The search for these takes a while.
+pub returns-then-id-len-clause-ok : goal.returns-then-id-len-clause-ok
+returns-then-id-len-clause-ok c =
+    let m = c.self.inside.bits in let is = c.self.invariant.bits in
+    rw (← c.self.view_is)
+    (takes_another (entries_of m) (entries_of c.set_lowest.new.self) c.self.inside.returned _ c.self.invariant.returned
+    (omega (arith, c.if-self-id.false, seen_least m is)) c.set_lowest.ensures.takes)
+
+pub returns-in_err-push_zero-clause-memory : goal.returns-in_err-push_zero-clause-memory
+returns-in_err-push_zero-clause-memory c = λ _.
+    let m = c.self.inside.bits in let is = c.self.invariant.bits in
+    let needs = needs_memory m is (omega (arith, c.if-id-len.false, c.len.ensures)) (omega (arith, c.if-id-ge-IDS.false)) in
+    rw (
+      ← c.self.view_is,
+      none_returned (entries_of m).held c.self.inside.returned needs.full (omega (arith, c.if-self-id.false, seen_least m is)),
+    )
+    needs
+
+pub set_lowest-requires-2-clause-are : goal.set_lowest-requires-2-clause-are
+set_lowest-requires-2-clause-are c =
+    pushed c.self.inside.bits _ c.self.invariant.bits c.in_ok-push_zero.ensures.ok
+    (omega (arith, c.if-id-len.false, c.len.ensures, c.if-id-ge-IDS.false)) refl refl refl
+
+pub set_lowest-requires-2-clause-room : goal.set_lowest-requires-2-clause-room
+set_lowest-requires-2-clause-room c =
+    let m = c.self.inside.bits in let is = c.self.invariant.bits in
+    rw c.in_ok-push_zero.ensures.ok
+    (omega (arith, length_push m.words 0, lowest_within m is, is.peak, c.if-id-ge-IDS.false))
+
 pub invariant_of-self-2 : goal.invariant_of-self-2
 invariant_of-self-2 c =
-    let taken = c.in_ok-alloc.ensures.ok in
+    let taken = takes_pushed c.self.inside.bits c.self.invariant.bits _ c.set_lowest-2.new.self c.in_ok-push_zero.ensures.ok
+    (omega (arith, c.if-id-len.false, c.len.ensures)) (omega (arith, c.if-id-ge-IDS.false)) c.set_lowest-2.ensures.takes in
     record {
-      returned = still_held c.self.inside.bits c.alloc.new.self c.self.inside.returned _ c.self.invariant.returned taken;
-      peak_in_room = taken.peak_in_room;
-      room_in_range = taken.room_in_range;
+      bits = c.set_lowest-2.ensures.are;
+      returned =
+          still_held (entries_of c.self.inside.bits) (entries_of c.set_lowest-2.new.self) c.self.inside.returned _
+          c.self.invariant.returned taken;
     }
 
-pub invariant_of-self-in_err-alloc : goal.invariant_of-self-in_err-alloc
-invariant_of-self-in_err-alloc c = rw c.in_err-alloc.ensures.err c.self.invariant
-
-pub invariant_of-self : goal.invariant_of-self
-invariant_of-self c =
-    record { returned = inl refl; peak_in_room = c.self.invariant.peak_in_room; room_in_range = c.self.invariant.room_in_range }
+pub returns-clause-ok : goal.returns-clause-ok
+returns-clause-ok c =
+    let m = c.self.inside.bits in let is = c.self.invariant.bits in
+    let taken = takes_pushed c.self.inside.bits c.self.invariant.bits _ c.set_lowest-2.new.self c.in_ok-push_zero.ensures.ok
+    (omega (arith, c.if-id-len.false, c.len.ensures)) (omega (arith, c.if-id-ge-IDS.false)) c.set_lowest-2.ensures.takes in
+    rw (← c.self.view_is)
+    (takes_another (entries_of m) (entries_of c.set_lowest-2.new.self) c.self.inside.returned _ c.self.invariant.returned
+    (omega (arith, c.if-self-id.false, seen_least m is)) taken)

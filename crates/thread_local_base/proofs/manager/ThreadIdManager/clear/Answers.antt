@@ -1,11 +1,10 @@
-use Rattle.std.proofs.Common.{length, ap, arith, refl, inl}
+use Rattle.std.proofs.Common.{length, refl, inl}
+use Rattle.thread_local_base.proofs.IdBits.{of_zeros}
 use Rattle.thread_local_base.proofs.manager.ThreadIdManager.clear.Goals as goal
 
--- The search for this takes a while.
 pub invariant_of-self : goal.invariant_of-self
 invariant_of-self c =
     record {
+      bits = of_zeros _ (length c.self.inside.bits.words) c.clear.ensures c.self.invariant.bits.words refl refl;
       returned = inl refl;
-      peak_in_room = omega (arith, ap length c.clear.ensures.held);
-      room_in_range = c.clear.ensures.room_in_range;
     }

@@ -1,17 +1,13 @@
-use Rattle.thread_local_base.proofs.Returned.{fits}
+use Rattle.std.proofs.Common.{◌∙◌, sym, refl}
+use Rattle.std.proofs.lemmas.Bool.{ne_eqb}
+use Rattle.thread_local_base.specs.Entries.{entries_of}
+use Rattle.thread_local_base.proofs.HeldLaws.{is_held-without}
+use Rattle.thread_local_base.proofs.IdBits.{seen_bit}
 use Rattle.thread_local_base.proofs.manager.ThreadIdManager.is_held.Goals as goal
 
--- The search for these takes a while.
-pub returns-then-self-id-clause-peak_in_room : goal.returns-then-self-id-clause-peak_in_room
-returns-then-self-id-clause-peak_in_room c =
-    rw (← c.self.view_is) (fits c.self.inside.bits.held _ c.self.inside.returned c.self.invariant.peak_in_room)
-
-pub returns-then-self-id-clause-room_in_range : goal.returns-then-self-id-clause-room_in_range
-returns-then-self-id-clause-room_in_range c = rw (← c.self.view_is) c.self.invariant.room_in_range
-
-pub returns-else-self-id-clause-peak_in_room : goal.returns-else-self-id-clause-peak_in_room
-returns-else-self-id-clause-peak_in_room c =
-    rw (← c.self.view_is) (fits c.self.inside.bits.held _ c.self.inside.returned c.self.invariant.peak_in_room)
-
-pub returns-else-self-id-clause-room_in_range : goal.returns-else-self-id-clause-room_in_range
-returns-else-self-id-clause-room_in_range c = rw (← c.self.view_is) c.self.invariant.room_in_range
+pub returns-then-self-id-clause-held : goal.returns-then-self-id-clause-held
+returns-then-self-id-clause-held c =
+    let m = c.self.inside.bits in let returned = c.self.inside.returned in let id = c.args.id in
+    rw (← c.self.view_is)
+    (c.is_set.ensures ∙ seen_bit m c.self.invariant.bits id
+    ∙ sym (is_held-without (entries_of m).held returned id ∙ rw (ne_eqb returned id c.if-self-id.true) refl))

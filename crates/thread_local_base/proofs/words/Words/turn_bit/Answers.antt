@@ -1,22 +1,16 @@
-use Rattle.std.proofs.Common.{◌%◌, ◌∙◌, true}
-use Rattle.thread_local_base.proofs.Word.{set_bit, place_below}
+use Rattle.std.proofs.Common.{◌∙◌}
 use Rattle.std.proofs.lemmas.List.{length-set}
-use Rattle.thread_local_base.proofs.WordList.{first_bit, later_bit, first_written, later_written}
-use Rattle.thread_local_base.proofs.words.Words.set_bit.Goals as goal
+use Rattle.thread_local_base.proofs.WordList.{first_turned, later_turned, first_written, later_written}
+use Rattle.thread_local_base.proofs.words.Words.turn_bit.Goals as goal
 
 pub returns-then-bit-lt64-clause-bits : goal.returns-then-bit-lt64-clause-bits
 returns-then-bit-lt64-clause-bits c =
-    let bit = c.args.bit in
-    first_bit c.self.inside c.args.self.now bit _ true c.self.invariant c.self.view_is c.requires c.if-bit-lt64.true
-    (set_bit c.self.inside.first (bit % 64) (place_below bit))
+    first_turned c.self.inside c.args.self.now c.args.bit c.self.invariant c.self.view_is c.requires c.if-bit-lt64.true
 
 pub returns-else-bit-lt64-clause-bits : goal.returns-else-bit-lt64-clause-bits
 returns-else-bit-lt64-clause-bits c =
-    let bit = c.args.bit in
-    let word = c.index_mut.result.now in
-    later_bit c.self.inside c.args.self.now bit word _ true c.self.invariant c.self.view_is
+    later_turned c.self.inside c.args.self.now c.args.bit c.index_mut.result.now c.self.invariant c.self.view_is
     c.requires c.if-bit-lt64.false c.index_mut.ensures.value
-    (set_bit word (bit % 64) (place_below bit))
 
 -- The search for these takes a while.
 pub returns-then-bit-lt64-clause-len : goal.returns-then-bit-lt64-clause-len
