@@ -3,7 +3,7 @@
 use Rattle.thread_local_base.proofs.Names.{◌≡◌, ℕ, zero, suc, ◌+◌, ◌*◌, ◌^◌, ◌<◌, ◌≤◌, List, [], ◌∷◌, ◌++◌, length}
 use Rattle.thread_local_base.proofs.Names.{set, is_some, refl, sym, ap, ◌∙◌, subst, arith, lit<, mul-le-mul_right}
 use Rattle.thread_local_base.proofs.Names.{suc-mul, zero-mul, RattleType, lone, Option, None}
-use Rattle.std.specs.Prelude.{◌/◌, ◌%◌, replicate, slice_index}
+use Rattle.std.specs.Prelude.{◌/◌, ◌%◌, min, replicate, slice_index}
 use Rattle.std.proofs.Common.{⊎_elim, le_of_lt, ap₂}
 use Rattle.std.proofs.lemmas.Bool.{cases_lt, cases_eq, eq-eqb, ne_eqb}
 use Rattle.std.proofs.lemmas.List.{get_or-set_same, get_or-set_other, get_or-replicate, get_or_past, length-replicate}
@@ -18,6 +18,10 @@ use Rattle.thread_local_buckets.specs.Slots.{empty_slots, slot_value, chunks, Ar
 use Rattle.thread_local_buckets.specs.Slots.{value_words, slots_ty, Fits, flag_word_at}
 
 -- ---- how many chunks there are
+
+-- as code counts them
+pub chunks_counted : (n : ℕ) → n / 64 + min 1 (n % 64) ≡ chunks n
+chunks_counted n = omega arith
 
 -- a slot's chunk is one of them
 pub in_chunks : (n j : ℕ) → j < n → j / 64 < chunks n

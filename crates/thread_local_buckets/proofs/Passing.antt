@@ -25,7 +25,7 @@ is_set-highest word bit low high =
     ∙ ap (bit_at 1) none)
 
 -- a bit that is 0 isn't set
-unset : (word bit : ℕ) → bit_at word bit ≡ 0 → is_set word bit ≡ false
+pub unset : (word bit : ℕ) → bit_at word bit ≡ 0 → is_set word bit ≡ false
 unset word bit none = ap (λ b. eqb b 1) none
 
 -- a word without its first bits

@@ -1,5 +1,4 @@
 pub mod Announced
-pub mod Clearing
 pub mod Pointers
 pub mod LentValue
 pub mod PointerOwns

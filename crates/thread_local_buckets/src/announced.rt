@@ -1,6 +1,6 @@
 //! Words of announced buckets, a bit each, and how a loop takes one bucket after another out of them.
-ghost use Rattle.std.specs.Prelude.{◌≡◌, ◌*◌, ◌^◌, ◌<◌, true, false};
-ghost use Rattle.thread_local_base.specs.Bits.{is_set, IsLowestSet, IsWordBut};
+ghost use Rattle.std.specs.Prelude.{◌<◌, false};
+ghost use Rattle.thread_local_base.specs.Bits.{IsLowestSet, IsWordBut};
 
 use crate::without_first;
 
@@ -24,19 +24,4 @@ pub fn take_first(buckets: &mut u64) -> usize
     let first = buckets.trailing_zeros() as usize;
     *buckets = without_first(*buckets);
     first
-}
-
-/// Takes the last bucket out of a word of buckets.
-#[inline]
-pub fn take_last(buckets: &mut u64) -> usize
-    requires { 0 < buckets.old }
-    ensures within { result < 64 }
-    ensures last { is_set buckets.old result ≡ true }
-    ensures highest { buckets.old < 2 * 2 ^ result }
-    ensures rest { IsWordBut buckets.new buckets.old result false }
-    ensures fewer { buckets.new < buckets.old }
-{
-    let last = buckets.ilog2() as usize;
-    *buckets &= !(1 << last);
-    last
 }

@@ -5,12 +5,16 @@ ghost use base.Stored.{coded_list};
 ghost use Rattle.std.specs.Coded.{coded_option};
 ghost use Rattle.thread_local_buckets.specs.Slots.{block_owns, chunks, slots_ty, flag_word_at, Fits, empty_slots};
 
-use crate::bytes::{bytes_of_block, chunk_count, fits};
-use crate::chunk::{Chunk, flag_word_at};
+use crate::bytes::bytes_of_block;
+use crate::chunk::{Chunk, flag_word_at, value_size};
 use crate::retired::RetiredBlock;
 use std::alloc::{AllocError, Allocator};
 use std::marker::{Model, PhantomData};
 use std::mem::align_of;
+
+/// The values of a block take fewer bytes than this. A block, with its flags and padding, then
+/// takes fewer than 2^63.
+const VALUES_LIMIT: usize = 1 << 58;
 
 /// A block of slots, with the right to free it. The flags of its last `left` chunks aren't made
 /// yet.
@@ -64,16 +68,17 @@ impl<T, A: Allocator> Block<T, A> {
     pub fn new(alloc: &A, len: usize) -> Result<Block<T, A>, AllocError>
         ensures { IfOk result (λ b. (b.heap ≡ alloc.now) × (b.slots ≡ empty_slots len) × (b.left ≡ 0)) }
     {
-        if !fits::<T>(len) {
+        if len.saturating_mul(value_size::<T>()) >= VALUES_LIMIT {
             return Err(AllocError);
         }
         let mut block = Block::allocate(alloc, len, bytes_of_block::<T>(len))?;
+        let count = len.div_ceil(64);
         // Most blocks have one chunk, whose word needs no loop.
-        if chunk_count(len) == 1 {
+        if count == 1 {
             block.push(0, flag_word_at::<T>(len, 0));
             return Ok(block);
         }
-        'chunks: for chunk in 0..chunk_count(len) {
+        'chunks: for chunk in 0..count {
             block.push(chunk, flag_word_at::<T>(len, chunk));
         }
         Ok(block)

@@ -165,8 +165,9 @@ impl<T: Drop> BucketPointer<T> {
     {
         'slots: for index in 0..len {
             let flag_word = flag_word_at::<T>(len, index / 64);
-            if self.flags(index / 64, flag_word) >> (index % 64) & 1 == 1 {
-                drop(self.take(index, flag_word));
+            let flags = self.flags(index / 64, flag_word);
+            if flags >> (index % 64) & 1 == 1 {
+                drop(self.take_and_store(index, flag_word, flags & !(1 << (index % 64))));
             }
         }
     }

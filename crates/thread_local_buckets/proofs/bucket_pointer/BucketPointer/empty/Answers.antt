@@ -1,10 +1,13 @@
-use Rattle.std.proofs.Common.{◌≡◌, ◌≢◌, ℕ, zero, suc, ◌+◌, ◌*◌, ◌/◌, ◌%◌, ◌^◌, ◌<◌, bit_and, false, List, [], ◌∷◌, length, slice_set}
-use Rattle.std.proofs.Common.{Option, None, Some, is_some, refl, sym, ap, ◌∙◌, arith, ⊎_elim}
+use Rattle.std.proofs.Common.{◌≡◌, ◌≢◌, ℕ, zero, suc, ◌+◌, ◌*◌, ◌/◌, ◌%◌, ◌^◌, ◌<◌, w64, bit_and, false, List, [], ◌∷◌, length, slice_set}
+use Rattle.std.proofs.Common.{Option, None, Some, is_some, refl, sym, ap, ◌∙◌, subst, arith, ⊎_elim}
 use Rattle.std.proofs.lemmas.Bool.{cases_eq, ne_eqb}
 use Rattle.std.proofs.lemmas.List.{get_or-set_same, get_or-set_other, length-set}
+use Rattle.std.specs.Int.{bit_not}
 use Rattle.thread_local_base.specs.Bits.{is_set}
-use Rattle.thread_local_base.proofs.Word.{is_set-test, place_below}
+use Rattle.thread_local_base.proofs.Word.{is_set-test, clear_bit, place_below}
 use Rattle.thread_local_buckets.specs.Slots.{slot_value, empty_slots}
+use Rattle.thread_local_buckets.specs.declared.bucket_pointer.BucketPointer.{BucketPointer}
+use Rattle.thread_local_buckets.proofs.ChunkFlags.{HasFlags, flags_changed}
 use Rattle.thread_local_buckets.proofs.bucket_pointer.BucketPointer.empty.Goals as goal
 use Rattle.thread_local_buckets.proofs.bucket_pointer.BucketPointer.empty.Goals.{then-flags-index-eq1, else-flags-index-eq1}
 
@@ -66,6 +69,22 @@ kept_empty {X = X} old new index len long before none is = (
       (cases_eq k index),
 )
 
+-- a word without one bit, as code makes it
+abbrev without : ℕ → ℕ → ℕ
+without word bit = bit_and word (bit_not w64 (1 * 2 ^ bit % 2 ^ 64))
+
+pub take_and_store-requires-clause-flags : goal.take_and_store-requires-clause-flags
+take_and_store-requires-clause-flags g c =
+    let slots = c.slots.self.slots in
+    let index = c.slots.index in
+    let read = c.flags-flags in
+    let near : index < length slots = subst (λ (n : ℕ). index < n) (sym c.slots.invariant.whole) c.slots-test.true in
+    subst (λ (later : BucketPointer g.row.T.Denot).
+    HasFlags (slice_set later.slots index None) (index / 64) (without read.result (index % 64)))
+    (sym read.ensures.same)
+    (flags_changed slots index None read.result _ near read.ensures.value
+    (clear_bit read.result (index % 64) (place_below index)))
+
 pub slots-preserved : goal.slots-preserved
 slots-preserved g c =
     let old : List (Option g.row.T.Denot) = c.slots.self.slots in
@@ -75,12 +94,12 @@ slots-preserved g c =
     elim c.if-flags-index-eq1.branch [
       | then-flags-index-eq1 w ↦
           let is : new ≡ slice_set old index None =
-          ap (λ p. p.slots) w.self-is ∙ w.take.ensures.after ∙ ap (λ p. slice_set p.slots index None) c.flags.ensures.same in
+          ap (λ p. p.slots) w.self-is ∙ w.take_and_store.ensures.after ∙ ap (λ p. slice_set p.slots index None) c.flags-flags.ensures.same in
           let more = emptied old new index c.args.len kept.whole c.slots-test.true kept.empty is in
           record { whole = more.0; empty = more.1 }
       | else-flags-index-eq1 w ↦
-          let is : new ≡ old = ap (λ p. p.slots) w.self-is ∙ ap (λ p. p.slots) c.flags.ensures.same in
-          let none = unset old index c.flags.result c.flags.ensures.value w.if-flags-index-eq1.false in
+          let is : new ≡ old = ap (λ p. p.slots) w.self-is ∙ ap (λ p. p.slots) c.flags-flags.ensures.same in
+          let none = unset old index c.flags-flags.result c.flags-flags.ensures.value w.if-flags-index-eq1.false in
           let more = kept_empty old new index c.args.len kept.whole kept.empty none is in
           record { whole = more.0; empty = more.1 }
     ]

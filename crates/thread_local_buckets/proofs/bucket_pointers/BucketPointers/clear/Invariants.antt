@@ -1,9 +1,7 @@
-use Rattle.thread_local_buckets.proofs.Clearing.{AreClearedBut}
+use Rattle.std.proofs.Common.{◌+◌, ◌-◌}
+use Rattle.thread_local_buckets.proofs.Clearing.{AreCleared}
 use Rattle.thread_local_buckets.proofs.bucket_pointers.BucketPointers.clear.Given as goal
 
--- the buckets behind the first seven are cleared, but those that the word still has
+-- the last buckets are cleared, and the others are unchanged
 abbrev pub invariant-buckets : goal.invariant-buckets
-invariant-buckets g l = AreClearedBut l.fn.self l.self l.fn.reserved l.left
-
-abbrev pub decreases-buckets : goal.decreases-buckets
-decreases-buckets g l = l.left
+invariant-buckets g l = AreCleared l.fn.self l.self l.fn.reserved (l.last + 1 - l.done)

@@ -3,14 +3,13 @@ use Rattle.std.specs.Prelude.{nat_lt}
 use Rattle.std.proofs.lemmas.Bool.{cond-true, cond-false, lt-ltb, ltb-true, le-ltb}
 use Rattle.std.proofs.lemmas.List.{nil_from_length}
 use Rattle.thread_local_base.specs.Place.{id_at}
-use Rattle.thread_local_base.specs.Buckets.{Contents, row, stands, IsTable}
+use Rattle.thread_local_base.specs.Buckets.{Contents, row, stands}
 use Rattle.thread_local_base.specs.Rows.{empty_row, with_row}
 use Rattle.thread_local_base.proofs.RowLaws.{row_whole, length-empty_row}
-use Rattle.thread_local_buckets.specs.Clearing.{AreCleared}
+use Rattle.thread_local_base.specs.Owner.{cleared_row}
 use Rattle.thread_local_buckets.specs.Pointers.{contents_of}
 use Rattle.thread_local_buckets.specs.Slots.{empty_slots}
 use Rattle.thread_local_buckets.proofs.Announcing.{IsAnnounced, IsAnnounced-with_row}
-use Rattle.thread_local_buckets.proofs.Clearing.{AreCleared-none, AreCleared-more}
 use Rattle.thread_local_buckets.proofs.ContentsOf.{row_of_pointer, row_changes, row_seen}
 use Rattle.thread_local_buckets.proofs.bucket_pointers.BucketPointers.clear_bucket.Goals as goal
 
@@ -23,25 +22,14 @@ none_or_all : {X : Type 0} (cs ds : List X) (n size : ℕ) → cs ≡ ds → siz
 none_or_all cs ds n size same is (inl long) = inl (nil_from_length ds (sym (ap length same) ∙ long))
 none_or_all cs ds n size same is (inr long) = inr (sym (ap length same) ∙ long ∙ sym is)
 
--- a reserved bucket is cleared once it is empty
-reserved_cleared : {V : Type 0} (old new : Contents V) (n b : ℕ) → IsTable old → b < 63 → 2 ^ b ≤ n
-    → new ≡ with_row old b (empty_row b)
-    → AreCleared old new n b (b + 1)
-reserved_cleared old new n b table low fits is =
+-- a bucket with a reserved slot is cleared once it is empty, and any other once it is freed
+reserved_row : (V : Type 0) (n b : ℕ) → 2 ^ b ≤ n → empty_row {V = V} b ≡ cleared_row n b
+reserved_row V n b fits =
     let some = pow_pos b in
-    let reserved : nat_lt (id_at b 0) n ≡ true = lt-ltb (id_at b 0) n (omega arith) in
-    AreCleared-more old old new n b b (empty_row b) (AreCleared-none old n b table) (omega arith) low
-    (inr (length-empty_row _ b))
-    (sym (cond-true (nat_lt (id_at b 0) n) (empty_row b) [] reserved)) is
+    sym (cond-true (nat_lt (id_at b 0) n) (empty_row b) [] (lt-ltb (id_at b 0) n (omega arith)))
 
--- and any other once it is freed
-other_cleared : {V : Type 0} (old new : Contents V) (n b : ℕ) → IsTable old → b < 63 → n < 2 ^ b
-    → new ≡ with_row old b []
-    → AreCleared old new n b (b + 1)
-other_cleared old new n b table low larger is =
-    let free : nat_lt (id_at b 0) n ≡ false = le-ltb (id_at b 0) n (omega arith) in
-    AreCleared-more old old new n b b [] (AreCleared-none old n b table) (omega arith) low (inl refl)
-    (sym (cond-false (nat_lt (id_at b 0) n) (empty_row b) [] free)) is
+free_row : (V : Type 0) (n b : ℕ) → n < 2 ^ b → [] ≡ cleared_row {V = V} n b
+free_row V n b larger = sym (cond-false (nat_lt (id_at b 0) n) (empty_row b) [] (le-ltb (id_at b 0) n (omega arith)))
 
 -- the search for the two calls takes a while
 pub empty-requires : goal.empty-requires
@@ -95,17 +83,14 @@ pub returns-then-size-reserved : goal.returns-then-size-reserved
 returns-then-size-reserved g c =
     let b : ℕ = c.args.bucket in
     let made = row_emptied c.empty.new.self.slots c.bucket_size-size.result b c.empty.ensures c.bucket_size-size.ensures in
-    reserved_cleared c.args.self.now _ c.args.reserved b
-    (subst (λ (z : Contents g.row.T.Denot). IsTable z) c.self.view_is c.self.invariant.0) c.requires.in_table
-    (omega (arith, c.if-size-reserved.true, c.bucket_size-size.ensures))
-    (row_changes c.self.inside.pointers b c.empty.new.self (empty_row b) made
-    ∙ ap (λ (z : Contents g.row.T.Denot). with_row z b (empty_row b)) c.self.view_is)
+    let fits : 2 ^ b ≤ c.args.reserved = omega (arith, c.if-size-reserved.true, c.bucket_size-size.ensures) in
+    row_changes c.self.inside.pointers b c.empty.new.self (cleared_row c.args.reserved b) (made ∙ reserved_row g.row.T.Denot c.args.reserved b fits)
+    ∙ ap (λ (z : Contents g.row.T.Denot). with_row z b (cleared_row c.args.reserved b)) c.self.view_is
 
 pub returns-else-size-reserved : goal.returns-else-size-reserved
 returns-else-size-reserved g c =
     let b : ℕ = c.args.bucket in
-    other_cleared c.args.self.now _ c.args.reserved b
-    (subst (λ (z : Contents g.row.T.Denot). IsTable z) c.self.view_is c.self.invariant.0) c.requires.in_table
-    (omega (arith, c.if-size-reserved.false, c.bucket_size-size.ensures))
-    (row_changes c.self.inside.pointers b c.release.new.self [] c.release.ensures
-    ∙ ap (λ (z : Contents g.row.T.Denot). with_row z b []) c.self.view_is)
+    let larger : c.args.reserved < 2 ^ b = omega (arith, c.if-size-reserved.false, c.bucket_size-size.ensures) in
+    row_changes c.self.inside.pointers b c.release.new.self (cleared_row c.args.reserved b)
+    (c.release.ensures ∙ free_row g.row.T.Denot c.args.reserved b larger)
+    ∙ ap (λ (z : Contents g.row.T.Denot). with_row z b (cleared_row c.args.reserved b)) c.self.view_is
