@@ -3,5 +3,4 @@ pub mod Reserved
 pub mod Counted
 pub mod Filled
 mod Grown
-pub mod Knowing
 pub mod Told

@@ -6,17 +6,13 @@ use Rattle.std.specs.Prelude.{Err, refl}
 use base.Stored.{coded_bool}
 use Rattle.std.specs.Coded.{Coded, coded_option, coded_ℕ, coded×, code_by}
 use Rattle.thread_local_base.specs.Answers.{View, GetOr, Answered, Refused, Failed, Says, answer, view_of}
-use Rattle.thread_local_base.specs.Learnt.{Learnt, Missing, Vacant, Holding}
-use Rattle.thread_local_base.specs.Place.{IsPlaceOf}
-use Rattle.thread_local_base.specs.declared.place.Thread.{Thread}
-use Rattle.thread_local_buckets.specs.declared.block.Block.{Block}
+use Rattle.thread_local_base.specs.Learnt.{Missing}
 use Rattle.thread_local_ids.specs.Views.{TokenView}
 use Rattle.thread_local_base.specs.IdMoves.{IdMove, Take, Give, moves_coded, noted}
 use mathlib.Core.List.{IsPrefix}
 use Rattle.thread_local_ids.specs.declared.page.Tenure.{Tenure}
 use Rattle.thread_local_ids.specs.Rights.{taken_id}
 use Rattle.thread_local_shared_buckets.specs.Known.{HasLooked}
-use Rattle.thread_local_shared_buckets.specs.Room.{HasRoom}
 use Rattle.thread_local_shared_buckets.specs.Views.{ClaimView}
 use Rattle.thread_local.specs.Tables.{ThreadLocalView}
 use Rattle.thread_local_shared_buckets.specs.Walks.{Owed}
@@ -53,15 +49,6 @@ local_view_coded {V} c =
 -- what is known of the slot
 abbrev pub knows : {V : Type 0} → LocalView V → View V
 knows s = record { value = s.value; known = s.known }
-
--- what a claim has learnt that has looked, by what is known of its slot
-abbrev pub learnt_at : {V : Type 0} → Option V → Bool → Learnt V
-learnt_at (Some v) known = Holding v
-learnt_at None true = Vacant
-learnt_at None false = Missing
-
-abbrev pub learnt_by : {V : Type 0} → View V → Learnt V
-learnt_by view = learnt_at view.value view.known
 
 -- the same `Local`, with this known of its slot
 abbrev pub knowing : {V : Type 0} → LocalView V → View V → LocalView V
@@ -113,12 +100,6 @@ pub record IsLocalOf {V : Type 0} (of : ThreadLocalView) (claim : ClaimView V) (
   pub reserved : claim.id < of.reserved → claim.learnt ≢ Missing
   pub of_table : tenure.table ≡ of.table
   pub least : claim.id ≡ taken_id tenure.before
-
--- what a `Local` has room for a value by: the place of its id, and a block from this heap where the
--- bucket is missing
-abbrev pub IsRoomOf : {V A : Type 0} → A → LocalView V → Thread × Option (Block V A) → Type 0
-IsRoomOf heap s room =
-    IsPlaceOf room.0.bucket room.0.index s.id × HasRoom heap room.0.bucket (learnt_by (knows s)) room.1
 
 -- what is known of a slot that holds this value
 abbrev pub holding : {V : Type 0} → V → View V

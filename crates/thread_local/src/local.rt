@@ -10,18 +10,15 @@ ghost use mathlib.Core.List.{IsPrefix};
 ghost use mathlib.Core.Logic.{◌∨₁◌};
 ghost use Rattle.thread_local.specs.Errors.{IfCreate};
 ghost use Rattle.thread_local.specs.Locals.{knows, knowing, own_of, token_of, holding};
-ghost use Rattle.thread_local.specs.Locals.{IsRoomOf, StaysEmpty, IsAnswered, IsFilled, Fills, Fails, IsRefused, EndsWithReturn};
+ghost use Rattle.thread_local.specs.Locals.{IsAnswered, IsFilled, Fills, Fails, IsRefused, EndsWithReturn};
 ghost use Rattle.thread_local_shared_buckets.specs.Walks.{fresh_with};
 
 pub use crate::error::{SetError, TryError};
 use crate::table::ThreadLocal;
-use std::alloc::{AllocError, Global};
-use std::default::MadeWith;
+use std::alloc::AllocError;
 use std::fmt;
 use std::marker::Model;
 use std::sync::Wait;
-use thread_local_base::{Thread, bucket_size};
-use thread_local_buckets::Block;
 use thread_local_ids::{HeldId, Page, Right, Tenure, Token, Told};
 use thread_local_shared_buckets::{Claim, Iter, Tokens};
 
@@ -188,54 +185,12 @@ impl<'a, T, R: Wait> Local<'a, T, R> {
         self.claim.id() < table.buckets.reserved()
     }
 
-    /// Makes room for a value in the slot, which is empty. Answers the place of the id, and a block
-    /// where the bucket was missing and is missing still.
-    #[inline(always)]
-    fn room(&mut self, alloc: Global) -> Result<(Thread, Option<Block<T, Global>>), AllocError>
-        requires empty { self.old.value ≡ None }
-        ensures ok { IfOk result (IsRoomOf alloc self.new) }
-        ensures err { OnErr result ((self.old.known ≡ false) × (self.new ≡ self.old)) }
-        ensures leaves { StaysEmpty self.old self.new }
-    {
-        let thread = self.claim.place();
-        let block = self.claim.room(&alloc, thread)?;
-        Ok((thread, block))
-    }
-
-    /// Publishes a value in the slot, where there is room for it.
-    #[inline(always)]
-    fn publish_in(&mut self, alloc: Global, room: (Thread, Option<Block<T, Global>>), value: T)
-        requires room { IsRoomOf alloc self.old room }
-        ensures { self.new ≡ knowing self.old (holding value) }
-    {
-        let (thread, block) = room;
-        let reached = self.tenure.reached();
-        self.claim.publish_in(&alloc, thread, block, value, reached);
-    }
-
-    /// Frees the block that was made for a value, where there is one.
-    fn release_room(&self, alloc: Global, room: (Thread, Option<Block<T, Global>>))
-        requires room { IsRoomOf alloc self.now room }
-    {
-        let (thread, block) = room;
-        if let Some(block) = block {
-            block.release(&alloc, bucket_size(thread.bucket));
-        }
-    }
-
     /// The value of a slot that holds one, without a test.
     fn value(&self) -> &T
         requires { self.now.value ≢ None }
         ensures { self.now.value ≡ Some result.now }
     {
         self.claim.value()
-    }
-
-    /// Whether a value is published in the slot.
-    fn is_published(&self) -> bool
-        ensures { result ≡ is_some self.now.value }
-    {
-        self.get().is_some()
     }
 
     /// Fills the slot if it is empty.
@@ -247,44 +202,9 @@ impl<'a, T, R: Wait> Local<'a, T, R> {
         ensures granted { self.old.known ≡ true → IsOk result }
         ensures has_value { IsSome self.old.value → IsOk result }
     {
-        if !self.is_published() {
-            return self.fill_empty(create);
-        }
-        Ok(())
-    }
-
-    /// Fills the slot, which is empty, with the closure's value.
-    #[inline]
-    fn fill_empty<F: FnOnce() -> T + Drop>(&mut self, create: F) -> Result<(), AllocError>
-        requires empty { self.old.value ≡ None }
-        requires callable { F.pre create }
-        ensures ok { OnOk result (IsFilled ⊤ (F.post create) self.old self.new) }
-        ensures err { OnErr result (IsRefused ⊤ self.old self.new) }
-        ensures granted { self.old.known ≡ true → IsOk result }
-    {
-        if self.claim.is_missing() {
-            return self.fill_missing(create);
-        }
-        let thread = self.claim.place();
-        self.claim.publish(thread, create());
-        Ok(())
-    }
-
-    /// `fill_empty` where the bucket was missing: finds it or makes a block for it, then calls the
-    /// closure and publishes its value. It is never inlined, so that other calls are short.
-    #[inline(never)]
-    fn fill_missing<F: FnOnce() -> T + Drop>(&mut self, create: F) -> Result<(), AllocError>
-        requires empty { self.old.value ≡ None }
-        requires callable { F.pre create }
-        ensures ok { OnOk result (IsFilled ⊤ (F.post create) self.old self.new) }
-        ensures err { OnErr result (IsRefused ⊤ self.old self.new) }
-        ensures granted { self.old.known ≡ true → IsOk result }
-    {
         let table = self.table;
-        let alloc = table.alloc;
-        let room = self.room(alloc)?;
-        self.publish_in(alloc, room, create());
-        Ok(())
+        let reached = self.tenure.reached();
+        self.claim.fill(table.alloc, reached, create)
     }
 
     /// Publishes a value that is at hand, where the slot is empty. `Occupied` gives it back where
@@ -299,17 +219,13 @@ impl<'a, T, R: Wait> Local<'a, T, R> {
             → result ≡ Err (SetError.Memory given)
             → (self.old.value ≡ None) × (self.old.known ≡ false) × (given ≡ value) × (self.new ≡ self.old) }
     {
-        if self.is_published() {
+        if self.get().is_some() {
             return Err(SetError::Occupied(value));
         }
         let table = self.table;
-        let alloc = table.alloc;
-        match self.room(alloc) {
-            Ok(room) => {
-                self.publish_in(alloc, room, value);
-                Ok(())
-            }
-            Err(_) => Err(SetError::Memory(value)),
+        match self.claim.set(table.alloc, self.tenure.reached(), value) {
+            Ok(()) => Ok(()),
+            Err(value) => Err(SetError::Memory(value)),
         }
     }
 
@@ -351,21 +267,13 @@ impl<'a, T, R: Wait> Local<'a, T, R> {
         ensures failed { IfErr result (λ error. IfCreate error (λ e. F.post create (Err e))) }
         ensures empty { OnErr result (self.new.value ≡ None) }
     {
-        if self.is_published() {
-            return Ok(());
-        }
         let table = self.table;
-        let alloc = table.alloc;
-        let room = self.room(alloc)?;
-        match create() {
-            Ok(value) => {
-                self.publish_in(alloc, room, value);
-                Ok(())
-            }
-            Err(error) => {
-                self.release_room(alloc, room);
-                Err(TryError::Create(error))
-            }
+        let filled = self
+            .claim
+            .try_fill(table.alloc, self.tenure.reached(), create)?;
+        match filled {
+            Ok(()) => Ok(()),
+            Err(error) => Err(TryError::Create(error)),
         }
     }
 

@@ -1,6 +1,7 @@
 -- The room that a claim has for a value: a vacant slot, or a block that was made for its missing bucket.
-use Rattle.std.specs.Prelude.{◌≡◌, ℕ, ◌^◌, Option, None, Some}
-use Rattle.thread_local_base.specs.Learnt.{Learnt, Missing, Vacant}
+-- What filling the slot leaves.
+use Rattle.std.specs.Prelude.{◌≡◌, ◌⊎◌, ℕ, ◌^◌, Option, None, Some}
+use Rattle.thread_local_base.specs.Learnt.{Learnt, Missing, Vacant, Holding}
 use Rattle.thread_local_buckets.specs.Slots.{empty_slots}
 use Rattle.thread_local_buckets.specs.declared.block.Block.{Block}
 
@@ -10,3 +11,19 @@ abbrev pub HasRoom : {V A : Type 0} → A → ℕ → Learnt V → Option (Block
 HasRoom heap bucket learnt None = learnt ≡ Vacant
 HasRoom heap bucket learnt (Some block) =
     (learnt ≡ Missing) × (block.heap ≡ heap) × (block.slots ≡ empty_slots (2 ^ bucket)) × (block.left ≡ 0)
+
+-- no value is known: the bucket was missing, or the slot is vacant
+abbrev pub IsEmpty : {V : Type 0} → Learnt V → Type 0
+IsEmpty learnt = (learnt ≡ Missing) ⊎ (learnt ≡ Vacant)
+
+-- the slot holds a value then: the one that it held, or where it was empty, one that is made so
+pub record IsFilledBy {V : Type 0} (makes : V → Type 0) (old new : Learnt V) : Type 0 where
+  pub value : V
+  pub holds : new ≡ Holding value
+  pub made : (old ≡ Holding value) ⊎ (IsEmpty old × makes value)
+
+-- the slot was empty and still is; if its bucket was found, that is known still
+pub record StaysEmpty {V : Type 0} (old new : Learnt V) : Type 0 where
+  pub was : IsEmpty old
+  pub is : IsEmpty new
+  pub vacant : old ≡ Vacant → new ≡ Vacant

@@ -1,12 +1,13 @@
 //! A claim of a slot, in three states: its bucket was missing, the slot is vacant, the slot holds a
 //! value. It begins in any of them, and goes on from one to the next.
-ghost use Rattle.std.specs.Prelude.{◌≡◌, ◌≢◌, ◌/◌, ◌^◌, ◌<◌, ◌⊎◌, true, Some, None, IsSome, is_some, IfOk, OnErr, MatchBool, MatchOption, slice_set};
+ghost use Rattle.std.specs.Prelude.{◌≡◌, ◌≢◌, ◌/◌, ◌-◌, ◌^◌, ◌<◌, ◌⊎◌, true, Some, None, Ok, Err, IsSome, is_some};
+ghost use Rattle.std.specs.Prelude.{IfOk, OnOk, IfErr, OnErr, MatchBool, MatchOption, MatchResult, slice_set};
 ghost use Rattle.thread_local_base.specs.Learnt.{Unknown, Missing, Vacant, Holding, Finds, learnt_by_publish};
 ghost use Rattle.thread_local_base.specs.Place.{IsPlaceOf};
 ghost use Rattle.thread_local_buckets.specs.Slots.{empty_slots, slot_value, flag_word_at};
 ghost use Rattle.thread_local_shared_buckets.specs.Announcing.{BeginsWithFirst};
 ghost use Rattle.thread_local_shared_buckets.specs.Known.{HasLooked, value_held};
-ghost use Rattle.thread_local_shared_buckets.specs.Room.{HasRoom};
+ghost use Rattle.thread_local_shared_buckets.specs.Room.{IsEmpty, HasRoom, IsFilledBy, StaysEmpty};
 
 use crate::claimed::{ClaimedSlot, HOLDING, MISSING};
 use crate::{Announcements, SharedBucket};
@@ -21,9 +22,9 @@ use thread_local_ids::{HeldId, Reached, Right, Token};
 /// the slot: that the bucket was missing, that the slot is vacant, or the value that the slot
 /// holds.
 ///
-/// No call waits, and only `room` takes memory. Only `look`, `look_again`, `room`, `install`,
-/// `publish_in` and `publish` make atomic steps. These ask for the place of the id, which the caller
-/// computes once.
+/// No call waits, but a closure that a call runs may, and so may the drop of one that it doesn't run.
+/// Only `fill`, `try_fill`, `set` and `room` take memory. These, `look`, `publish_in` and `publish`
+/// make atomic steps.
 pub struct Claim<'a, T> {
     slot: ClaimedSlot<'a, T>,
     held: HeldId,
@@ -94,20 +95,128 @@ impl<'a, T> Claim<'a, T> {
         }
     }
 
-    /// Looks again for a bucket that was missing, by the same loads as `look`. Where the bucket
-    /// stands now, the slot is vacant, whoever installed the block.
-    pub fn look_again(&mut self, thread: Thread)
-        requires missing { self.old.learnt ≡ Missing }
-        requires place { IsPlaceOf thread.bucket thread.index self.old.id }
+    /// Fills the slot if it is empty, with the closure's value, for which a missing bucket is made.
+    /// Where memory is refused, the closure isn't called.
+    #[inline]
+    pub fn fill<F: FnOnce() -> T + Drop>(
+        &mut self,
+        alloc: Global,
+        reached: Reached,
+        create: F,
+    ) -> Result<(), AllocError>
+        requires callable { IsEmpty self.old.learnt → F.pre create }
+        requires reached { (reached.table ≡ self.old.table) × (self.old.id < reached.ids) }
         ensures same_slot { (self.new.table ≡ self.old.table)
             × (self.new.sharing ≡ self.old.sharing)
             × (self.new.id ≡ self.old.id) }
-        ensures found { Finds self.old.learnt self.new.learnt }
-        ensures learnt { (self.new.learnt ≡ Missing) ⊎ (self.new.learnt ≡ Vacant) }
-        ensures reserved { (self.new.reserved ≡ self.old.reserved)
-            × (self.new.reserved ≡ true → self.new.learnt ≡ Vacant) }
+        ensures ok { OnOk result (IsFilledBy (F.post create) self.old.learnt self.new.learnt) }
+        ensures err { OnErr result ((self.old.learnt ≡ Missing) × (self.new.learnt ≡ Missing)) }
+        ensures learnt { HasLooked self.new.learnt }
+        ensures found { self.new.learnt ≡ Missing → self.old.learnt ≡ Missing }
+        ensures reserved { self.new.reserved ≡ self.old.reserved }
     {
-        self.slot.find(thread.index, flag_word_of::<T>(thread));
+        if self.slot.state() == HOLDING {
+            return Ok(());
+        }
+        let thread = Thread::new(self.held.id);
+        if self.is_missing() {
+            return self.fill_missing(alloc, thread, reached, create);
+        }
+        self.publish(thread, create());
+        Ok(())
+    }
+
+    /// `fill` where the bucket was missing: finds it or makes a block for it, then calls the closure
+    /// and publishes its value. It is never inlined, so that other calls are short.
+    #[inline(never)]
+    fn fill_missing<F: FnOnce() -> T + Drop>(
+        &mut self,
+        alloc: Global,
+        thread: Thread,
+        reached: Reached,
+        create: F,
+    ) -> Result<(), AllocError>
+        requires missing { self.old.learnt ≡ Missing }
+        requires place { IsPlaceOf thread.bucket thread.index self.old.id }
+        requires callable { F.pre create }
+        requires reached { (reached.table ≡ self.old.table) × (self.old.id < reached.ids) }
+        ensures same_slot { (self.new.table ≡ self.old.table)
+            × (self.new.sharing ≡ self.old.sharing)
+            × (self.new.id ≡ self.old.id) }
+        ensures ok { OnOk result (IsFilledBy (F.post create) self.old.learnt self.new.learnt) }
+        ensures err { OnErr result (self.new.learnt ≡ Missing) }
+        ensures reserved { self.new.reserved ≡ self.old.reserved }
+    {
+        let block = self.make_room(&alloc, thread)?;
+        self.publish_in(&alloc, thread, block, create(), reached);
+        Ok(())
+    }
+
+    /// `fill` by a closure that may fail. `Ok` hands its error on, and the slot is still empty.
+    #[inline]
+    pub fn try_fill<F: FnOnce() -> Result<T, E> + Drop, E>(
+        &mut self,
+        alloc: Global,
+        reached: Reached,
+        create: F,
+    ) -> Result<Result<(), E>, AllocError>
+        requires callable { IsEmpty self.old.learnt → F.pre create }
+        requires reached { (reached.table ≡ self.old.table) × (self.old.id < reached.ids) }
+        ensures same_slot { (self.new.table ≡ self.old.table)
+            × (self.new.sharing ≡ self.old.sharing)
+            × (self.new.id ≡ self.old.id) }
+        ensures ok { IfOk result (λ filled.
+            MatchResult filled
+            (λ _. IsFilledBy (λ value. F.post create (Ok value)) self.old.learnt self.new.learnt)
+            (λ error. StaysEmpty self.old.learnt self.new.learnt × F.post create (Err error))) }
+        ensures err { OnErr result ((self.old.learnt ≡ Missing) × (self.new.learnt ≡ Missing)) }
+        ensures learnt { HasLooked self.new.learnt }
+        ensures found { self.new.learnt ≡ Missing → self.old.learnt ≡ Missing }
+        ensures reserved { self.new.reserved ≡ self.old.reserved }
+    {
+        if self.slot.state() == HOLDING {
+            return Ok(Ok(()));
+        }
+        let thread = Thread::new(self.held.id);
+        let block = self.room(&alloc, thread)?;
+        match create() {
+            Ok(value) => {
+                self.publish_in(&alloc, thread, block, value, reached);
+                Ok(Ok(()))
+            }
+            Err(error) => {
+                if let Some(block) = block {
+                    block.release(&alloc, bucket_size(thread.bucket));
+                }
+                Ok(Err(error))
+            }
+        }
+    }
+
+    /// Publishes a value in a slot that is empty, for which a missing bucket is made. Where memory is
+    /// refused, the value comes back.
+    #[inline]
+    pub fn set(&mut self, alloc: Global, reached: Reached, value: T) -> Result<(), T>
+        requires empty { IsEmpty self.old.learnt }
+        requires reached { (reached.table ≡ self.old.table) × (self.old.id < reached.ids) }
+        ensures same_slot { (self.new.table ≡ self.old.table)
+            × (self.new.sharing ≡ self.old.sharing)
+            × (self.new.id ≡ self.old.id) }
+        ensures ok { OnOk result (self.new.learnt ≡ Holding value) }
+        ensures err { IfErr result (λ given.
+            (given ≡ value) × (self.old.learnt ≡ Missing) × (self.new.learnt ≡ Missing)) }
+        ensures learnt { HasLooked self.new.learnt }
+        ensures found { self.new.learnt ≡ Missing → self.old.learnt ≡ Missing }
+        ensures reserved { self.new.reserved ≡ self.old.reserved }
+    {
+        let thread = Thread::new(self.held.id);
+        match self.room(&alloc, thread) {
+            Ok(block) => {
+                self.publish_in(&alloc, thread, block, value, reached);
+                Ok(())
+            }
+            Err(_) => Err(value),
+        }
     }
 
     /// Makes room for a value in a slot that is empty. It looks again for a bucket that was missing, and
@@ -119,7 +228,7 @@ impl<'a, T> Claim<'a, T> {
         alloc: &Global,
         thread: Thread,
     ) -> Result<Option<Block<T, Global>>, AllocError>
-        requires empty { (self.old.learnt ≡ Missing) ⊎ (self.old.learnt ≡ Vacant) }
+        requires empty { IsEmpty self.old.learnt }
         requires place { IsPlaceOf thread.bucket thread.index self.old.id }
         ensures same_slot { (self.new.table ≡ self.old.table)
             × (self.new.sharing ≡ self.old.sharing)
@@ -135,7 +244,8 @@ impl<'a, T> Claim<'a, T> {
         Ok(None)
     }
 
-    /// `room` where the bucket was missing.
+    /// `room` where the bucket was missing. It looks by the same loads as `look`. Where the bucket
+    /// stands now, the slot is vacant, whoever installed the block.
     #[inline(always)]
     fn make_room(
         &mut self,
@@ -149,17 +259,21 @@ impl<'a, T> Claim<'a, T> {
             × (self.new.id ≡ self.old.id) }
         ensures ok { IfOk result (HasRoom alloc.now thread.bucket self.new.learnt) }
         ensures err { OnErr result (self.new.learnt ≡ Missing) }
-        ensures reserved { self.new.reserved ≡ self.old.reserved }
+        ensures reserved { (self.new.reserved ≡ self.old.reserved)
+            × (self.new.reserved ≡ true → self.new.learnt ≡ Vacant) }
     {
-        self.look_again(thread);
+        self.slot.find(thread.index, flag_word_of::<T>(thread));
         if !self.is_missing() {
             return Ok(None);
         }
         Ok(Some(Block::new(alloc, bucket_size(thread.bucket))?))
     }
 
-    /// Publishes a value where there is room for it: in the block that was made, or in the bucket that
-    /// stands. All ids up to this one were held at once.
+    /// Publishes a value where there is room for it. Where no block was made, the bucket stands. Else
+    /// the value goes into the block, and the bucket is announced. One compare and exchange installs
+    /// the block, which publishes the value, too. Where another block was installed first, that one
+    /// stays, the value is published there, and this block is freed. All ids up to this one were held
+    /// at once.
     #[inline(always)]
     pub fn publish_in(
         &mut self,
@@ -178,36 +292,9 @@ impl<'a, T> Claim<'a, T> {
         ensures learnt { self.new.learnt ≡ Holding value }
         ensures reserved { self.new.reserved ≡ self.old.reserved }
     {
-        match block {
-            Some(block) => self.install(alloc, thread, block, value, reached),
-            None => self.publish(thread, value),
-        }
-    }
-
-    /// Puts a value into a block, announces the claim's bucket, which was missing, and installs the
-    /// block by one compare and exchange, which publishes the value, too. Where another block was
-    /// installed first, that one stays, the value is published there, and this block is freed.
-    #[inline(always)]
-    pub fn install(
-        &mut self,
-        alloc: &Global,
-        thread: Thread,
-        block: Block<T, Global>,
-        value: T,
-        reached: Reached,
-    )
-        requires missing { self.old.learnt ≡ Missing }
-        requires place { IsPlaceOf thread.bucket thread.index self.old.id }
-        requires block { (block.heap ≡ alloc.now)
-            × (block.slots ≡ empty_slots (2 ^ thread.bucket))
-            × (block.left ≡ 0) }
-        requires reached { (reached.table ≡ self.old.table) × (self.old.id < reached.ids) }
-        ensures same_slot { (self.new.table ≡ self.old.table)
-            × (self.new.sharing ≡ self.old.sharing)
-            × (self.new.id ≡ self.old.id) }
-        ensures learnt { self.new.learnt ≡ Holding value }
-        ensures reserved { self.new.reserved ≡ self.old.reserved }
-    {
+        let Some(block) = block else {
+            return self.publish(thread, value);
+        };
         let block = filled(block, alloc, thread, value);
         let announced = self.announcements.announce(thread.bucket);
         let back = self.slot.exchange(thread.index, block, reached, announced);
@@ -235,16 +322,10 @@ impl<'a, T> Claim<'a, T> {
 
     /// The id whose slot it is.
     pub fn id(&self) -> usize
-        ensures { result ≡ self.now.id }
+        ensures id { result ≡ self.now.id }
+        ensures in_range { result < 2 ^ 63 - 1 }
     {
         self.held.id
-    }
-
-    /// The place of the id.
-    pub fn place(&self) -> Thread
-        ensures { IsPlaceOf result.bucket result.index self.now.id }
-    {
-        Thread::new(self.held.id)
     }
 
     /// Whether the bucket was missing when the claim looked for it last.

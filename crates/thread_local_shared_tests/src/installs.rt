@@ -5,12 +5,12 @@ ghost use Rattle.thread_local_ids.specs.Taken.{IsHeldIn};
 ghost use Rattle.thread_local_base.specs.Place.{bucket_of};
 
 use crate::same::assert_same;
-use crate::steps::{Kept, Table, left, look, publish_claimed, share};
+use crate::steps::{Kept, Table, left, look, share};
 use std::alloc::Global;
 use std::cell::{Cell, RefCell};
 use std::sync::Wait;
 use std::test::Fail;
-use thread_local_base::bucket_size;
+use thread_local_base::{Thread, bucket_size};
 use thread_local_buckets::{Block, Buckets};
 use thread_local_ids::{Reached, Taken};
 use thread_local_shared_buckets::{Claim, Shared};
@@ -33,19 +33,20 @@ impl<'a, T: Drop> Early<'a, T> {
     {
         let Self { kept, reached } = self;
         let mut claim = kept.into_claim();
-        let thread = claim.place();
+        let thread = Thread::new(claim.id());
         if !claim.is_missing() {
             block.release(alloc, bucket_size(thread.bucket));
             claim.give_up();
             return None;
         }
-        claim.install(alloc, thread, block, value, reached);
+        claim.publish_in(alloc, thread, Some(block), value, reached);
         Some(claim)
     }
 
     /// Makes a block, offers it with a value and gives the claim up. Answers whether it did.
     fn offer(self, alloc: &Global, value: T) -> bool {
-        let Ok(block) = Block::new(alloc, bucket_size(self.kept.claim.place().bucket)) else {
+        let Ok(block) = Block::new(alloc, bucket_size(Thread::new(self.kept.claim.id()).bucket))
+        else {
             return false;
         };
         match self.offered(block, alloc, value) {
@@ -164,9 +165,12 @@ fn offer_two(
     other: Early<'_, u32>,
     alloc: &Global,
 ) -> Option<[[Option<u32>; 3]; 2]> {
-    let size = bucket_size(one.kept.claim.place().bucket);
+    let size = bucket_size(Thread::new(one.kept.claim.id()).bucket);
     let first = Block::new(alloc, size).ok()?;
-    let second = match Block::new(alloc, bucket_size(other.kept.claim.place().bucket)) {
+    let second = match Block::new(
+        alloc,
+        bucket_size(Thread::new(other.kept.claim.id()).bucket),
+    ) {
         Ok(block) => block,
         Err(_) => {
             first.release(alloc, size);
@@ -198,17 +202,17 @@ fn the_second_of_two_blocks_gives_way(rt: HostRuntime) -> Result<(), Fail> {
     Ok(())
 }
 
-/// Looks again with a claim that found its bucket missing, and publishes a value. Answers whether
-/// it did.
-fn publish_late(early: Early<'_, u32>, value: u32) -> bool {
-    let Early { kept, reached: _ } = early;
+/// Fills a slot by a claim that found its bucket missing. Answers whether it did.
+fn publish_late(early: Early<'_, u32>, alloc: Global, value: u32) -> bool {
+    let Early { kept, reached } = early;
     let mut claim = kept.into_claim();
     if !claim.is_missing() {
         claim.give_up();
         return false;
     }
-    claim.look_again(claim.place());
-    publish_claimed(claim, value).1
+    let is_filled = claim.fill(alloc, reached, || value).is_ok();
+    claim.give_up();
+    is_filled
 }
 
 #[test]
@@ -219,7 +223,7 @@ fn an_early_claim_finds_its_bucket_later(rt: HostRuntime) -> Result<(), Fail> {
     let second = claim_early(&shared, table.take(&rt)?);
     let third = claim_early(&shared, table.take(&rt)?);
     let offered = third.offer(&rt.alloc(), 7);
-    let published = publish_late(second, 5);
+    let published = publish_late(second, rt.alloc(), 5);
     assert_same(
         &rt,
         (offered, published, look(&shared, 1), look(&shared, 2)),
@@ -236,7 +240,7 @@ fn publish_in_room(early: Early<'_, u32>, alloc: &Global, value: u32) -> bool {
         claim.give_up();
         return false;
     }
-    let thread = claim.place();
+    let thread = Thread::new(claim.id());
     let needs_none = match claim.room(alloc, thread) {
         Ok(block) => {
             let needs_none = block.is_none();
@@ -268,7 +272,7 @@ fn an_early_claim_makes_no_block_where_its_bucket_stands(rt: HostRuntime) -> Res
 fn make_and_release(early: Early<'_, u32>, alloc: &Global) -> [bool; 2] {
     let Early { kept, reached: _ } = early;
     let mut claim = kept.into_claim();
-    let thread = claim.place();
+    let thread = Thread::new(claim.id());
     if !claim.is_missing() {
         claim.give_up();
         return [false; 2];

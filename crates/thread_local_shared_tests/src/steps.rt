@@ -99,14 +99,8 @@ pub fn publish<T: Drop>(
     if claim.get().is_some() {
         return (claim.give_up(), false);
     }
-    let thread = claim.place();
-    match claim.room(&alloc, thread) {
-        Ok(block) => {
-            claim.publish_in(&alloc, thread, block, value, tenure.reached());
-            (claim.give_up(), true)
-        }
-        Err(_) => (claim.give_up(), false),
-    }
+    let is_set = claim.set(alloc, tenure.reached(), value).is_ok();
+    (claim.give_up(), is_set)
 }
 
 /// Publishes a value in a slot that is vacant, and answers whether it did.
@@ -119,7 +113,7 @@ pub fn publish_claimed<T: Drop>(claim: Claim<'_, T>, value: T) -> ((HeldId, Righ
     if claim.is_missing() || claim.get().is_some() {
         return (claim.give_up(), false);
     }
-    claim.publish(claim.place(), value);
+    claim.publish(Thread::new(claim.id()), value);
     (claim.give_up(), true)
 }
 

@@ -41,7 +41,7 @@ fn settled<T>(claim: &mut Claim<'_, T>, value: T) -> Option<Token<T>>
     ensures token { IfSome result (λ token.
         (token.sharing ≡ claim.old.sharing) × (token.id ≡ claim.old.id) × (token.value ≡ value)) }
 {
-    claim.publish(claim.place(), value);
+    claim.publish(Thread::new(claim.id()), value);
     claim.token()
 }
 

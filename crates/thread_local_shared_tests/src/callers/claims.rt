@@ -19,7 +19,7 @@ fn offered<T: Send + Drop>(claim: &mut Claim<'_, T>, value: T)
     ensures published { claim.old.learnt ≡ Vacant → claim.new.learnt ≡ Holding value }
 {
     if claim.get().is_none() {
-        claim.publish(claim.place(), value);
+        claim.publish(Thread::new(claim.id()), value);
     }
 }
 
@@ -56,7 +56,7 @@ fn ref_cell(claim: &mut Claim<'_, RefCell<String>>, value: RefCell<String>)
     offered(claim, value)
 }
 
-/// Looks, looks again where the bucket was missing, and gives the claim up.
+/// Looks, and gives the claim up.
 fn visit<T: Send>(
     bucket: &SharedBucket<T>,
     announcements: &Announcements,
@@ -72,11 +72,7 @@ fn visit<T: Send>(
     ensures table { (result.1.table ≡ right.table) × (result.0.mark.table ≡ right.table) }
     ensures id { (result.0.id ≡ held.id) × (result.1.id ≡ held.id) }
 {
-    let mut claim = Claim::look(bucket, announcements, thread, held, right);
-    if claim.is_missing() {
-        claim.look_again(thread);
-    }
-    claim.give_up()
+    Claim::look(bucket, announcements, thread, held, right).give_up()
 }
 
 /// What the look lent outlives the claim, and so does a token of it.
@@ -111,7 +107,8 @@ fn settled<T: Send>(
     requires slots { block.slots ≡ empty_slots (2 ^ bucket_of claim.old.id) }
     ensures { claim.new.learnt ≡ Holding value }
 {
-    claim.install(alloc, claim.place(), block, value, reached);
+    let thread = Thread::new(claim.id());
+    claim.publish_in(alloc, thread, Some(block), value, reached);
 }
 
 fn settled_number(
@@ -141,14 +138,7 @@ fn filled<T: Send + Drop>(
     requires reached { (reached.table ≡ claim.old.table) × (claim.old.id < reached.ids) }
     ensures { MatchBool result (claim.new.learnt ≡ Holding value) (claim.new.learnt ≡ Missing) }
 {
-    let thread = claim.place();
-    match claim.room(alloc, thread) {
-        Ok(block) => {
-            claim.publish_in(alloc, thread, block, value, reached);
-            true
-        }
-        Err(_) => false,
-    }
+    claim.set(*alloc, reached, value).is_ok()
 }
 
 /// Makes room for a value that never comes. A slot that was vacant stays so.
@@ -156,7 +146,7 @@ fn left_empty<T: Send>(claim: &mut Claim<'_, T>, alloc: &Global)
     requires empty { (claim.old.learnt ≡ Missing) ⊎ (claim.old.learnt ≡ Vacant) }
     ensures { claim.old.learnt ≡ Vacant → claim.new.learnt ≡ Vacant }
 {
-    let thread = claim.place();
+    let thread = Thread::new(claim.id());
     if let Ok(Some(block)) = claim.room(alloc, thread) {
         block.release(alloc, bucket_size(thread.bucket));
     }
