@@ -1,17 +1,17 @@
 -- A walk begins and moves on.
 use Rattle.std.proofs.Common.{◌≡◌, ℕ, ◌+◌, ◌^◌, ◌<◌, ◌≤◌, Bool, true, false, cond, eqb, List}
 use Rattle.std.proofs.Common.{Option, None, Some, IfSome, refl, ap, sym, ◌∙◌, subst, arith, add-one, pow_mono, ⊎_elim}
-use Rattle.std.specs.Prelude.{MatchBool}
 use Rattle.std.proofs.Math.Nat.{two-pow-succ}
 use Rattle.std.proofs.lemmas.Bool.{eqb-true, ne_eqb, cases_eq, cases_lt}
 use Rattle.thread_local_base.specs.Bits.{is_set, IsLowestSet, IsWordBut}
+use Rattle.thread_local_base.proofs.Word.{is_set-zero, same_bit}
 use Rattle.thread_local_shared_buckets.specs.declared.row.Row.{Row}
 use Rattle.thread_local_buckets.specs.declared.cursor.RawIter.{RawIter}
 use Rattle.thread_local_shared_buckets.specs.declared.steps.Own.{Own}
 use Rattle.thread_local_shared_buckets.specs.declared.steps.Walk.{Walk}
 use Rattle.thread_local_shared_buckets.specs.Positions.{resting, next_id, at_bucket, lies_in, OwnIsTold}
 use Rattle.thread_local_shared_buckets.specs.Positions.{IsAhead, IsSharedWalk, IsBehind, Skips}
-use Rattle.thread_local_shared_buckets.specs.AtHand.{IsRowOf, OwnIsAtHand, HasAll, AreLeft, IsWalk, LooksIn, GoesOn, Reaches}
+use Rattle.thread_local_shared_buckets.specs.AtHand.{IsRowOf, OwnIsAtHand, AreLeft, IsWalk, LooksIn, Comes}
 use Rattle.thread_local_shared_buckets.specs.Steps.{Leads}
 use Rattle.thread_local_shared_buckets.specs.TableView.{TableView}
 use Rattle.thread_local_ids.specs.TokenLists.{AllOf, NoneIn}
@@ -31,6 +31,15 @@ pub record TakesFirst (left bucket rest : ℕ) : Type 0 where
   pub some : bucket < 63 → is_set left bucket ≡ true
   pub others : IsWordBut rest left bucket false
 
+first_of_none : (left : ℕ) → left ≡ 0 → TakesFirst left 63 left
+first_of_none left none =
+    let unset : (b : ℕ) → is_set left b ≡ false = λ b. ap (λ (n : ℕ). is_set n b) none ∙ is_set-zero b in
+    record { in_table = omega arith; first = λ b below. unset b; some = λ low. absurd (omega arith); others = same_bit left 63 false (unset 63) }
+
+first_of_some : (left bucket rest : ℕ) → IsLowestSet left bucket → IsWordBut rest left bucket false → TakesFirst left bucket rest
+first_of_some left bucket rest lowest but =
+    record { in_table = (let low = lowest.within in omega arith); first = lowest.lower; some = λ _. lowest.set; others = but }
+
 -- those that are left then lie behind it
 left_behind : (left bucket rest b : ℕ) → TakesFirst left bucket rest → b < 64 → is_set rest b ≡ true → bucket < b
 left_behind left bucket rest b takes small set =
@@ -45,9 +54,43 @@ left_behind left bucket rest b takes small set =
 unset_before : (left bucket rest b : ℕ) → IsWordBut rest left bucket false → b < 64 → bucket < b → is_set rest b ≡ false → is_set left b ≡ false
 unset_before left bucket rest b but small above unset = sym (as_before rest left bucket b but small (λ e. absurd (omega arith))) ∙ unset
 
--- 2. A walk moves on, and begins.
-
 module _ {V : Type 0} where
+  -- 2. What a walk keeps while it looks in its bucket and moves on, one after the other.
+
+  pub comes_nowhere : (w : Walk V) → Comes w w
+  comes_nowhere w = record {
+    buckets = refl;
+    own = refl;
+    leads = leads_nowhere (resting w.raw);
+    told = refl;
+    skips = skips_nowhere w.buckets.now.sharing w.told w.raw;
+  }
+
+  pub comes_by_look : (w to : Walk V) → LooksIn w to → Comes w to
+  comes_by_look w to look = record {
+    buckets = look.buckets;
+    own = look.own;
+    leads = subst (λ (r : RawIter). Leads (resting w.raw) (resting r)) (sym look.raw) (leads_nowhere (resting w.raw));
+    told = look.told;
+    skips =
+        subst (λ (r : RawIter). AllOf w.buckets.now.sharing (λ p. Skips w.raw r p.id) w.told) (sym look.raw)
+        (skips_nowhere w.buckets.now.sharing w.told w.raw);
+  }
+
+  pub comes_then : (w met to : Walk V) → Comes w met → Comes met to → Comes w to
+  comes_then w met to first after = record {
+    buckets = after.buckets ∙ first.buckets;
+    own = after.own ∙ first.own;
+    leads = leads_then (resting w.raw) (resting met.raw) (resting to.raw) first.leads after.leads;
+    told = after.told ∙ first.told;
+    skips =
+        skips_then w.buckets.now.sharing w.told w.raw met.raw to.raw first.skips
+        (moved met.buckets.now.sharing w.buckets.now.sharing met.told w.told (λ p. Skips met.raw to.raw p.id)
+        (ap (λ (t : TableView). t.sharing) first.buckets) first.told after.skips);
+  }
+
+  -- 3. A walk moves on, and begins.
+
   none_kept : (w : Walk V) (own : Option (Own V)) → w.chunks ≡ 0 → IfSome own (OwnIsAtHand w)
   none_kept w None none = tt
   none_kept w (Some own) none = λ same seen. absurd (omega arith)
@@ -75,6 +118,13 @@ module _ {V : Type 0} where
       ⊎_elim (λ (inside : bucket < 63). are.behind bucket (omega arith) (takes.some inside)) (λ (past : 63 ≤ bucket). omega arith)
       (cases_lt bucket 63)
 
+  -- it has moved on to a later bucket
+  pub record GoesOn (w to : Walk V) : Type 0 where
+    pub walk : IsWalk to
+    pub passed : to.rest ≡ 0
+    pub further : w.raw.bucket < to.raw.bucket
+    pub comes : Comes w to
+
   -- the walk moves on
   abbrev pub further_on : Walk V → ℕ → ℕ → ℕ → Walk V
   further_on w bucket size rest = record w { raw = at_bucket w.raw bucket size; left = rest; row = None; chunks = 0 }
@@ -89,7 +139,7 @@ module _ {V : Type 0} where
       (λ apart. are.none_owed b (omega arith) (omega arith) (takes.first b below))
       (cases_eq w.raw.bucket b)
 
-  pub moves_on : (w : Walk V) (bucket size rest : ℕ) → IsWalk w → w.rest ≡ 0 → w.raw.bucket < 63
+  moves_on : (w : Walk V) (bucket size rest : ℕ) → IsWalk w → w.rest ≡ 0 → w.raw.bucket < 63
       → lies_in w.own w.raw.bucket ≡ false
       → size ≡ 2 ^ bucket → TakesFirst w.left bucket rest
       → AllOf w.buckets.now.sharing (λ p. IsBehind w.raw p.id) w.told
@@ -121,15 +171,40 @@ module _ {V : Type 0} where
           left = left_later w.buckets.now.sharing w.told w.own w.raw.bucket w.left bucket rest walk.left further takes;
         };
         passed = none;
-        buckets = refl;
-        own = refl;
-        leads = leads_further w.raw bucket low within further in_table;
         further = further;
-        told = refl;
-        skips =
-            skips w (at_bucket w.raw bucket size) further refl behind
-            (λ b above below. walk.left.none_told b above (omega arith) (takes.first b below));
+        comes = record {
+          buckets = refl;
+          own = refl;
+          leads = leads_further w.raw bucket low within further in_table;
+          told = refl;
+          skips =
+              skips w (at_bucket w.raw bucket size) further refl behind
+              (λ b above below. walk.left.none_told b above (omega arith) (takes.first b below));
+        };
       }
+
+  -- the walk once it has taken a bucket out of those that are left, or none
+  pub record Takes (w met : Walk V) (bucket : ℕ) : Type 0 where
+    pub rest : ℕ
+    pub is : met ≡ record w { left = rest }
+    pub takes : TakesFirst w.left bucket rest
+
+  pub takes_none : (w met : Walk V) (bucket : ℕ) → w.left ≡ 0 → met ≡ w → bucket ≡ 63 → Takes w met bucket
+  takes_none w met bucket none is past =
+      record { rest = w.left; is = is; takes = subst (λ (b : ℕ). TakesFirst w.left b w.left) (sym past) (first_of_none w.left none) }
+
+  pub takes_one : (w met : Walk V) (bucket first rest : ℕ) → IsLowestSet w.left first → IsWordBut rest w.left first false
+      → met ≡ record w { left = rest } → bucket ≡ first
+      → Takes w met bucket
+  takes_one w met bucket first rest lowest but is one =
+      record { rest = rest; is = is; takes = subst (λ (b : ℕ). TakesFirst w.left b rest) (sym one) (first_of_some w.left first rest lowest but) }
+
+  pub moves_to : (w met : Walk V) (bucket size : ℕ) → Takes w met bucket → IsWalk w → w.rest ≡ 0 → w.raw.bucket < 63
+      → lies_in w.own w.raw.bucket ≡ false → size ≡ 2 ^ bucket → AllOf w.buckets.now.sharing (λ p. IsBehind w.raw p.id) w.told
+      → GoesOn w (record met { raw = at_bucket met.raw bucket size; row = None; chunks = 0 })
+  moves_to w met bucket size takes walk none low elsewhere is behind =
+      subst (λ (m : Walk V). GoesOn w (record m { raw = at_bucket m.raw bucket size; row = None; chunks = 0 })) (sym takes.is)
+      (moves_on w bucket size takes.rest walk none low elsewhere is takes.takes behind)
 
   begins_shared : (raw : RawIter) (own : Option (Own V)) → raw ≡ record { yielded = 0; bucket = 0; bucket_size = 1; index = 0 }
       → IsSharedWalk raw own
@@ -167,7 +242,13 @@ module _ {V : Type 0} where
         (sym is) left;
   }
 
-  -- the word of a walk that begins
+  -- the word of a walk that begins has each announced bucket, and that of the own value
+  pub record HasAll (own : Option (Own V)) (announced word : ℕ) : Type 0 where
+    pub first : is_set word 0 ≡ true
+    pub none_past : is_set word 63 ≡ false
+    pub has_announced : (bucket : ℕ) → bucket < 63 → is_set word bucket ≡ false → is_set announced bucket ≡ false
+    pub has_own : (bucket : ℕ) → bucket < 63 → is_set word bucket ≡ false → lies_in own bucket ≡ false
+
   pub has_own : (own : Own V) (announced word : ℕ) → is_set announced 0 ≡ true → is_set announced 63 ≡ false
       → IsWordBut word announced own.thread.bucket true
       → HasAll (Some own) announced word
@@ -191,7 +272,7 @@ module _ {V : Type 0} where
             (λ f. f);
       }
 
-  pub has_announced : (announced : ℕ) → is_set announced 0 ≡ true → is_set announced 63 ≡ false → HasAll {V = V} None announced announced
+  pub has_announced : (announced : ℕ) → is_set announced 0 ≡ true → is_set announced 63 ≡ false → HasAll None announced announced
   has_announced announced first none_past =
       record { first = first; none_past = none_past; has_announced = λ bucket small unset. unset; has_own = λ bucket small unset. refl }
 
@@ -215,52 +296,3 @@ module _ {V : Type 0} where
         none_told = λ bucket some low unset. none bucket low (all.has_announced bucket low (unset_before word 0 left bucket but (omega arith) some unset));
         none_owed = λ bucket some low unset. all.has_own bucket low (unset_before word 0 left bucket but (omega arith) some unset);
       }
-
-  -- 3. What a walk keeps while it looks in its bucket and moves on, one after the other.
-
-  pub record Comes (w to : Walk V) : Type 0 where
-    pub buckets : to.buckets.now ≡ w.buckets.now
-    pub own : to.own ≡ w.own
-    pub leads : Leads (resting w.raw) (resting to.raw)
-    pub told : to.told ≡ w.told
-    pub skips : AllOf w.buckets.now.sharing (λ p. Skips w.raw to.raw p.id) w.told
-
-  pub comes_nowhere : (w : Walk V) → Comes w w
-  comes_nowhere w = record {
-    buckets = refl;
-    own = refl;
-    leads = leads_nowhere (resting w.raw);
-    told = refl;
-    skips = skips_nowhere w.buckets.now.sharing w.told w.raw;
-  }
-
-  pub comes_by_look : (w to : Walk V) → LooksIn w to → Comes w to
-  comes_by_look w to look = record {
-    buckets = look.buckets;
-    own = look.own;
-    leads = subst (λ (r : RawIter). Leads (resting w.raw) (resting r)) (sym look.raw) (leads_nowhere (resting w.raw));
-    told = look.told;
-    skips =
-        subst (λ (r : RawIter). AllOf w.buckets.now.sharing (λ p. Skips w.raw r p.id) w.told) (sym look.raw)
-        (skips_nowhere w.buckets.now.sharing w.told w.raw);
-  }
-
-  pub comes_by_move : (w to : Walk V) → GoesOn w to → Comes w to
-  comes_by_move w to on = record { buckets = on.buckets; own = on.own; leads = on.leads; told = on.told; skips = on.skips }
-
-  pub comes_then : (w met to : Walk V) → Comes w met → Comes met to → Comes w to
-  comes_then w met to first after = record {
-    buckets = after.buckets ∙ first.buckets;
-    own = after.own ∙ first.own;
-    leads = leads_then (resting w.raw) (resting met.raw) (resting to.raw) first.leads after.leads;
-    told = after.told ∙ first.told;
-    skips =
-        skips_then w.buckets.now.sharing w.told w.raw met.raw to.raw first.skips
-        (moved met.buckets.now.sharing w.buckets.now.sharing met.told w.told (λ p. Skips met.raw to.raw p.id)
-        (ap (λ (t : TableView). t.sharing) first.buckets) first.told after.skips);
-  }
-
-  pub reaches : (w to : Walk V) (found : Bool) → Comes w to → IsWalk to → MatchBool found (0 < to.rest) (63 ≤ to.raw.bucket)
-      → Reaches w found to
-  reaches w to found come walk by =
-      record { walk = walk; buckets = come.buckets; own = come.own; leads = come.leads; told = come.told; skips = come.skips; by = by }

@@ -1,7 +1,7 @@
 -- Tests, bits and chunks.
 use Rattle.std.proofs.Common.{◌≡◌, ◌≢◌, ℕ, ◌+◌, ◌/◌, ◌%◌, ◌<◌, ◌≤◌, ◌⊎◌, Bool, true, false, cond, eqb}
 use Rattle.std.proofs.Common.{refl, ap, sym, ◌∙◌, subst, arith, ⊎_elim, inl, inr}
-use Rattle.std.proofs.Common.{MatchBool, Option, None, Some, IfSome}
+use Rattle.std.proofs.Common.{Option, None, Some, IfSome}
 use Rattle.std.proofs.lemmas.Bool.{cond_both, eqb-true, eqb-false, eq-eqb, ne_eqb, cases_lt, cases_eq}
 use Rattle.thread_local_base.specs.Bits.{is_set, IsLowestSet, IsWordBut}
 use Rattle.thread_local_base.proofs.Word.{is_set-zero}
@@ -70,13 +70,6 @@ was_set word old one bit but small set =
 pub by_test : {X : Type 0} (u : Bool) → (u ≡ true → X) → (u ≡ false → X) → X
 by_test true t f = t refl
 by_test false t f = f refl
-
--- by what a walk's search answers
-pub ended : (answer : Bool) (rest bucket : ℕ) → answer ≡ false → MatchBool answer (0 < rest) (63 ≤ bucket) → 63 ≤ bucket
-ended answer rest bucket is by = subst (λ (u : Bool). MatchBool u (0 < rest) (63 ≤ bucket)) is by
-
-pub found : (answer : Bool) (rest bucket : ℕ) → answer ≡ true → MatchBool answer (0 < rest) (63 ≤ bucket) → 0 < rest
-found answer rest bucket is by = subst (λ (u : Bool). MatchBool u (0 < rest) (63 ≤ bucket)) is by
 
 -- no own slot lies in the chunks so far, if none lies in this one
 pub none_further : (own : Option ℕ) (from chunk : ℕ) → ((k : ℕ) → from ≤ k → k < chunk → LiesOutside own k) → LiesOutside own chunk

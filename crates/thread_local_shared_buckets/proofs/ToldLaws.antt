@@ -1,7 +1,7 @@
 -- What a walk does about the tokens that it was made with.
 use Rattle.std.proofs.Common.{◌≡◌, ◌≢◌, ℕ, suc, ◌+◌, ◌-◌, ◌*◌, ◌/◌, ◌^◌, ◌<◌, ◌≤◌, true, false, List, Option, None, Some, IfSome}
 use Rattle.std.proofs.Common.{refl, ap, sym, ◌∙◌, subst, arith, ⊎_elim, inl, inr, pow_mono}
-use Rattle.std.specs.Prelude.{MatchOption, slice_index_or, All}
+use Rattle.std.specs.Prelude.{MatchOption, slice_index_or}
 use Rattle.std.proofs.lemmas.Bool.{cases_lt, cases_eq}
 use Rattle.thread_local_base.specs.Place.{id_at, bucket_of, index_of}
 use Rattle.thread_local_base.specs.Cursor.{cursor_id}
@@ -182,19 +182,6 @@ module _ {V : Type 0} where
       skip_then from met to (slice_index_or tokens k d).id (first named k d near same) (after named k d near same)
 
   -- 5. A whole call.
-
-  meet_none : (from to : RawIter) (p : TokenView V) → 63 ≤ to.bucket → p.id < 2 ^ 63 - 1 → Skips from to p.id
-      → Meets (resting from) None (resting to) p
-  meet_none from to p end in_range (inl low) = let at = resting-id from in omega arith
-  meet_none from to p end in_range (inr high) =
-      let power : 2 ^ 63 ≤ 2 ^ to.bucket = pow_mono end in
-      absurd (omega arith)
-
-  pub meets_none : (sharing : Option ℕ) (tokens : List (TokenView V)) (from to : RawIter) → 63 ≤ to.bucket
-      → All (λ p. p.id < 2 ^ 63 - 1) tokens → AllOf sharing (λ p. Skips from to p.id) tokens
-      → AllOf sharing (Meets (resting from) None (resting to)) tokens
-  meets_none sharing tokens from to end in_range all = λ named k d near same.
-      meet_none from to (slice_index_or tokens k d) end (in_range k d near) (all named k d near same)
 
   meet_some : (from met to : RawIter) (x : Item V) (p : TokenView V) → Skips from met p.id → Stops met to p.id
       → cursor_id (resting to) ≡ suc x.0.id → x.0.value ≡ x.1.now → (p.id ≡ x.0.id → p.value ≡ x.0.value)

@@ -1,20 +1,20 @@
 -- The moves of the code keep the invariant of a walk, and do what the contract of `next` says.
-use Rattle.std.proofs.Common.{◌≡◌, ℕ, suc, ◌^◌, ◌<◌, ◌≤◌, Bool, true, false, cond, inl, inr, ⊎_elim, Option}
-use Rattle.std.proofs.Common.{None, Some, IfSome, option_map, IsTrue, refl, ap, sym, ◌∙◌, subst, arith, pow_mono}
+use Rattle.std.proofs.Common.{◌≡◌, ℕ, suc, ◌^◌, ◌<◌, ◌≤◌, true, false, inl, inr, ⊎_elim, Option}
+use Rattle.std.proofs.Common.{None, Some, IfSome, option_map, refl, ap, sym, ◌∙◌, subst, arith, pow_mono}
 use Rattle.std.proofs.Math.Nat.{two-pow-succ}
-use Rattle.std.proofs.lemmas.Bool.{eqb-true, eqb-false, cases_eq, cases_lt, le-ltb}
+use Rattle.std.proofs.lemmas.Bool.{eqb-true, eqb-false, cases_eq, cases_lt}
 use Rattle.thread_local_base.specs.Place.{id_at}
-use Rattle.thread_local_base.specs.Cursor.{Cursor, cursor_id, is_complete, after_look, CursorFits}
+use Rattle.thread_local_base.specs.Cursor.{Cursor, cursor_id, after_look, CursorFits}
 use Rattle.thread_local_base.proofs.CursorLaws.{after_look-fits, bounded}
 use Rattle.thread_local_buckets.specs.declared.cursor.RawIter.{RawIter}
 use Rattle.thread_local_shared_buckets.specs.declared.steps.Own.{Own}
 use Rattle.thread_local_shared_buckets.specs.Steps.{Leads}
-use Rattle.thread_local_shared_buckets.specs.Walks.{Owed, YieldsOwn, Yields, Ends}
+use Rattle.thread_local_shared_buckets.specs.Walks.{Owed, YieldsOwn, Yields}
 use Rattle.thread_local_ids.specs.declared.witness.Witness.{Witness}
-use Rattle.thread_local_shared_buckets.specs.Positions.{resting, loading, past, next_id, at_bucket, owed, lies_in, Item, OwnIsTold}
+use Rattle.thread_local_shared_buckets.specs.Positions.{resting, past, next_id, at_bucket, owed, lies_in, Item, OwnIsTold}
 use Rattle.thread_local_shared_buckets.specs.Positions.{IsToldAt, IsAhead, IsSharedWalk}
 use Rattle.thread_local_shared_buckets.proofs.StepLaws.{looking_at, leads_then, leads_on}
-use Rattle.thread_local_shared_buckets.proofs.MoveLaws.{resting-id, resting-first, resting-fits, rests_behind, leads_in}
+use Rattle.thread_local_shared_buckets.proofs.MoveLaws.{resting-id, resting-fits, rests_behind, leads_in}
 
 -- a place in a later bucket has a greater id
 pub later_bucket : (a b i j : ℕ) → a < b → i < 2 ^ a → id_at a i < id_at b j
@@ -146,28 +146,6 @@ module _ {V : Type 0} where
         in_range = gives.in_range;
         passed = gives.passed;
         own_given = gives.own_given;
-      }
-
-  no_own : (raw : RawIter) (own : Option (Own V)) → 63 ≤ raw.bucket → IfSome own (IsAhead raw) → own ≡ None
-  no_own raw None end ahead = refl
-  no_own raw (Some own) end ahead = let low = own.thread.in_table in let up = ahead.bucket in absurd (omega arith)
-
-  -- past the last bucket nothing is owed
-  pub ends : (from : Cursor) (raw : RawIter) (own : Option (Own V)) → IsSharedWalk raw own
-      → 63 ≤ raw.bucket → Leads from (resting raw)
-      → Ends from (option_map owed own) (resting raw) (option_map owed own)
-  ends from raw own walk end leads =
-      let none : option_map owed own ≡ None = ap (option_map owed) (no_own raw own end walk.own_ahead) in
-      let low = walk.in_table in
-      let first : resting raw ≡ loading raw = resting-first raw (walk.complete (omega arith)) in
-      record {
-        leads = leads;
-        complete =
-            (let past_last = le-ltb raw.bucket 63 end in
-            subst (λ (c : Cursor). IsTrue (is_complete c)) (sym first)
-            (ap (λ (low : Bool). cond low false true) past_last));
-        none_owed = none;
-        none_left = none;
       }
 
   -- 4. What the code gives.

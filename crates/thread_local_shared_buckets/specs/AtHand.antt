@@ -111,13 +111,6 @@ module _ {V : Type 0} where
       (i : ℕ) → i < 2 ^ w.raw.bucket → id ≡ id_at w.raw.bucket i → w.raw.index ≤ i → i < w.chunks * 64
       → ((w.chunks - 1) * 64 ≤ i) × (is_set w.rest (i - (w.chunks - 1) * 64) ≡ true)
 
-  -- the word has each announced bucket, and that of the own value
-  pub record HasAll (own : Option (Own V)) (announced word : ℕ) : Type 0 where
-    pub first : is_set word 0 ≡ true
-    pub none_past : is_set word 63 ≡ false
-    pub has_announced : (bucket : ℕ) → bucket < 63 → is_set word bucket ≡ false → is_set announced bucket ≡ false
-    pub has_own : (bucket : ℕ) → bucket < 63 → is_set word bucket ≡ false → lies_in own bucket ≡ false
-
   -- The buckets that are left to walk, a bit each: all lie behind the walk's bucket. One behind it that isn't
   -- left has neither the slot of one of these tokens nor the own value.
   pub record AreLeft (sharing : Option ℕ) (told : List (TokenView V)) (own : Option (Own V)) (from left : ℕ) : Type 0 where
@@ -149,23 +142,16 @@ module _ {V : Type 0} where
     pub told : to.told ≡ w.told
     pub behind : to.rest ≡ 0 → AllOf to.buckets.now.sharing (λ p. IsBehind to.raw p.id) to.told
 
-  -- the walk has moved on to a later bucket
-  pub record GoesOn (w to : Walk V) : Type 0 where
-    pub walk : IsWalk to
-    pub passed : to.rest ≡ 0
+  -- steps that give nothing led a walk here
+  pub record Comes (w to : Walk V) : Type 0 where
     pub buckets : to.buckets.now ≡ w.buckets.now
     pub own : to.own ≡ w.own
     pub leads : Leads (resting w.raw) (resting to.raw)
-    pub further : w.raw.bucket < to.raw.bucket
     pub told : to.told ≡ w.told
     pub skips : AllOf w.buckets.now.sharing (λ p. Skips w.raw to.raw p.id) w.told
 
   -- the walk has looked on until a flag is at hand, or to the end
   pub record Reaches (w : Walk V) (found : Bool) (to : Walk V) : Type 0 where
     pub walk : IsWalk to
-    pub buckets : to.buckets.now ≡ w.buckets.now
-    pub own : to.own ≡ w.own
-    pub leads : Leads (resting w.raw) (resting to.raw)
-    pub told : to.told ≡ w.told
-    pub skips : AllOf w.buckets.now.sharing (λ p. Skips w.raw to.raw p.id) w.told
+    pub comes : Comes w to
     pub by : MatchBool found (0 < to.rest) (63 ≤ to.raw.bucket)

@@ -7,7 +7,7 @@ use denote.Ref.{Bor}
 use Rattle.thread_local_ids.specs.declared.witness.Witness.{Witness}
 use Rattle.thread_local_buckets.specs.declared.cursor.RawIter.{RawIter}
 use Rattle.thread_local_shared_buckets.specs.declared.steps.Own.{Own}
-use Rattle.thread_local_shared_buckets.specs.Walks.{Owed, Yields, Ends}
+use Rattle.thread_local_shared_buckets.specs.Walks.{Owed, Yields}
 
 -- the cursor at the walk's place, before a load of the bucket's pointer
 abbrev pub loading : RawIter → Cursor
@@ -99,7 +99,3 @@ module _ {V : Type 0} where
   -- is still to come
   abbrev pub YieldsFrom : RawIter → Option (Own V) → V → RawIter → Option (Own V) → Type 0
   YieldsFrom raw own v to left = Yields (resting raw) (option_map owed own) v (resting to) (option_map owed left)
-
-  -- a call that ends the walk
-  abbrev pub EndsFrom : RawIter → Option (Own V) → RawIter → Option (Own V) → Type 0
-  EndsFrom raw own to left = Ends (resting raw) (option_map owed own) (resting to) (option_map owed left)

@@ -6,9 +6,10 @@ ghost use Rattle.thread_local_base.specs.Cursor.{cursor_id};
 ghost use Rattle.thread_local_shared_buckets.specs.Positions.{owed, OwnIsTold};
 ghost use Rattle.thread_local_shared_buckets.specs.Walks.{WalkView, fresh, fresh_with, Goes, CanGo, ids_left};
 
+use crate::announcements::load_announced;
 use crate::shared::Shared;
 use crate::shown::Shown;
-use crate::steps::{Own, Walk, with_own_bucket};
+use crate::steps::{Own, Walk};
 use std::fmt;
 use std::iter::FusedIterator;
 use std::marker::Model;
@@ -68,15 +69,24 @@ impl<'a, T> Iter<'a, T> {
             (is_some shown.entry)
             told }
     {
-        // The walk begins in the first bucket, and has those behind it left.
-        let left = without_first(with_own_bucket(buckets.announced(told.list()), &own));
+        let pointers = &buckets.parts().pointers;
+        let announced = load_announced(
+            &pointers.announced,
+            &pointers.pointers.pointers,
+            told.list(),
+        );
+        let all = match &own {
+            Some(own) => announced | 1 << own.thread.bucket,
+            None => announced,
+        };
         Iter {
             walk: Walk {
                 buckets,
                 raw: RawIter::new(),
                 own,
                 told,
-                left,
+                // The walk begins in the first bucket, and has those behind it left.
+                left: without_first(all),
                 row: None,
                 seen: None,
                 chunks: 0,
@@ -109,7 +119,13 @@ impl<'a, T> Iter<'a, T> {
         if let Some(shown) = &self.shown {
             shown.tell();
         }
-        self.walk.advance()
+        if self.walk.rest == 0 && !self.walk.reach() {
+            self.walk.told.in_range();
+            return None;
+        }
+        let found = self.walk.pass();
+        self.walk.told.list().agrees(&found.0);
+        Some(found)
     }
 
     /// The last id that the walk has passed.

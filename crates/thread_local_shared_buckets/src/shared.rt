@@ -1,12 +1,10 @@
 //! A table's buckets while threads share them through a `&`. By value or through a `&mut` they are
 //! an owner's `Buckets` again.
-ghost use Rattle.std.specs.Prelude.{◌≡◌, ◌≢◌, ◌+◌, ◌-◌, ◌*◌, ◌^◌, ◌<◌, ◌≤◌, ℕ, max, true, false, Option, IsSome};
-ghost use Rattle.thread_local_base.specs.Bits.{is_set};
+ghost use Rattle.std.specs.Prelude.{◌≡◌, ◌≢◌, ◌+◌, ◌-◌, ◌*◌, ◌^◌, ◌<◌, ◌≤◌, ℕ, max, true, Option, IsSome};
 ghost use Rattle.thread_local_base.specs.Learnt.{Unknown, Missing, Finds};
 ghost use Rattle.thread_local_base.specs.Owned.{IsOwned, AreOfFirstBuckets};
 ghost use Rattle.thread_local_base.specs.Place.{bucket_of, id_at};
 ghost use Rattle.thread_local_base.specs.Judged.{Judged};
-ghost use Rattle.thread_local_ids.specs.TokenLists.{NoneIn};
 ghost use Rattle.thread_local_shared_buckets.specs.Known.{HasLooked};
 ghost use Rattle.thread_local_shared_buckets.specs.Grown.{only_reserved};
 ghost use Rattle.thread_local_shared_buckets.specs.TableView.{TableView, table_view_coded, IsBucketOf};
@@ -18,7 +16,7 @@ use crate::{Claim, SharedBucket};
 use std::marker::{Move, Owns, PhantomData};
 use thread_local_base::{Thread, bucket_size};
 use thread_local_buckets::{BucketPointers, Buckets, take_first};
-use thread_local_ids::{Book, HeldId, Reached, Right, Token, TokenList, Told};
+use thread_local_ids::{Book, HeldId, Reached, Right, Token, Told};
 
 mod lends;
 
@@ -134,7 +132,7 @@ impl<T> Shared<T> {
 
     /// The same memory as `SharedParts`: what an owner sees as a `BucketPointer` is a
     /// `SharedBucket` there. The two structs have fields of the same layout in the same order.
-    fn parts(&self) -> &SharedParts<T>
+    pub(crate) fn parts(&self) -> &SharedParts<T>
         ensures { result.now ≡ self.now }
     {
         unsafe { &*(self as *const Shared<T> as *const SharedParts<T>) }
@@ -146,20 +144,6 @@ impl<T> Shared<T> {
         ensures { IsBucketOf self.now bucket result.now }
     {
         &self.parts().pointers.pointers.pointers[bucket]
-    }
-
-    /// The announced buckets, a bit each: one atomic load. Each bucket with the slot of a token that the
-    /// list has is among them.
-    pub(crate) fn announced(&self, told: &TokenList<T>) -> u64
-        ensures first { is_set result 0 ≡ true }
-        ensures none_past { is_set result 63 ≡ false }
-        ensures told { (bucket : ℕ)
-            → bucket < 63
-            → is_set result bucket ≡ false
-            → NoneIn self.now.sharing bucket told.now.tokens }
-    {
-        let pointers = &self.parts().pointers;
-        load_announced(&pointers.announced, &pointers.pointers.pointers, told)
     }
 
     /// Claims the slot of a held id, for as long as the buckets are borrowed: one atomic load of
@@ -211,7 +195,13 @@ impl<T> Shared<T> {
         let mut reached = self.bucket(0).none_reached();
         // The reserved buckets stand. They are the first ones, so the number of their slots is the
         // word that has their bits.
-        let mut left = self.announced(Told::new().list()) & !(slots as u64);
+        let pointers = &self.parts().pointers;
+        let announced = load_announced(
+            &pointers.announced,
+            &pointers.pointers.pointers,
+            Told::new().list(),
+        );
+        let mut left = announced & !(slots as u64);
         'buckets: while left != 0 {
             let bucket = take_first(&mut left);
             if let Some(shown) = self.bucket(bucket).reached() {

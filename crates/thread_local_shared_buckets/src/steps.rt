@@ -1,14 +1,13 @@
 //! One call of a walk: it gives the value of the lowest flag at hand. Where no flag is at hand, it
 //! loads the next words of flags first, until one has a flag that is set.
-ghost use Rattle.std.specs.Prelude.{◌≡◌, ◌≢◌, ◌+◌, ◌-◌, ◌*◌, ◌/◌, ◌%◌, ◌^◌, ◌<◌, ◌≤◌, ℕ, true, false, None, IfSome, MatchOption, option_map};
+ghost use Rattle.std.specs.Prelude.{◌≡◌, ◌+◌, ◌-◌, ◌*◌, ◌/◌, ◌%◌, ◌^◌, ◌<◌, true, false, None, IfSome};
 ghost use Rattle.thread_local_base.specs.Judged.{Shareable};
-ghost use Rattle.thread_local_base.specs.Bits.{is_set, IsWordBut};
+ghost use Rattle.thread_local_base.specs.Bits.{IsWordBut};
 ghost use Rattle.thread_local_ids.specs.TokenLists.{AllOf};
-ghost use Rattle.thread_local_shared_buckets.specs.Walks.{Meets};
-ghost use Rattle.thread_local_shared_buckets.specs.Positions.{lies_in, is_at, own_index, IsToldAt};
-ghost use Rattle.thread_local_shared_buckets.specs.Positions.{YieldsFrom, EndsFrom, resting, Stops, IsBehind};
+ghost use Rattle.thread_local_shared_buckets.specs.Positions.{is_at, own_index, IsToldAt};
+ghost use Rattle.thread_local_shared_buckets.specs.Positions.{YieldsFrom, Stops};
 ghost use Rattle.thread_local_shared_buckets.specs.AtHand.{LiesOutside, IsSetIn, IsGivenBy, HasLookedOn, FindsTokens};
-ghost use Rattle.thread_local_shared_buckets.specs.AtHand.{HasAll, IsWalk, LooksIn, GoesOn, Reaches};
+ghost use Rattle.thread_local_shared_buckets.specs.AtHand.{IsWalk, LooksIn, Reaches};
 
 use crate::shared::Shared;
 use crate::{Row, Seen};
@@ -41,17 +40,6 @@ fn own_index<T>(own: &Option<Own<'_, T>>, bucket: usize) -> Option<usize>
     }
 }
 
-/// Whether the own value lies in this slot of a bucket.
-#[inline]
-fn is_at<T>(own: &Option<Own<'_, T>>, bucket: usize, index: usize) -> bool
-    ensures { result ≡ is_at own.now bucket index }
-{
-    match own {
-        Some(own) => own.thread.bucket == bucket && own.thread.index == index,
-        None => false,
-    }
-}
-
 /// The value of a slot: the own value, if it lies there, and else what was seen with this bit.
 #[inline]
 fn take<'a, T>(
@@ -69,7 +57,11 @@ fn take<'a, T>(
     ensures other { is_at own.old bucket index ≡ false
         → (own.new ≡ own.old) × IfSome seen.now (IsGivenBy bit result) }
 {
-    if is_at(own, bucket, index) {
+    let here = match own {
+        Some(own) => own.thread.bucket == bucket && own.thread.index == index,
+        None => false,
+    };
+    if here {
         match own.take() {
             Some(own) => (own.witness, own.value),
             None => unreachable!(),
@@ -136,34 +128,6 @@ fn look_on<'a, T>(
     }
 }
 
-/// The announced buckets, with that of the own value.
-#[inline]
-pub(crate) fn with_own_bucket<T>(announced: u64, own: &Option<Own<'_, T>>) -> u64
-    requires first { is_set announced 0 ≡ true }
-    requires none_past { is_set announced 63 ≡ false }
-    ensures { HasAll own.now announced result }
-{
-    match own {
-        Some(own) => announced | 1 << own.thread.bucket,
-        None => announced,
-    }
-}
-
-/// Takes the next bucket out of those that are left, or answers the number behind the last bucket.
-#[inline]
-fn take_next(left: &mut u64) -> usize
-    requires none_past { is_set left.old 63 ≡ false }
-    ensures in_table { result ≤ 63 }
-    ensures first { (bucket : ℕ) → bucket < result → is_set left.old bucket ≡ false }
-    ensures some { result < 63 → is_set left.old result ≡ true }
-    ensures rest { IsWordBut left.new left.old result false }
-{
-    if *left == 0 {
-        return BUCKETS;
-    }
-    take_first(left)
-}
-
 /// Where a walk is, and what it has at hand there.
 #[derive(Drop)]
 pub(crate) struct Walk<'a, T> {
@@ -191,7 +155,7 @@ pub(crate) struct Walk<'a, T> {
 impl<'a, T> Walk<'a, T> {
     /// Gives the value of the lowest flag at hand.
     #[inline]
-    fn pass(&mut self) -> (Witness<T>, &'a T)
+    pub(crate) fn pass(&mut self) -> (Witness<T>, &'a T)
         requires walk { IsWalk self.old }
         requires some { 0 < self.old.rest }
         ensures walk { IsWalk self.new }
@@ -239,30 +203,10 @@ impl<'a, T> Walk<'a, T> {
         self.rest = rest;
     }
 
-    /// Moves on to the next bucket that is left, or past the last where none is.
-    #[inline]
-    fn go_on(&mut self)
-        requires walk { IsWalk self.old }
-        requires passed { self.old.rest ≡ 0 }
-        requires in_table { self.old.raw.bucket < 63 }
-        requires elsewhere { lies_in self.old.own self.old.raw.bucket ≡ false }
-        requires behind { AllOf
-            self.old.buckets.now.sharing
-            (λ p. IsBehind self.old.raw p.id)
-            self.old.told }
-        ensures { GoesOn self.old self.new }
-    {
-        let bucket = take_next(&mut self.left);
-        self.raw.bucket = bucket;
-        self.raw.bucket_size = bucket_size(bucket);
-        self.raw.index = 0;
-        self.row = None;
-        self.chunks = 0;
-    }
-
-    /// Looks on until a flag is at hand, in this bucket or a later one. Answers whether one is.
+    /// Looks on until a flag is at hand, in this bucket or a later one that is left. Answers whether
+    /// one is. Where none is left, the walk is past the last bucket then.
     #[inline(always)]
-    fn reach(&mut self) -> bool
+    pub(crate) fn reach(&mut self) -> bool
         requires shareable { Shareable T.row }
         requires walk { IsWalk self.old }
         requires passed { self.old.rest ≡ 0 }
@@ -274,41 +218,21 @@ impl<'a, T> Walk<'a, T> {
         self.look_in();
         // A bucket that it comes to has no row at hand yet, so here the compiler drops that test.
         while self.rest == 0 {
-            self.go_on();
-            if self.raw.bucket == BUCKETS {
+            let bucket = if self.left == 0 {
+                BUCKETS
+            } else {
+                take_first(&mut self.left)
+            };
+            self.raw.bucket = bucket;
+            self.raw.bucket_size = bucket_size(bucket);
+            self.raw.index = 0;
+            self.row = None;
+            self.chunks = 0;
+            if bucket == BUCKETS {
                 return false;
             }
             self.look_in();
         }
         true
-    }
-
-    /// What the walk gives next.
-    #[inline]
-    pub(crate) fn advance(&mut self) -> Option<(Witness<T>, &'a T)>
-        requires shareable { Shareable T.row }
-        requires walk { IsWalk self.old }
-        ensures walk { IsWalk self.new }
-        ensures sharing { self.new.buckets.now ≡ self.old.buckets.now }
-        ensures goes { MatchOption result
-            (EndsFrom self.old.raw self.old.own self.new.raw self.new.own)
-            (λ x. YieldsFrom self.old.raw self.old.own x.1.now self.new.raw self.new.own) }
-        ensures told { IfSome result (IsToldAt self.old.buckets.now.sharing self.new.raw) }
-        ensures same { self.new.told ≡ self.old.told }
-        ensures meets { AllOf
-            self.old.buckets.now.sharing
-            (Meets
-            (resting self.old.raw)
-            (option_map (λ found. found.1) result)
-            (resting self.new.raw))
-            self.old.told }
-    {
-        if self.rest == 0 && !self.reach() {
-            self.told.in_range();
-            return None;
-        }
-        let found = self.pass();
-        self.told.list().agrees(&found.0);
-        Some(found)
     }
 }

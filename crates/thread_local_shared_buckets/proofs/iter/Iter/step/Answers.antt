@@ -1,72 +1,73 @@
--- The search for these takes seconds.
-use Rattle.std.proofs.Common.{◌≡◌, suc, Bool, Option, None, Some, option_map, is_some, refl, sym, ap, ◌∙◌, subst, ⊎_elim}
-use Rattle.std.specs.Prelude.{MatchOption, IfSome, true}
-use Rattle.std.proofs.lemmas.Bool.{false≢true}
-use denote.Ref.{Bor}
-use denote.Param.{param}
-use Rattle.thread_local_base.specs.Cursor.{cursor_id}
+use Rattle.std.proofs.Common.{◌≡◌, ◌∙◌, ℕ, Bool, List, Option, Some, is_some, option_map, refl, ap, sym, subst}
 use Rattle.thread_local_ids.specs.TokenLists.{AllOf}
-use Rattle.thread_local_ids.specs.declared.witness.Witness.{Witness}
-use Rattle.thread_local_base.specs.Judged.{Shareable}
-use Rattle.thread_local_shared_buckets.specs.Positions.{resting, owed, IsToldAt}
-use Rattle.thread_local_shared_buckets.specs.Walks.{WalkView, Goes, Ends, Yields, Meets, CanGo}
+use Rattle.thread_local_ids.specs.Views.{TokenView}
+use Rattle.thread_local_shared_buckets.specs.TableView.{TableView}
+use Rattle.thread_local_shared_buckets.specs.declared.iter.Iter.TheInside.{Inside}
+use Rattle.thread_local_shared_buckets.specs.declared.steps.Own.{Own}
 use Rattle.thread_local_shared_buckets.specs.declared.steps.Walk.{Walk}
+use Rattle.thread_local_shared_buckets.specs.AtHand.{IsWalk, Comes}
+use Rattle.thread_local_shared_buckets.specs.Positions.{resting, owed, Item, IsToldAt, Stops, YieldsFrom}
+use Rattle.thread_local_shared_buckets.specs.Walks.{WalkView, Goes}
+use Rattle.thread_local_shared_buckets.proofs.AtHandLaws.{comes_nowhere}
+use Rattle.thread_local_shared_buckets.proofs.ToldLaws.{moved, meets_some}
+use Rattle.thread_local_shared_buckets.proofs.WalkLaws.{gives_later, fits}
 use Rattle.thread_local_shared_buckets.proofs.iter.Iter.step.Goals as goal
-use Rattle.thread_local_shared_buckets.proofs.iter.Iter.step.Goals.{in-Some, in_default}
+use Rattle.thread_local_shared_buckets.proofs.iter.Iter.step.Goals.{else-self-eq0-via-then-self-eq0+else-not-reach}
+use Rattle.thread_local_shared_buckets.proofs.iter.Iter.step.Goals.{else-self-eq0-via-else-self-eq0}
 
--- what contracts see of a walk, which was shown that threads may share the values, or wasn't
-abbrev seen : {V : Type 0} → Walk V → Bool → WalkView V
-seen walk shown = record {
-  sharing = walk.buckets.now.sharing;
-  cursor = resting walk.raw;
-  own = option_map owed walk.own;
-  shown = shown;
-  told = walk.told;
-}
+module _ {V : Type 0} where
+  -- what contracts see of a walk, which was shown that threads may share the values, or wasn't
+  abbrev seen : Walk V → Bool → WalkView V
+  seen walk shown = record {
+    sharing = walk.buckets.now.sharing;
+    cursor = resting walk.raw;
+    own = option_map owed walk.own;
+    shown = shown;
+    told = walk.told;
+  }
 
-goes_on : {V : Type 0} (from : WalkView V) (found : Option (Witness V × Bor V)) (to : WalkView V)
-    → MatchOption found (Ends from.cursor from.own to.cursor to.own) (λ x. Yields from.cursor from.own x.1.now to.cursor to.own)
-    → to.shown ≡ from.shown → to.sharing ≡ from.sharing → to.told ≡ from.told
-    → AllOf from.sharing (Meets from.cursor (option_map (λ x. x.1) found) to.cursor) from.told
-    → Goes from (option_map (λ x. x.1) found) to
-goes_on from None to gives shown sharing told meets =
-    record { gives = gives; shown = shown; sharing = sharing; told = told; meets = meets }
-goes_on from (Some x) to gives shown sharing told meets =
-    record { gives = gives; shown = shown; sharing = sharing; told = told; meets = meets }
+  -- what holds of two tokens of one slot
+  abbrev Agrees : Item V → List (TokenView V) → Type 0
+  Agrees x tokens = AllOf x.0.sharing (λ p. p.id ≡ x.0.id → p.value ≡ x.0.value) tokens
 
-tells : {V : Type 0} (from to : Walk V) (found : Option (Witness V × Bor V))
-    → IfSome found (IsToldAt from.buckets.now.sharing to.raw)
-    → IfSome found (λ x. (x.0.sharing ≡ from.buckets.now.sharing)
-    × (cursor_id (resting to.raw) ≡ suc x.0.id) × (x.0.value ≡ x.1.now))
-tells from to None told = told
-tells from to (Some x) told = (told.sharing, told.id, told.value)
+  -- the walk came to a flag, and gave its value
+  given : (w met to : Walk V) (x : Item V) (shown left : Bool) → left ≡ shown → IsWalk w → Comes w met
+      → to.buckets.now ≡ met.buckets.now → YieldsFrom met.raw met.own x.1.now to.raw to.own
+      → IsToldAt met.buckets.now.sharing to.raw x → to.told ≡ met.told
+      → AllOf met.buckets.now.sharing (λ p. Stops met.raw to.raw p.id) met.told → Agrees x to.told
+      → Goes (seen w shown) (Some x.1) (seen to left)
+  given w met to x shown left same walk comes buckets gives told kept stops agrees =
+      let named : met.buckets.now.sharing ≡ w.buckets.now.sharing = ap (λ (t : TableView). t.sharing) comes.buckets in
+      record {
+        gives =
+            gives_later (resting w.raw) (resting met.raw) (resting to.raw) (option_map owed w.own) (option_map owed to.own) x.1.now
+            comes.leads (fits w.raw w.own walk.walk)
+            (subst (λ (own : Option (Own V)). YieldsFrom met.raw own x.1.now to.raw to.own) comes.own gives);
+        shown = same;
+        sharing = ap (λ (t : TableView). t.sharing) buckets ∙ named;
+        told = kept ∙ comes.told;
+        meets =
+            meets_some w.buckets.now.sharing w.told w.raw met.raw to.raw x comes.skips
+            (moved met.buckets.now.sharing w.buckets.now.sharing met.told w.told (λ p. Stops met.raw to.raw p.id) named comes.told stops)
+            (subst (λ (o : Option ℕ). IsToldAt o to.raw x) named told) (subst (Agrees x) (kept ∙ comes.told) agrees);
+      }
 
-pub advance-requires-clause-walk : goal.advance-requires-clause-walk
-advance-requires-clause-walk g c = c.self.invariant
-
-pub advance-requires-clause-shareable : goal.advance-requires-clause-shareable
-advance-requires-clause-shareable g c = elim c.match-self.branch [
-  | in-Some w ↦ w.tell.ensures.shareable
-  | in_default w ↦
-      ⊎_elim (λ (shown : is_some c.self.inside.shown ≡ true). absurd (false≢true (sym (ap is_some w.in_default.is) ∙ shown))) (λ (may : Shareable (param 0 g.row.T)). may)
-      (subst (λ (from : WalkView g.row.T.Denot). CanGo (param 0 g.row.T) from) (sym c.self.view_is) c.requires.can_go)
-]
-
-pub invariant_of-self : goal.invariant_of-self
-invariant_of-self g c = c.advance.ensures.walk
+  -- the walk looked on, or a flag was at hand
+  abbrev ComesTo : Inside V → Inside V → Type 0
+  ComesTo from met = Comes from.walk met.walk × (met.shown ≡ from.shown)
 
 pub returns-clause-goes : goal.returns-clause-goes
 returns-clause-goes g c =
-    let walk = c.self.inside.walk in
-    let after = c.advance.new.self in
-    let shown = is_some c.self.inside.shown in
-    subst (λ (from : WalkView g.row.T.Denot). Goes from (option_map (λ x. x.1) c.advance.result) (seen after shown)) c.self.view_is
-    (goes_on (seen walk shown) c.advance.result (seen after shown) c.advance.ensures.goes refl
-    (ap (λ b. b.sharing) c.advance.ensures.sharing) c.advance.ensures.same c.advance.ensures.meets)
-
-pub returns-clause-told : goal.returns-clause-told
-returns-clause-told g c =
-    let after = c.advance.new.self in
-    subst (λ (from : WalkView g.row.T.Denot). IfSome c.advance.result (λ x. (x.0.sharing ≡ from.sharing)
-    × (cursor_id (resting after.raw) ≡ suc x.0.id) × (x.0.value ≡ x.1.now))) c.self.view_is
-    (tells c.self.inside.walk after c.advance.result c.advance.ensures.told)
+    let from = c.self.inside in
+    let met = c.else-self-eq0.self-inside in
+    let pass = c.pass-found in
+    let come : ComesTo from met =
+    elim c.else-self-eq0.branch [
+      | else-self-eq0-via-then-self-eq0+else-not-reach x ↦
+          subst (ComesTo from) (sym x.self-inside-is) (x.reach.ensures.comes, refl)
+      | else-self-eq0-via-else-self-eq0 x ↦ subst (ComesTo from) (sym x.self-inside-is) (comes_nowhere from.walk, refl)
+    ] in
+    subst (λ (view : WalkView _). Goes view (Some pass.result.1) (seen pass.new.self (is_some met.shown))) c.self.view_is
+    (given from.walk met.walk pass.new.self pass.result (is_some from.shown) (is_some met.shown) (ap is_some come.1)
+    c.self.invariant come.0 pass.ensures.sharing pass.ensures.gives pass.ensures.told pass.ensures.same pass.ensures.stops
+    (subst (Agrees pass.result) c.list.ensures c.agrees.ensures))

@@ -10,11 +10,11 @@ use Rattle.thread_local_shared_buckets.proofs.shared.Shared.slots_reached.Goals 
 pub buckets-init : goal.buckets-init
 buckets-init g c =
     let slots : ℕ = c.reserved-slots.result in
-    let word : ℕ = c.announced.result in
+    let word : ℕ = c.load_announced-announced.result in
     let reserved : ℕ = c.args.self.now.reserved in record {
       counted =
           subst (λ (n : ℕ). Counted n (bit_and word (bit_not w64 slots)) slots) c.reserved-slots.ensures.reserved
-          (begins slots word c.reserved-slots.ensures.first c.announced.ensures.none_past);
+          (begins slots word c.reserved-slots.ensures.first c.load_announced-announced.ensures.none_past);
       table = c.none_reached-reached.ensures.0 ∙ c.bucket.ensures.table;
       grown = λ _.
           subst (λ (n : ℕ). n ≤ max reserved (2 * c.none_reached-reached.result.ids - 1)) (sym c.reserved-slots.ensures.reserved)

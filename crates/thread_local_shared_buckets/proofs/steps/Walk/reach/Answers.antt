@@ -1,11 +1,12 @@
 use Rattle.std.proofs.Common.{◌≡◌, ap, arith}
 use Rattle.thread_local_buckets.specs.declared.cursor.RawIter.{RawIter}
-use Rattle.thread_local_shared_buckets.proofs.AtHandLaws.{comes_nowhere, comes_by_look, comes_by_move, comes_then, reaches}
+use Rattle.thread_local_shared_buckets.proofs.AtHandLaws.{comes_nowhere, comes_by_look, comes_then, takes_none, takes_one, moves_to}
 use Rattle.thread_local_shared_buckets.proofs.steps.Walk.reach.Goals as goal
+use Rattle.thread_local_shared_buckets.proofs.steps.Walk.reach.Goals.{then-self-eq0, else-self-eq0}
 
 pub returns-then-self-eq-BUCKETS : goal.returns-then-self-eq-BUCKETS
 returns-then-self-eq-BUCKETS g c =
-    let w = c.args.self.now in reaches w w _ (comes_nowhere w) c.requires.walk (omega (arith, c.if-self-eq-BUCKETS.true))
+    record { walk = c.requires.walk; comes = comes_nowhere c.args.self.now; by = omega (arith, c.if-self-eq-BUCKETS.true) }
 
 pub loop-self-init : goal.loop-self-init
 loop-self-init g c =
@@ -19,33 +20,58 @@ loop-self-init g c =
       behind = look.behind;
     }
 
-pub go_on-requires-clause-behind : goal.go_on-requires-clause-behind
-go_on-requires-clause-behind g c = c.loop-self.invariant.behind c.loop-self-test.true
-
-pub returns-then-self-eq-BUCKETS-2 : goal.returns-then-self-eq-BUCKETS-2
-returns-then-self-eq-BUCKETS-2 g c =
+pub returns-then-bucket-eq-BUCKETS : goal.returns-then-bucket-eq-BUCKETS
+returns-then-bucket-eq-BUCKETS g c =
     let w = c.args.self.now in
     let at = c.loop-self.self in
-    let to = c.go_on.new.self in
-    reaches w to _
-    (comes_then w at to
-    (comes_then w c.look_in.new.self at (comes_by_look w c.look_in.new.self c.look_in.ensures) c.loop-self.invariant.comes)
-    (comes_by_move at to c.go_on.ensures))
-    c.go_on.ensures.walk (omega (arith, c.if-self-eq-BUCKETS-2.true))
+    let kept = c.loop-self.invariant in
+    let on =
+    moves_to at c.if-self-eq0.self c.if-self-eq0.bucket c.bucket_size-self.result
+    (elim c.if-self-eq0.branch [
+      | then-self-eq0 x ↦ takes_none at c.if-self-eq0.self c.if-self-eq0.bucket x.if-self-eq0.true x.self-is x.bucket-is
+      | else-self-eq0 x ↦
+          takes_one at c.if-self-eq0.self c.if-self-eq0.bucket x.take_first-bucket.result x.take_first-bucket.new.buckets
+          x.take_first-bucket.ensures.first x.take_first-bucket.ensures.rest x.self-is x.bucket-is
+    ])
+    kept.walk c.loop-self-test.true kept.in_table (kept.elsewhere c.loop-self-test.true) c.bucket_size-self.ensures (kept.behind c.loop-self-test.true) in
+    let come = comes_then w c.look_in.new.self at (comes_by_look w c.look_in.new.self c.look_in.ensures) kept.comes in
+    record { walk = on.walk; comes = comes_then w at _ come on.comes; by = omega (arith, c.if-bucket-eq-BUCKETS.true) }
+
+pub look_in-requires-in-loop-self-clause-walk : goal.look_in-requires-in-loop-self-clause-walk
+look_in-requires-in-loop-self-clause-walk g c =
+    let at = c.loop-self.self in
+    let kept = c.loop-self.invariant in
+    let on =
+    moves_to at c.if-self-eq0.self c.if-self-eq0.bucket c.bucket_size-self.result
+    (elim c.if-self-eq0.branch [
+      | then-self-eq0 x ↦ takes_none at c.if-self-eq0.self c.if-self-eq0.bucket x.if-self-eq0.true x.self-is x.bucket-is
+      | else-self-eq0 x ↦
+          takes_one at c.if-self-eq0.self c.if-self-eq0.bucket x.take_first-bucket.result x.take_first-bucket.new.buckets
+          x.take_first-bucket.ensures.first x.take_first-bucket.ensures.rest x.self-is x.bucket-is
+    ])
+    kept.walk c.loop-self-test.true kept.in_table (kept.elsewhere c.loop-self-test.true) c.bucket_size-self.ensures (kept.behind c.loop-self-test.true) in
+    on.walk
 
 pub loop-self-preserved : goal.loop-self-preserved
 loop-self-preserved g c =
-    let on = c.go_on.ensures in
-    let met = c.go_on.new.self in
+    let at = c.loop-self.self in
+    let kept = c.loop-self.invariant in
+    let on =
+    moves_to at c.if-self-eq0.self c.if-self-eq0.bucket c.bucket_size-self.result
+    (elim c.if-self-eq0.branch [
+      | then-self-eq0 x ↦ takes_none at c.if-self-eq0.self c.if-self-eq0.bucket x.if-self-eq0.true x.self-is x.bucket-is
+      | else-self-eq0 x ↦
+          takes_one at c.if-self-eq0.self c.if-self-eq0.bucket x.take_first-bucket.result x.take_first-bucket.new.buckets
+          x.take_first-bucket.ensures.first x.take_first-bucket.ensures.rest x.self-is x.bucket-is
+    ])
+    kept.walk c.loop-self-test.true kept.in_table (kept.elsewhere c.loop-self-test.true) c.bucket_size-self.ensures (kept.behind c.loop-self-test.true) in
     let look = c.look_in-in-loop-self.ensures in
     let to = c.look_in-in-loop-self.new.self in
-    let here : to.raw.bucket ≡ met.raw.bucket = ap (λ (r : RawIter). r.bucket) look.raw in
+    let here : to.raw.bucket ≡ c.if-self-eq0.bucket = ap (λ (r : RawIter). r.bucket) look.raw in
     record {
-      comes =
-          comes_then c.look_in.new.self c.loop-self.self to c.loop-self.invariant.comes
-          (comes_then c.loop-self.self met to (comes_by_move c.loop-self.self met on) (comes_by_look met to look));
+      comes = comes_then c.look_in.new.self at to kept.comes (comes_then at _ to on.comes (comes_by_look _ to look));
       walk = look.walk;
-      in_table = omega (arith, here, on.walk.walk.in_table, c.if-self-eq-BUCKETS-2.false);
+      in_table = omega (arith, here, on.walk.walk.in_table, c.if-bucket-eq-BUCKETS.false);
       elsewhere = look.none;
       behind = look.behind;
     }
@@ -54,6 +80,8 @@ pub returns : goal.returns
 returns g c =
     let w = c.args.self.now in
     let at = c.loop-self.self in
-    reaches w at _
-    (comes_then w c.look_in.new.self at (comes_by_look w c.look_in.new.self c.look_in.ensures) c.loop-self.invariant.comes)
-    c.loop-self.invariant.walk (omega (arith, c.loop-self-test.false))
+    record {
+      walk = c.loop-self.invariant.walk;
+      comes = comes_then w c.look_in.new.self at (comes_by_look w c.look_in.new.self c.look_in.ensures) c.loop-self.invariant.comes;
+      by = omega (arith, c.loop-self-test.false);
+    }

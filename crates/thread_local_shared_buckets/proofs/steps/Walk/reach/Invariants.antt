@@ -2,8 +2,7 @@
 use Rattle.std.proofs.Common.{◌≡◌, ◌<◌, ◌-◌, false}
 use Rattle.thread_local_ids.specs.TokenLists.{AllOf}
 use Rattle.thread_local_shared_buckets.specs.Positions.{lies_in, IsBehind}
-use Rattle.thread_local_shared_buckets.specs.AtHand.{IsWalk}
-use Rattle.thread_local_shared_buckets.proofs.AtHandLaws.{Comes}
+use Rattle.thread_local_shared_buckets.specs.AtHand.{IsWalk, Comes}
 use Rattle.thread_local_shared_buckets.proofs.steps.Walk.reach.Given as goal
 
 abbrev pub invariant-loop-self : goal.invariant-loop-self
