@@ -1,7 +1,7 @@
 -- Where the own slot lies, by its index.
-use Rattle.std.proofs.Common.{◌≡◌, ℕ, Bool, true, false, cond, eqb}
+use Rattle.std.proofs.Common.{◌≡◌, ◌≢◌, ℕ, Bool, true, false, cond, eqb}
 use Rattle.std.proofs.Common.{Option, None, Some, refl, ap, sym, ◌∙◌}
-use Rattle.std.proofs.lemmas.Bool.{eqb-true, eq-eqb}
+use Rattle.std.proofs.lemmas.Bool.{eqb-true, eq-eqb, ne_eqb}
 use Rattle.thread_local_shared_buckets.specs.declared.steps.Own.{Own}
 use Rattle.thread_local_shared_buckets.specs.Positions.{lies_in, is_at, own_index}
 use Rattle.thread_local_shared_buckets.proofs.BitLaws.{both_so, by_test}
@@ -10,6 +10,10 @@ module _ {V : Type 0} where
   pub index_of_own : (own : Own V) (bucket : ℕ) → own.thread.bucket ≡ bucket → own_index (Some own) bucket ≡ Some own.thread.index
   index_of_own own bucket same =
       ap (λ (u : Bool). cond u (Some own.thread.index) None) (eq-eqb own.thread.bucket bucket same)
+
+  pub index_outside : (own : Own V) (bucket : ℕ) → own.thread.bucket ≢ bucket → own_index (Some own) bucket ≡ None
+  index_outside own bucket apart =
+      ap (λ (u : Bool). cond u (Some own.thread.index) None) (ne_eqb own.thread.bucket bucket apart)
 
   -- where it has an index in a bucket, it lies in that bucket, at that index
   pub at_own_index : (own : Own V) (bucket i : ℕ) → own_index (Some own) bucket ≡ Some i

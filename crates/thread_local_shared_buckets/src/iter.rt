@@ -82,7 +82,12 @@ impl<'a, T> Iter<'a, T> {
         Iter {
             walk: Walk {
                 buckets,
-                raw: RawIter::new(),
+                raw: RawIter {
+                    yielded: 0,
+                    bucket: 0,
+                    bucket_size: 1,
+                    index: 0,
+                },
                 own,
                 told,
                 // The walk begins in the first bucket, and has those behind it left.

@@ -4,7 +4,7 @@ ghost use Rattle.std.specs.Prelude.{◌≡◌, ◌+◌, ◌-◌, ◌*◌, ◌/�
 ghost use Rattle.thread_local_base.specs.Judged.{Shareable};
 ghost use Rattle.thread_local_base.specs.Bits.{IsWordBut};
 ghost use Rattle.thread_local_ids.specs.TokenLists.{AllOf};
-ghost use Rattle.thread_local_shared_buckets.specs.Positions.{is_at, own_index, IsToldAt};
+ghost use Rattle.thread_local_shared_buckets.specs.Positions.{is_at, IsToldAt};
 ghost use Rattle.thread_local_shared_buckets.specs.Positions.{YieldsFrom, Stops};
 ghost use Rattle.thread_local_shared_buckets.specs.AtHand.{LiesOutside, IsSetIn, IsGivenBy, HasLookedOn, FindsTokens};
 ghost use Rattle.thread_local_shared_buckets.specs.AtHand.{IsWalk, LooksIn, Reaches};
@@ -21,23 +21,6 @@ pub(crate) struct Own<'a, T> {
     pub(crate) thread: Thread,
     pub(crate) value: &'a T,
     pub(crate) witness: Witness<T>,
-}
-
-/// The index of the own slot in a bucket, if it lies there.
-#[inline]
-fn own_index<T>(own: &Option<Own<'_, T>>, bucket: usize) -> Option<usize>
-    ensures { result ≡ own_index own.now bucket }
-{
-    match own {
-        Some(own) => {
-            if own.thread.bucket == bucket {
-                Some(own.thread.index)
-            } else {
-                None
-            }
-        }
-        None => None,
-    }
 }
 
 /// The value of a slot: the own value, if it lies there, and else what was seen with this bit.
@@ -109,7 +92,6 @@ fn look_on<'a, T>(
 ) -> (Option<Seen<'a, T>>, usize, u64)
     requires shareable { Shareable T.row }
     requires of { IfSome row.now (λ r. (r.of.bucket < 63) × (size ≡ 2 ^ r.of.bucket)) }
-    requires size { size < 2 ^ 63 }
     ensures looked { HasLookedOn row.now own from result }
     ensures told { FindsTokens row.now from told.now.tokens result }
 {
@@ -190,7 +172,11 @@ impl<'a, T> Walk<'a, T> {
         if self.row.is_none() {
             self.row = self.buckets.bucket(self.raw.bucket).load(self.told.list());
         }
-        let own = own_index(&self.own, self.raw.bucket);
+        // The index of the own slot, if it lies in the bucket.
+        let own = match &self.own {
+            Some(own) if own.thread.bucket == self.raw.bucket => Some(own.thread.index),
+            _ => None,
+        };
         let (seen, chunks, rest) = look_on(
             &self.row,
             self.raw.bucket_size,

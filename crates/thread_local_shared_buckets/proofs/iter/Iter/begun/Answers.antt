@@ -31,7 +31,7 @@ pub invariant_of-result : goal.invariant_of-result
 invariant_of-result g c =
     let word = c.load_announced-announced in
     let Has : Option (Own _) → ℕ → Type 0 = λ own all. HasAll own word.result all in
-    begins _ refl refl refl c.new.ensures c.requires.told
+    begins _ refl refl refl refl c.requires.told
     (begins_left c.args.buckets.now.sharing c.args.told c.args.own word.result c.match-own.all c.without_first.result
     (elim c.match-own.branch [
       | in-Some w ↦

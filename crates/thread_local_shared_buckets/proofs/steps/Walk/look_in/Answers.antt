@@ -6,11 +6,14 @@ use Rattle.thread_local_shared_buckets.specs.Shared.{BucketView}
 use Rattle.thread_local_shared_buckets.specs.TableView.{TableView, IsBucketOf}
 use Rattle.thread_local_shared_buckets.specs.declared.row.Row.{Row}
 use Rattle.thread_local_shared_buckets.specs.declared.seen.Seen.{Seen}
+use Rattle.thread_local_shared_buckets.specs.declared.steps.Own.{Own}
 use Rattle.thread_local_shared_buckets.specs.declared.steps.Walk.{Walk}
-use Rattle.std.proofs.Common.{◌≡◌, ◌∙◌, ℕ, true, false, List, Option, None, Some, IfSome, is_some, not, subst, sym, ap, ◌^◌, ◌<◌, ◌≤◌, arith, pow_mono, lit<}
+use Rattle.std.proofs.Common.{◌≡◌, ◌∙◌, ℕ, true, false, List, Option, None, Some, IfSome, is_some, not, subst, sym, ap, ◌<◌}
 use Rattle.thread_local_shared_buckets.proofs.LookLaws.{looked_on}
+use Rattle.thread_local_shared_buckets.proofs.OwnLaws.{index_of_own, index_outside}
 use Rattle.thread_local_shared_buckets.proofs.steps.Walk.look_in.Goals as goal
 use Rattle.thread_local_shared_buckets.proofs.steps.Walk.look_in.Goals.{then-is_none, else-is_none}
+use Rattle.thread_local_shared_buckets.proofs.steps.Walk.look_in.Goals.{in-Some, in_default-2, in_default}
 
 module _ {V : Type 0} where
   -- the walk has the bucket's row at hand, or has found none
@@ -39,7 +42,7 @@ module _ {V : Type 0} where
       → LooksIn w (record t { seen = x.0; chunks = x.1; rest = x.2 })) (sym loaded.is)
       (λ at looks finds. looked_on w loaded.row own x walk none low loaded.of at looks finds loaded.absent)
 
-loaded : (g : _) (c : goal.After-self-3-1 g) → Loaded c.args.self.now c.if-is_none.self
+loaded : (g : _) (c : goal.After-self-4-1 g) → Loaded c.args.self.now c.if-is_none.self
 loaded g c =
     let w = c.args.self.now in
     elim c.if-is_none.branch [
@@ -65,25 +68,24 @@ loaded g c =
           })
     ]
 
+-- the index of the own slot, if it lies in the bucket
+indexed : (g : _) (c : goal.After-self-4-1 g)
+    → (c.match-self.self ≡ c.if-is_none.self) × (c.match-self.own ≡ own_index c.if-is_none.self.own c.if-is_none.self.raw.bucket)
+indexed g c =
+    let bucket = c.if-is_none.self.raw.bucket in
+    let at : Option (Own _) → Option ℕ = λ own. own_index own bucket in
+    elim c.match-self.branch [
+      | in-Some x ↦ (x.self-is, x.own-is ∙ sym (ap at x.in-Some.is ∙ index_of_own x.in-Some.own bucket x.if-own-self.true))
+      | in_default-2 x ↦ (x.self-is, x.own-is ∙ sym (ap at x.in-Some.is ∙ index_outside x.in-Some.own bucket x.if-own-self.false))
+      | in_default x ↦ (x.self-is, x.own-is ∙ sym (ap at x.in_default.is))
+    ]
+
 pub returns : goal.returns
 returns g c =
-    looked c.args.self.now c.if-is_none.self (loaded g c) c.own_index-own.result c.look_on-seen.result c.requires.walk c.requires.passed
-    c.requires.in_table c.own_index-own.ensures c.look_on-seen.ensures.looked
-    (subst (λ (ts : List (TokenView _)). FindsTokens c.if-is_none.self.row c.if-is_none.self.chunks ts c.look_on-seen.result)
-    c.list-2.ensures c.look_on-seen.ensures.told)
-
-room : (size bucket : ℕ) → size ≡ 2 ^ bucket → bucket < 63 → size < 2 ^ 63
-room size bucket is low =
-    let below : bucket ≤ 62 = omega arith in
-    let most : 2 ^ bucket ≤ 2 ^ 62 = pow_mono below in
-    let less : 2 ^ 62 < 2 ^ 63 = lit< tt in
-    omega arith
-
-pub look_on-seen-requires-clause-size : goal.look_on-seen-requires-clause-size
-look_on-seen-requires-clause-size g c =
     let w = c.args.self.now in
-    let fits : w.raw.bucket_size < 2 ^ 63 = room w.raw.bucket_size w.raw.bucket c.requires.walk.walk.size c.requires.in_table in
-    elim c.if-is_none.branch [
-      | then-is_none x ↦ subst (λ (t : Walk _). t.raw.bucket_size < 2 ^ 63) (sym x.self-is) fits
-      | else-is_none x ↦ subst (λ (t : Walk _). t.raw.bucket_size < 2 ^ 63) (sym x.self-is) fits
-    ]
+    let met = c.match-self.self in
+    let at = indexed g c in
+    looked w met (subst (Loaded w) (sym at.0) (loaded g c)) c.match-self.own c.look_on-seen.result c.requires.walk c.requires.passed
+    c.requires.in_table (at.1 ∙ ap (λ (m : Walk _). own_index m.own m.raw.bucket) (sym at.0)) c.look_on-seen.ensures.looked
+    (subst (λ (ts : List (TokenView _)). FindsTokens met.row met.chunks ts c.look_on-seen.result) c.list-2.ensures
+    c.look_on-seen.ensures.told)
