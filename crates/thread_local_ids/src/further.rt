@@ -1,5 +1,5 @@
 //! The further ids of a table, from 58 on, which lie under its lock.
-ghost use Rattle.std.specs.Prelude.{◌≡◌, ◌+◌, ◌-◌, ◌^◌, ◌≤◌, IfOk, IfSome, OnOk, OnErr, None, Ok, Err, Some, alloc_error, length, []};
+ghost use Rattle.std.specs.Prelude.{◌≡◌, ◌+◌, ◌-◌, ◌^◌, ◌≤◌, IfOk, IfSome, OnErr, None, Ok, Err, Some, alloc_error, length, []};
 ghost use mathlib.Core.List.{IsPrefix};
 ghost use Rattle.thread_local_base.specs.IdMoves.{held_after};
 ghost use Rattle.thread_local_base.specs.Held.{HoldsAllBelow, NeedsMemory, IsExhausted};
@@ -146,24 +146,10 @@ fn alloc(manager: &mut ThreadIdManager) -> Result<usize, LocalError>
     ensures memory { result ≡ Err (LocalError.Memory alloc_error) → NeedsMemory manager.new }
     ensures exhausted { result ≡ Err LocalError.Exhausted → IsExhausted manager.new }
 {
-    fill(manager)?;
-    manager.alloc()
-}
-
-/// Has the first ids count as held, where they don't yet.
-fn fill(manager: &mut ThreadIdManager) -> Result<(), LocalError>
-    requires { IsFilled manager.old.held }
-    ensures filled { IsFilled manager.new.held }
-    ensures room { manager.old.room ≤ manager.new.room }
-    ensures beyond { IsSameBeyond manager.old.held manager.new.held }
-    ensures ok { OnOk result (58 ≤ length manager.new.held) }
-    ensures memory { result ≡ Err (LocalError.Memory alloc_error) → NeedsMemory manager.new }
-    ensures exhausted { result ≡ Err LocalError.Exhausted → IsExhausted manager.new }
-{
     for _ in manager.peak()..FIRST_IDS {
         manager.alloc()?;
     }
-    Ok(())
+    manager.alloc()
 }
 
 impl Drop for Further {

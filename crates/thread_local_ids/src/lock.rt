@@ -111,7 +111,7 @@ impl<V: Fits> Lock<V> {
         ensures tag { (result.tag ≡ self.now.tag) × (V.tag result.value ≡ self.now.tag) }
         ensures fits { V.fits result.value }
     {
-        if let Some(guard) = self.try_lock() {
+        if let Some(guard) = self.take(TAKEN) {
             return guard;
         }
         self.lock_contended(rt)
@@ -129,13 +129,12 @@ impl<V: Fits> Lock<V> {
             // Even a try that fails takes the word's line of the cache away from whoever has the
             // lock, and a look doesn't.
             if self.seen() == FREE {
-                if let Some(guard) = self.try_lock() {
+                if let Some(guard) = self.take(TAKEN) {
                     return guard;
                 }
             }
         }
         for _ in rt.forever() {
-            self.announce();
             self.sleep(rt, FOR_EVER);
             if let Some(guard) = self.take(AWAITED) {
                 return guard;
@@ -167,14 +166,10 @@ impl<V: Fits> Lock<V> {
         }
     }
 
-    /// Tells whoever has the lock that a thread may sleep for it.
-    fn announce(&self) {
-        unsafe { exchange::<Brand>(&raw const self.word, TAKEN, AWAITED) };
-    }
-
-    /// Sleeps until a release wakes it, for at most `secs` seconds, unless the lock has been
-    /// released since `announce`.
+    /// Tells whoever has the lock that a thread may sleep for it, and sleeps until a release wakes
+    /// it, for at most `secs` seconds. It doesn't sleep where the lock is released before.
     fn sleep<R: Wait>(&self, rt: &R, secs: u64) {
+        unsafe { exchange::<Brand>(&raw const self.word, TAKEN, AWAITED) };
         unsafe { raw::park::<Brand, R>(rt, &raw const self.word, AWAITED, secs, 0) };
     }
 }

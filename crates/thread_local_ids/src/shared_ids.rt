@@ -124,7 +124,8 @@ impl SharedIds {
         ensures table { page.new.table ≡ page.old.table }
     {
         for _ in rt.forever() {
-            match self.try_further(rt, page, room) {
+            let tried = self.further.lock(rt).take(&self.first, page, room);
+            match tried {
                 Ok(Some(taken)) => return Ok(taken),
                 Ok(None) => {}
                 Err(error) => return Err(error),
@@ -134,21 +135,6 @@ impl SharedIds {
             }
         }
         unreachable!()
-    }
-
-    /// Takes the least id under the lock, where all of the first ids are held.
-    #[inline]
-    fn try_further<R: Wait>(
-        &self,
-        rt: &R,
-        page: &mut Page,
-        room: &Room,
-    ) -> Result<Option<Taken>, LocalError>
-        requires { (page.old.table ≡ self.now.table) × (room.now.table ≡ self.now.table) }
-        ensures take { IsTry self.now.table room.now.ids page.old page.new result }
-        ensures table { page.new.table ≡ page.old.table }
-    {
-        self.further.lock(rt).take(&self.first, page, room)
     }
 
     /// Takes an id back, and answers the page that ends with its return. It waits only for the lock of

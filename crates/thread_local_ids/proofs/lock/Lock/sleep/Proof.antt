@@ -1,7 +1,8 @@
--- `sleep` parks on the word, and takes nothing out of the lock's invariant.
+-- `sleep` is one compare and exchange of TAKEN for AWAITED, and then parks on the word. The right to
+-- the value stays where it is.
 use Rattle.thread_local_base.proofs.Names.{ℕ, ◌+◌, [], ◌∷◌, refl, lit<, w64, dcons, dnil, a_type, named, Val}
-use Rattle.thread_local_base.proofs.Names.{vunit, vint, vptr, inst_fn, SProp, Lft, Share, Fml, ftrue}
-use Rattle.thread_local_base.proofs.Names.{fsep, flft, ‵, raw, ◌⊛◌, mean, at_ret, ◌$◌, ◌∵◌, !, qed, by}
+use Rattle.thread_local_base.proofs.Names.{vunit, vint, vptr, inst_fn, SProp, via, Lft, Share, Fml, ftrue}
+use Rattle.thread_local_base.proofs.Names.{fsep, flft, fbor, finv, drop, found, finds, ‵, raw, ◌⊛◌, mean, at_ret, ◌$◌, ◌∵◌, !, qed, by}
 use Rattle.thread_local_base.proofs.Names.{move, keep, group, fsplit3, split, split3, join, fsplit, fjoin, fpick}
 use Rattle.thread_local_base.proofs.Names.{pick, use1, use3, await, feq_i, stop, fld, addr, lit, unit_lit}
 use Rattle.thread_local_base.proofs.Names.{of_opd, no_more, and_then, first, blocks, exec, Calls-last, returns, enter}
@@ -12,11 +13,12 @@ use Rattle.thread_local_base.proofs.Names.{shr_Tells, uint_vals, uint_Tells, Sta
 use Rattle.thread_local_base.proofs.Names.{Goes-dropped, proved, leaves, fm, stored, has_stored, tail}
 use contract.BorrowLft.{◌⊑◌}
 use Rattle.std.specs.Sync.RawAtomic.{asks, always}
-use Rattle.thread_local_ids.specs.Locking.{Fitting}
+use Rattle.std.proofs.Math.Nat.{suc-ne-zero}
+use Rattle.thread_local_ids.specs.Locking.{Fitting, lock_invariant}
 use Rattle.thread_local_ids.specs.contracts.lock.Lock as lock
 use Rattle.thread_local_ids.specs.contracts.lock.Lock.sleep.{ended, clauses, Key.name as #self}
-use Rattle.thread_local_ids.proofs.Steps.{looked}
-use Rattle.thread_local_ids.proofs.Calls.{lent, parks}
+use Rattle.thread_local_ids.proofs.Steps.{gained, exchanged, looked}
+use Rattle.thread_local_ids.proofs.Calls.{exchanges, lent, parks}
 use Rattle.thread_local_ids.proofs.lock.Lock.sleep.Statement.{statement}
 use Rattle.thread_local_ids.proofs.lock.Lock.sleep.Code as code
 use Rattle.thread_local_base.proofs.Walking.{lends_token, returns_token}
@@ -64,8 +66,20 @@ sleep_spec 𝓤 𝓛 𝓜 𝓡 wired X Z L laws g d g' d' _ may =
     unhide ! $ fpick ! (λ t. fsplit ! $ move ! (0 ∷ 2 ∷ []) $
     lends_token ! 𝓜 𝓡 κ t.0 q $ await ! tt $ pick ! (λ s. split ! $
     -- [α's token, and the way back; the invariant; what may wait, and its tokens; the last token]
+    let J : Fml = fbor t.0 (lock_invariant R ok b o t) in let told : ℕ → Fml = λ n. fsep (flft t.0 s) (gained 𝓛 R ok b o t s 1 n) in
     let out : Fml = fsep (flft t.0 s) ftrue in let Out : Fml = lent 𝓛 𝓜 𝓡 Z laws g' d' may ρ υ r u rt out in
-    first ! $ blocks ! $ sets ! (addr ! (through ! refl (fld ! refl (stop !)))) refl (tt, tt) $ nothing ! $ move ! (3 ∷ 1 ∷ 0 ∷ []) $
+    move ! (2 ∷ []) $ use1 𝓛 (‵ (finv J) ⊛ ‵ (finv J)) (𝓛.invs.inv_dup J) $ split ! $
+    first ! $ blocks ! $ sets ! (addr ! (through ! refl (fld ! refl (stop !)))) refl (tt, tt) $ nothing ! $ move ! (1 ∷ 3 ∷ 0 ∷ []) $
+    use3 𝓛 (raw (𝓣.C _ (vptr b (o + 0) ∷ vint w64 1 ∷ vint w64 2 ∷ []) (λ v. mean 𝓛 (found told v))))
+    (via 𝓤 _ (exchanged 𝓛 R ok b o t s 1 2 (suc-ne-zero 1))
+    (exchanges 𝓛 𝓜 𝓡 (code.calls-thread_local_ids::word::exchange 𝓡.env wired)
+    (block_ptr b (o + 0)) 1 2 (lit< tt) (lit< tt) told)) $
+    Calls-last ! (fm 𝓛 𝓜 𝓡) (found told)
+    (and_then ! (get ! refl) (and_then ! (lit ! tt) (and_then ! (lit ! tt) (no_more !)))) (λ v.
+    finds ! told (λ n fits.
+    lands_last ! refl (tt, record { fits = fits }) $ exec ! 𝓣.C 𝓣.Λ Ev (tail fn.body) (at_ret Ev Post) $
+    fsplit ! $ move ! (1 ∷ []) $ drop ! $
+    first ! $ blocks ! $ sets ! (addr ! (through ! refl (fld ! refl (stop !)))) refl (tt, tt) $ nothing ! $ move ! (2 ∷ 1 ∷ 0 ∷ []) $
     use3 𝓛 (raw (asks 𝓛 (block_ptr b (o + 0)) (λ n. n) always (λ _. out))) (looked 𝓛 R ok b o t s) $
     move ! (0 ∷ 2 ∷ 3 ∷ 4 ∷ []) $ group ! 4 $
     use1 𝓛
@@ -78,7 +92,7 @@ sleep_spec 𝓤 𝓛 𝓜 𝓡 wired X Z L laws g d g' d' _ may =
     (and_then ! (lit ! tt) (and_then ! (get ! refl) (and_then ! (lit ! tt) (no_more !))))))
     (λ v.
     has_stored ! Out (
-    lands_last ! refl (tt, tt) $ exec ! 𝓣.C 𝓣.Λ Ev (tail fn.body) (at_ret Ev Post) $ sets ! (of_opd ! (unit_lit !)) refl (tt, tt) $
+    lands_last ! refl (tt, tt) $ exec ! 𝓣.C 𝓣.Λ Ev (tail (tail fn.body)) (at_ret Ev Post) $ sets ! (of_opd ! (unit_lit !)) refl (tt, tt) $
     fsplit3 ! $ fsplit ! $ move ! (0 ∷ 4 ∷ []) $
     returns_token ! κ t.0 q s $ await ! tt $
     move ! (3 ∷ 1 ∷ []) $ fjoin ! $ move ! (3 ∷ 0 ∷ []) $ fjoin ! $ move ! (2 ∷ 0 ∷ []) $ join ! $
@@ -86,4 +100,4 @@ sleep_spec 𝓤 𝓛 𝓜 𝓡 wired X Z L laws g d g' d' _ may =
     nothing ! $ feq_i ! _ (vunit ∷ []) _ refl $ nothing ! $ nothing ! $
     fjoin ! $ nothing ! $ fjoin ! $ nothing ! $ fjoin ! $
     returns ! (look_at ! 0 refl) $ free_all ! refl $ keep ! (3 ∷ 0 ∷ 1 ∷ 2 ∷ []) $
-    by ! (leaves 𝓛 En hs c y vunit tt (tt, (tt, (tt, tt))) (tt, (tt, (tt, tt)))))))))))
+    by ! (leaves 𝓛 En hs c y vunit tt (tt, (tt, (tt, tt))) (tt, (tt, (tt, tt)))))))))))))

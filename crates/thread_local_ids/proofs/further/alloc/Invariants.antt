@@ -2,7 +2,7 @@
 use Rattle.std.proofs.Common.{◌≡◌, ◌≤◌, length}
 use Rattle.thread_local_ids.specs.FirstIds.{IsSameBeyond}
 use Rattle.thread_local_ids.specs.Filled.{IsFilled}
-use Rattle.thread_local_ids.proofs.further.fill.Given as goal
+use Rattle.thread_local_ids.proofs.further.alloc.Given as goal
 
 abbrev pub invariant-loop : goal.invariant-loop
 invariant-loop l =
