@@ -1,8 +1,8 @@
 -- The walk and the contents once the walk has passed its next value.
 use Rattle.std.proofs.Common.{◌≡◌, ◌≢◌, ℕ, ◌+◌, ◌-◌, ◌*◌, ◌/◌, ◌%◌, ◌^◌, ◌<◌, ◌≤◌, false, length, ◌∷◌, Option, Some}
-use Rattle.std.proofs.Common.{None, is_some, IsSome, count_ones, set, refl, ap, sym, ◌∙◌, arith, ⊎_elim}
+use Rattle.std.proofs.Common.{None, is_some, IsSome, bit_and, count_ones, set, refl, ap, sym, ◌∙◌, arith, ⊎_elim}
 use Rattle.std.specs.Prelude.{nat_lt}
-use Rattle.std.specs.Int.{w64, trailing_zeros}
+use Rattle.std.specs.Int.{w64, bit_not, trailing_zeros}
 use Rattle.std.proofs.lemmas.Bool.{cases_eq, eq-eqb, ne_eqb, cases_lt}
 use Rattle.std.proofs.lemmas.Nat.{zero_from_ones}
 use Rattle.std.proofs.lemmas.List.{get_or-set_same, get_or-set_other}
@@ -12,7 +12,7 @@ use Rattle.thread_local_base.specs.Buckets.{Contents, row, values}
 use Rattle.thread_local_base.specs.Walk.{walk, paired}
 use Rattle.thread_local_base.specs.Rows.{value_in, with_slot}
 use Rattle.thread_local_buckets.proofs.CountingLaws.{counted_at_hand, few_at_hand, count_below-taken, walk-few}
-use Rattle.thread_local_buckets.proofs.FlagLaws.{IsFirst, first_at_hand}
+use Rattle.thread_local_buckets.proofs.FlagLaws.{IsFirst, first_at_hand, at_start}
 use Rattle.thread_local_base.proofs.RowLaws.{row-with_row-same, length-row-with_slot}
 use Rattle.thread_local_base.proofs.TakingLaws.{in_rows, taking}
 use Rattle.thread_local_base.proofs.ValueLaws.{values-id_at, values-with_slot-same, values-with_slot-other}
@@ -21,8 +21,8 @@ use Rattle.thread_local_base.specs.Counting.{count_below}
 use Rattle.thread_local_buckets.specs.declared.cursor.RawIter.{RawIter}
 use Rattle.thread_local_buckets.specs.declared.cursor.OwnerCursor.{OwnerCursor}
 use Rattle.thread_local_buckets.specs.Cursor.{read_to, values_left, AreFlagsAt, IsAt, IsOwnerWalk}
-use Rattle.thread_local_buckets.specs.Announced.{AreAhead}
-use Rattle.thread_local_buckets.proofs.Passing.{AreAhead-same}
+use Rattle.thread_local_buckets.specs.Announced.{Announces, AreAhead}
+use Rattle.thread_local_buckets.proofs.Passing.{AreAhead-same, AreAhead-all, AreAhead-behind}
 use Rattle.thread_local_buckets.proofs.Slots.{value_of as held_value}
 
 -- the cursor with other flags to pass
@@ -59,8 +59,18 @@ behind_flags cursor raw flags buckets = record {
   left = buckets;
 }
 
+-- the cursor of a walk that begins
+abbrev pub begun : ℕ → ℕ → OwnerCursor
+begun announced count = record {
+  raw = record { yielded = 0; bucket = 0; bucket_size = 1; index = 0 };
+  read = 0;
+  rest = 0;
+  later = count;
+  left = bit_and announced (bit_not w64 1);
+}
+
 -- flags that are 0 have no value
-no_ones : (rest : ℕ) → rest ≡ 0 → count_ones rest ≡ 0
+pub no_ones : (rest : ℕ) → rest ≡ 0 → count_ones rest ≡ 0
 unfolding lib.Count.ones
 no_ones rest none = ap count_ones none
 
@@ -203,3 +213,16 @@ module _ {V : Type 0} where
         },
         left,
       )
+
+  -- a walk begins at the first slot, with all values to come
+  pub begins : (c : Contents V) (announced count : ℕ) → Announces announced c → count ≡ length (walk (values c))
+      → count < 2 ^ 63 → IsOwnerWalk c (begun announced count)
+  begins c announced count told counted few =
+      let left : count_ones 0 + count ≡ count = omega (arith, no_ones 0 refl) in
+      record {
+        at = at_start c (begun announced count).raw 0 (omega arith) (λ id below. absurd (omega (arith, below)));
+        announced = AreAhead-behind c announced 1 (omega arith) (AreAhead-all c announced told);
+        counted = left ∙ counted;
+        few = omega (arith, left, few);
+        fits = omega (arith, few);
+      }

@@ -14,6 +14,8 @@ use Rattle.thread_local_base.proofs.StandingLaws.{row-absent}
 use Rattle.thread_local_base.proofs.TakingLaws.{NoneBelow-absent}
 use Rattle.thread_local_base.proofs.Word.{is_set-zero}
 use Rattle.thread_local_buckets.specs.Announced.{Announces, AreAhead}
+use Rattle.thread_local_buckets.specs.Cursor.{read_to, IsAt}
+use Rattle.thread_local_buckets.specs.declared.cursor.RawIter.{RawIter}
 
 -- the highest set bit of a number
 pub is_set-highest : (word bit : ℕ) → 2 ^ bit ≤ word → word < 2 * 2 ^ bit → is_set word bit ≡ true
@@ -61,13 +63,13 @@ pub record Takes {V : Type 0} (contents : Contents V) (rest from bucket : ℕ) :
   pub absent : (k : ℕ) → from ≤ k → k < bucket → row contents k ≡ []
   pub ahead : AreAhead contents rest (bucket + 1)
 
--- what a walk knows that has read all flags of its bucket: no value stands before the next one, and
--- the word has the announced buckets from there on
-pub record IsPassed {V : Type 0} (contents : Contents V) (left given bucket : ℕ) : Type 0 where
-  pub in_table : bucket < 63
-  pub announced : AreAhead contents left (bucket + 1)
-  pub none : NoneBelow (values contents) (id_at (bucket + 1) 0)
-  pub before : given ≤ id_at (bucket + 1) 0
+-- what a walk knows that has read these flags last: where they are 0, no value stands before the
+-- next bucket. The word has the announced buckets from there on
+pub record IsReading {V : Type 0} (contents : Contents V) (left given : ℕ) (raw : RawIter) (word : ℕ) : Type 0 where
+  pub at : IsAt contents raw word
+  pub ahead : given ≤ read_to raw
+  pub announced : AreAhead contents left (raw.bucket + 1)
+  pub none : word ≡ 0 → NoneBelow (values contents) (id_at (raw.bucket + 1) 0)
 
 module _ {V : Type 0} where
   -- a bucket that is behind and isn't in the word doesn't stand
@@ -121,7 +123,7 @@ module _ {V : Type 0} where
   AreAhead-all c word told = AreAhead-from c word told.none_past told.standing
 
   -- and of them are those behind the first ones
-  AreAhead-behind : (c : Contents V) (word count : ℕ) → count ≤ 63 → AreAhead c word 0
+  pub AreAhead-behind : (c : Contents V) (word count : ℕ) → count ≤ 63 → AreAhead c word 0
       → AreAhead c (bit_and word (bit_not w64 (2 ^ count - 1))) count
   AreAhead-behind c word count few all = record {
     standing = λ b after low stood. others_kept word count few b after (omega arith) ∙ all.standing b (omega arith) low stood;

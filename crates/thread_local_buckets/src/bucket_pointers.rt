@@ -3,7 +3,7 @@ ghost use Rattle.std.specs.Prelude.{◌≡◌, ℕ, ◌+◌, ◌*◌, ◌^◌, �
 ghost use Rattle.thread_local_base.specs.Bits.{is_set};
 ghost use Rattle.thread_local_base.specs.Buckets.{row, stands, no_contents, IsTable};
 ghost use Rattle.thread_local_base.specs.Rows.{value_in, with_row, with_slot, empty_row};
-ghost use Rattle.thread_local_buckets.specs.Announced.{Announces, AreAhead};
+ghost use Rattle.thread_local_buckets.specs.Announced.{Announces};
 ghost use Rattle.thread_local_buckets.specs.Cursor.{AreFlagsAt};
 
 use crate::announced::FIRST_SEVEN;
@@ -66,16 +66,6 @@ impl<T> BucketPointers<T> {
         ensures same { self.new ≡ self.old }
     {
         self.announced.bits
-    }
-
-    /// The announced buckets behind the first seven.
-    #[inline]
-    fn further(&mut self) -> u64
-        ensures ahead { AreAhead self.old result 7 }
-        ensures table { IsTable self.old }
-        ensures same { self.new ≡ self.old }
-    {
-        self.announced() & !FIRST_SEVEN
     }
 
     /// Publishes a value in the slot of a place, which must be empty.

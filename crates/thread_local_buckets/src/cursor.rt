@@ -8,7 +8,7 @@ ghost use Rattle.thread_local_base.specs.Rows.{value_in, with_slot};
 ghost use Rattle.thread_local_base.specs.Walk.{walk, paired};
 ghost use Rattle.thread_local_base.specs.Owner.{NoneBelow};
 ghost use Rattle.thread_local_buckets.specs.Announced.{AreAhead};
-ghost use Rattle.thread_local_buckets.specs.Cursor.{at_bucket, behind_next, read_to, slot_at, values_left, AreFlagsAt};
+ghost use Rattle.thread_local_buckets.specs.Cursor.{behind_next, read_to, slot_at, values_left, AreFlagsAt};
 ghost use Rattle.thread_local_buckets.specs.Cursor.{HasRead, IsAt, IsOwnerWalk, MayRead};
 
 use crate::take_first;
@@ -59,31 +59,6 @@ pub struct RawIter {
     pub index: usize,
 }
 
-impl RawIter {
-    /// A walk at the first slot of the first bucket.
-    pub fn new() -> RawIter
-        ensures { result ≡ record { yielded = 0; bucket = 0; bucket_size = 1; index = 0 } }
-    {
-        RawIter {
-            yielded: 0,
-            bucket: 0,
-            bucket_size: 1,
-            index: 0,
-        }
-    }
-
-    /// Goes to the first slot of a bucket.
-    #[inline]
-    pub fn enter(&mut self, bucket: usize)
-        requires { bucket < 63 }
-        ensures { self.new ≡ at_bucket self.old bucket }
-    {
-        self.bucket = bucket;
-        self.bucket_size = bucket_size(bucket);
-        self.index = 0;
-    }
-}
-
 /// Writes a struct of one field, as a derived `Debug` does: what a walk's `Debug` writes. It stands
 /// here once, since a builder's steps cost a check more than all else of such an impl.
 pub fn write_struct<W: fmt::Write, D: fmt::Debug>(
@@ -121,35 +96,6 @@ fn flags_in_bucket<P: FlagSource>(source: &mut P, raw: &mut RawIter) -> u64
     }
 }
 
-/// Advances past the next flags that aren't 0, in this bucket or one of those behind it, and returns
-/// them. A value must be left. `left` are the announced buckets behind this one.
-fn next_flags<P: FlagSource>(source: &mut P, raw: &mut RawIter, left: &mut u64) -> u64
-    requires at { IsAt (P.contents source.old) raw.old 0 }
-    requires ahead { P.given source.old ≤ read_to raw.old }
-    requires announced { AreAhead (P.contents source.old) left.old (raw.old.bucket + 1) }
-    requires some { 0 < length (walk (values (P.contents source.old))) }
-    ensures same { source.new ≡ source.old }
-    ensures at { IsAt (P.contents source.old) raw.new result }
-    ensures some { 0 < result }
-    ensures ahead { P.given source.old ≤ read_to raw.new }
-    ensures announced { AreAhead (P.contents source.old) left.new (raw.new.bucket + 1) }
-    ensures yielded { raw.new.yielded ≡ raw.old.yielded }
-{
-    if raw.index < raw.bucket_size {
-        let flags = flags_in_bucket(source, raw);
-        if flags != 0 {
-            return flags;
-        }
-    }
-    'buckets: loop {
-        raw.enter(take_first(left));
-        let flags = flags_in_bucket(source, raw);
-        if flags != 0 {
-            return flags;
-        }
-    }
-}
-
 /// The flags, with the lowest set one cleared.
 #[inline]
 pub fn without_first(flags: u64) -> u64
@@ -178,23 +124,6 @@ pub struct OwnerCursor {
 }
 
 impl OwnerCursor {
-    /// A walk of so many values, before the first, of a table that has announced these buckets.
-    pub fn new(values: usize, announced: u64) -> OwnerCursor
-        ensures raw { result.raw ≡ record { yielded = 0; bucket = 0; bucket_size = 1; index = 0 } }
-        ensures rest { result.rest ≡ 0 }
-        ensures later { result.later ≡ values }
-        ensures buckets { IsWordBut result.left announced 0 false }
-        ensures left { values_left result ≡ values }
-    {
-        OwnerCursor {
-            raw: RawIter::new(),
-            read: 0,
-            rest: 0,
-            later: values,
-            left: announced & !1,
-        }
-    }
-
     /// Whether no value is still to come.
     #[inline]
     pub fn is_over(&self) -> bool
@@ -235,8 +164,8 @@ impl OwnerCursor {
         write_struct(f, name, "raw", &self.raw())
     }
 
-    /// Reads the next flags that aren't 0, where the values of those read last are all passed. A
-    /// value must be left.
+    /// Reads the next flags that aren't 0, in its bucket or an announced one behind it, where the
+    /// values of those read last are all passed. A value must be left.
     #[inline]
     pub fn read_on<P: FlagSource>(&mut self, source: &mut P)
         requires may_read { MayRead (P.contents source.old) (P.given source.old) self.old }
@@ -246,7 +175,20 @@ impl OwnerCursor {
     {
         let mut raw = self.raw;
         let mut left = self.left;
-        let flags = next_flags(source, &mut raw, &mut left);
+        let mut flags = 0;
+        if raw.index < raw.bucket_size {
+            flags = flags_in_bucket(source, &mut raw);
+        }
+        'buckets: while flags == 0 {
+            let bucket = take_first(&mut left);
+            raw = RawIter {
+                yielded: raw.yielded,
+                bucket,
+                bucket_size: bucket_size(bucket),
+                index: 0,
+            };
+            flags = flags_in_bucket(source, &mut raw);
+        }
         let count = flags.count_ones() as usize;
         raw.yielded += count;
         self.raw = raw;

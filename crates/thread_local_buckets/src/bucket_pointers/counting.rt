@@ -5,11 +5,12 @@ ghost use Rattle.thread_local_base.specs.Buckets.{row, values};
 ghost use Rattle.thread_local_base.specs.Walk.{walk};
 ghost use Rattle.thread_local_base.specs.Counting.{count_below};
 ghost use Rattle.thread_local_base.specs.Owner.{emptied};
-ghost use Rattle.thread_local_buckets.specs.Announced.{AreAhead};
+ghost use Rattle.thread_local_buckets.specs.Announced.{Announces, AreAhead};
 ghost use Rattle.thread_local_buckets.specs.Cursor.{values_left, IsOwnerWalk};
 
 use super::BucketPointers;
-use crate::{FlagSource, OwnerCursor, take_first};
+use crate::announced::FIRST_SEVEN;
+use crate::{FlagSource, OwnerCursor, RawIter, take_first};
 use thread_local_base::bucket_size;
 
 impl<T> BucketPointers<T> {
@@ -77,21 +78,6 @@ impl<T> BucketPointers<T> {
         count + self.count_in_chunks(bucket, size, groups * 8, chunks)
     }
 
-    /// How many values the first seven buckets have. The flags of each are one word.
-    #[inline]
-    fn count_in_first(&mut self) -> usize
-        ensures same { self.new ≡ self.old }
-        ensures counted { result ≡ count_below (values self.old) (id_at 7 0) }
-    {
-        let mut count = 0;
-        for bucket in 0..7 {
-            if self.stands(bucket) {
-                count += self.count_in_chunks(bucket, bucket_size(bucket), 0, 1);
-            }
-        }
-        count
-    }
-
     /// How many values there are, where so many are in the first seven buckets, and these are the
     /// further buckets that are announced. It is never inlined, so that the count of a table without
     /// such buckets is short.
@@ -115,21 +101,28 @@ impl<T> BucketPointers<T> {
         count
     }
 
-    /// How many values there are. It reads the flags of all slots of the buckets that stand. Behind
-    /// the first seven buckets only announced ones are looked at.
+    /// How many values there are. It reads the flags of all slots of the buckets that stand, which are
+    /// one word for each of the first seven. Behind these only announced buckets are looked at.
     #[inline(never)]
-    pub fn count_values(&mut self) -> usize
+    pub fn count_values(&mut self, announced: u64) -> usize
+        requires announced { Announces announced self.old }
         ensures same { self.new ≡ self.old }
         ensures counted { result ≡ length (walk (values self.old)) }
         ensures fits { result < 2 ^ 63 }
     {
-        let count = self.count_in_first();
-        let further = self.further();
+        let mut count = 0;
+        for bucket in 0..7 {
+            if self.stands(bucket) {
+                count += self.count_in_chunks(bucket, bucket_size(bucket), 0, 1);
+            }
+        }
+        let further = announced & !FIRST_SEVEN;
         if further == 0 {
             return count;
         }
         self.count_further(count, further)
     }
+
     /// The cursor of a walk over all values, which it counts.
     #[inline]
     pub fn begin_walk(&mut self) -> OwnerCursor
@@ -140,6 +133,17 @@ impl<T> BucketPointers<T> {
         ensures ends { values_left result ≡ 0 → emptied self.old ≡ self.old }
     {
         let announced = self.announced();
-        OwnerCursor::new(self.count_values(), announced)
+        OwnerCursor {
+            raw: RawIter {
+                yielded: 0,
+                bucket: 0,
+                bucket_size: 1,
+                index: 0,
+            },
+            read: 0,
+            rest: 0,
+            later: self.count_values(announced),
+            left: announced & !1,
+        }
     }
 }
