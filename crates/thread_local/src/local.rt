@@ -5,7 +5,6 @@ ghost use Rattle.thread_local_base.specs.Answers.{Get, GetOr, Found, Refused, Fa
 ghost use Rattle.thread_local_base.specs.Cursor.{fresh_cursor};
 ghost use Rattle.thread_local_base.specs.IdMoves.{Take, held_after, noted};
 ghost use Rattle.thread_local_base.specs.Held.{is_held};
-ghost use Rattle.thread_local_ids.specs.Taken.{IsHeldIn};
 ghost use mathlib.Core.List.{IsPrefix};
 ghost use mathlib.Core.Logic.{◌∨₁◌};
 ghost use Rattle.thread_local.specs.Errors.{IfCreate};
@@ -19,7 +18,7 @@ use std::alloc::AllocError;
 use std::fmt;
 use std::marker::Model;
 use std::sync::Wait;
-use thread_local_ids::{HeldId, Page, Right, Tenure, Token, Told};
+use thread_local_ids::{Page, Tenure, Token, Told};
 use thread_local_shared_buckets::{Claim, Iter, Tokens};
 
 // `get_or` and `get_or_default` stand in local/lends.rt.
@@ -44,10 +43,10 @@ mod lends;
 /// Rust's crate finds the running thread by itself, and has no such type. Its table has `get` and
 /// the `get_or` family but `try_fill` and `get_or_try_lasting`; the other calls are the port's own.
 pub struct Local<'a, T, R: Wait> {
-    rt: &'a R,
-    table: &'a ThreadLocal<T>,
-    claim: Claim<'a, T>,
-    tenure: Tenure,
+    pub(crate) rt: &'a R,
+    pub(crate) table: &'a ThreadLocal<T>,
+    pub(crate) claim: Claim<'a, T>,
+    pub(crate) tenure: Tenure,
 }
 
 impl<'a, T, R: Wait> Model for Local<'a, T, R> {
@@ -63,28 +62,6 @@ impl<'a, T, R: Wait> Model for Local<'a, T, R> {
 }
 
 impl<'a, T, R: Wait> Local<'a, T, R> {
-    /// A `Local` of a held id of this table.
-    pub(crate) fn new(
-        rt: &'a R,
-        table: &'a ThreadLocal<T>,
-        held: HeldId,
-        right: Right,
-        tenure: Tenure,
-    ) -> Local<'a, T, R>
-        requires { IsHeldIn table.now.table (held, right, tenure) }
-        ensures table { (result.table ≡ table.now.table)
-            × (result.sharing ≡ table.now.sharing)
-            × (result.reserved ≡ table.now.reserved) }
-        ensures id { (result.id ≡ held.id) × (result.before ≡ tenure.before) }
-    {
-        Local {
-            rt,
-            table,
-            claim: table.buckets.claim(held, right),
-            tenure,
-        }
-    }
-
     /// The value, or None. It reads what the `Local` knows already, without an atomic operation.
     pub fn get(&self) -> Option<&T>
         ensures { answer {E = ⊤} (knows self.now) Get ≡ Found (option_map (λ x. x.now) result) }
@@ -182,7 +159,7 @@ impl<'a, T, R: Wait> Local<'a, T, R> {
         ensures known { result ≡ true → self.now.known ≡ true }
     {
         let table = self.table;
-        self.claim.id() < table.buckets.reserved()
+        self.id() < table.buckets.reserved()
     }
 
     /// The value of a slot that holds one, without a test.

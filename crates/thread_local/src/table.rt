@@ -174,7 +174,12 @@ impl<T> ThreadLocal<T> {
     {
         let mut page = self.page();
         let (held, right, tenure) = self.ids.take(rt, &mut page, &self.room)?;
-        Ok(Local::new(rt, self, held, right, tenure))
+        Ok(Local {
+            rt,
+            table: self,
+            claim: self.buckets.claim(held, right),
+            tenure,
+        })
     }
 
     /// The page of the table's ids from before any was taken, for a first `local_after`. At run
@@ -215,7 +220,12 @@ impl<T> ThreadLocal<T> {
             → HoldsAllBelow (2 ^ 63 - 1) (held_after page.new.moves) }
     {
         let (held, right, tenure) = self.ids.take(rt, page, &self.room)?;
-        Ok(Local::new(rt, self, held, right, tenure))
+        Ok(Local {
+            rt,
+            table: self,
+            claim: self.buckets.claim(held, right),
+            tenure,
+        })
     }
 
     /// How many slots the table's buckets have together.
@@ -431,7 +441,7 @@ impl<T: Drop> IntoIterator for ThreadLocal<T> {
 
     /// The values by ascending id, each moved out. A walk that is dropped early drops the rest.
     fn into_iter(self) -> IntoIter<T> {
-        self.into_buckets().into_iter()
+        self.into_buckets_and_book().0.into_iter()
     }
 }
 

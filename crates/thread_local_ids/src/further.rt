@@ -99,7 +99,7 @@ impl Further {
         ensures table { (self.new.table ≡ self.old.table) × (result.table ≡ self.old.table) }
         ensures moves { IsReturn tenure.before held.id result.moves }
     {
-        let (id, mark) = held.into_parts();
+        let HeldId { id, mark } = held;
         let page = first.give_further(&mut self.log, right, mark, tenure);
         self.manager.free(id);
         page

@@ -20,14 +20,3 @@ pub struct HeldId {
     pub ghost marked: { mark.id ≡ id + 2 ^ 63 },
     pub ghost in_range: { id < 2 ^ 63 - 1 },
 }
-
-impl HeldId {
-    /// Takes it apart, so that the id and its mark can each be given back.
-    pub fn into_parts(self) -> (usize, Right)
-        ensures id { (result.0 ≡ self.id) × (self.id < 2 ^ 63 - 1) }
-        ensures mark { (result.1 ≡ self.mark) × (result.1.id ≡ self.id + 2 ^ 63) }
-    {
-        let Self { id, mark } = self;
-        (id, mark)
-    }
-}

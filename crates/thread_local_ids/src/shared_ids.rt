@@ -148,7 +148,7 @@ impl SharedIds {
         if held.id >= FIRST_IDS {
             return self.give_further(rt, held, right, tenure);
         }
-        let (id, mark) = held.into_parts();
+        let HeldId { id, mark } = held;
         self.first.give(right, mark, tenure, 64 << id)
     }
 

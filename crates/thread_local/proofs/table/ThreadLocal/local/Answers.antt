@@ -1,27 +1,14 @@
-use Rattle.std.proofs.Common.{◌≡◌, ◌∙◌, ℕ, ◌<◌, ◌-◌, ◌^◌, sym, ap, subst, lit<}
-use Rattle.thread_local.specs.Tables.{ThreadLocalView}
-use Rattle.std.specs.Prelude.{List}
-use Rattle.thread_local_base.specs.Held.{least}
-use Rattle.thread_local_base.specs.IdMoves.{IdMove, held_after}
-use Rattle.thread_local_ids.specs.Taken.{IsHeldIn}
+use Rattle.std.proofs.Common.{subst, ◌∙◌}
+use Rattle.thread_local.specs.Tables.{ThreadLocalView, thread_local_view}
+use Rattle.thread_local.specs.Locals.{IsLocalOf}
+use Rattle.thread_local.proofs.Reserved.{makes_local}
 use Rattle.thread_local.proofs.table.ThreadLocal.local.Goals as goal
 
--- The search for this takes a second.
-pub new-requires : goal.new-requires
-new-requires g c =
-    let table : c.self.inside.ids.table ≡ c.args.self.now.table =
-    c.self.invariant.0 ∙ ap (λ (t : ThreadLocalView). t.table) c.self.view_is
-    in (lit< tt, subst (λ (n : ℕ). IsHeldIn n (c.in_ok-held.held, c.in_ok-held.right, c.in_ok-held.tenure)) table c.in_ok-held.ensures.taken.held)
-
-pub returns-clause-in_range : goal.returns-clause-in_range
-returns-clause-in_range g c =
-    subst (λ (id : ℕ). id < 2 ^ 63 - 1)
-    (sym c.new.ensures.id.0)
-    c.in_ok-held.held.in_range
-
-pub returns-clause-least : goal.returns-clause-least
-returns-clause-least g c =
-    c.new.ensures.id.0
-    ∙ c.in_ok-held.ensures.taken.held.least
-    ∙ ap (λ (before : List IdMove). least (held_after before))
-    (sym c.new.ensures.id.1)
+pub invariant_of-result : goal.invariant_of-result
+invariant_of-result g c =
+    let made = c.claim in
+    let taken = c.in_ok-held in
+    subst (λ (t : ThreadLocalView). IsLocalOf t made.result taken.tenure) c.self.view_is
+    (makes_local (thread_local_view c.self.inside.buckets c.self.inside.room.ids) made.result taken.tenure taken.held.id
+    made.ensures.same_slot.0 made.ensures.same_slot.1 made.ensures.same_slot.2 taken.held.in_range made.ensures.learnt
+    made.ensures.reserved (taken.ensures.taken.held.tenure ∙ c.self.invariant.0) taken.ensures.taken.held.least)

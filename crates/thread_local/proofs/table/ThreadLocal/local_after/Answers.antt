@@ -1,27 +1,25 @@
-use Rattle.std.proofs.Common.{rules, arith, ◌≤◌, ◌<◌, ◌-◌, ◌^◌, ◌≡◌, ◌∙◌, ℕ, sym, ap, subst, lit<}
-use Rattle.thread_local.specs.Tables.{ThreadLocalView}
+use Rattle.std.proofs.Common.{rules, arith, ◌≤◌, ◌<◌, ◌-◌, ◌^◌, ◌∙◌, ℕ, sym, subst}
+use Rattle.thread_local.specs.Tables.{ThreadLocalView, thread_local_view}
+use Rattle.thread_local.specs.Locals.{IsLocalOf}
+use Rattle.thread_local.proofs.Reserved.{makes_local}
 use Rattle.std.specs.Prelude.{List, Bool}
-use Rattle.thread_local_base.specs.Held.{least, held_count, HoldsAllBelow}
-use Rattle.thread_local_base.specs.IdMoves.{IdMove, Take, held_after, noted}
-use mathlib.Core.List.{IsPrefix}
+use Rattle.thread_local_base.specs.Held.{held_count, HoldsAllBelow}
+use Rattle.thread_local_base.specs.IdMoves.{held_after}
 use Rattle.thread_local.proofs.Told.{ok_not_err}
 use Rattle.thread_local.proofs.Counted.{all_below_count}
-use Rattle.thread_local_ids.specs.Taken.{IsHeldIn}
 use Rattle.thread_local.proofs.table.ThreadLocal.local_after.Goals as goal
 
--- The search for this takes a second.
-pub new-requires : goal.new-requires
-new-requires g c =
-    let table : c.self.inside.ids.table ≡ c.args.self.now.table =
-    c.self.invariant.0 ∙ ap (λ (t : ThreadLocalView). t.table) c.self.view_is
-    in (lit< tt, subst (λ (n : ℕ). IsHeldIn n (c.in_ok-held.held, c.in_ok-held.right, c.in_ok-held.tenure)) table c.in_ok-held.ensures.taken.held)
+pub invariant_of-result : goal.invariant_of-result
+invariant_of-result g c =
+    let made = c.claim in
+    let taken = c.in_ok-held in
+    subst (λ (t : ThreadLocalView). IsLocalOf t made.result taken.tenure) c.self.view_is
+    (makes_local (thread_local_view c.self.inside.buckets c.self.inside.room.ids) made.result taken.tenure taken.held.id
+    made.ensures.same_slot.0 made.ensures.same_slot.1 made.ensures.same_slot.2 taken.held.in_range made.ensures.learnt
+    made.ensures.reserved (taken.ensures.taken.held.tenure ∙ c.self.invariant.0) taken.ensures.taken.held.least)
 
 pub returns-clause-least : goal.returns-clause-least
-returns-clause-least g c =
-    c.new.ensures.id.0
-    ∙ c.in_ok-held.ensures.taken.held.least
-    ∙ ap (λ (before : List IdMove). least (held_after before))
-    (sym c.new.ensures.id.1)
+returns-clause-least g c = c.claim.ensures.same_slot.2 ∙ c.in_ok-held.ensures.taken.held.least
 
 -- where as many ids are held as there was room for, no fewer are
 pub returns-in_err-held-clause-granted : goal.returns-in_err-held-clause-granted
@@ -32,19 +30,16 @@ returns-in_err-held-clause-granted g c = λ few refused.
     omega (arith, few, many)
 
 pub returns-clause-in_range : goal.returns-clause-in_range
-returns-clause-in_range g c = subst (λ (id : ℕ). id < 2 ^ 63 - 1) (sym c.new.ensures.id.0) c.in_ok-held.held.in_range
-
-pub returns-clause-table : goal.returns-clause-table
-returns-clause-table g c = c.new.ensures.table
+returns-clause-in_range g c = subst (λ (id : ℕ). id < 2 ^ 63 - 1) (sym c.claim.ensures.same_slot.2) c.in_ok-held.held.in_range
 
 pub returns-clause-early : goal.returns-clause-early
 returns-clause-early g c = c.take.ensures.early
 
 pub returns-clause-since : goal.returns-clause-since
-returns-clause-since g c = subst (λ (before : List IdMove). IsPrefix c.args.page.now.moves before) (sym c.new.ensures.id.1) c.in_ok-held.ensures.taken.since
+returns-clause-since g c = c.in_ok-held.ensures.taken.since
 
 pub returns-clause-moves : goal.returns-clause-moves
-returns-clause-moves g c = c.in_ok-held.ensures.taken.moves ∙ ap (λ (before : List IdMove). noted before Take) (sym c.new.ensures.id.1)
+returns-clause-moves g c = c.in_ok-held.ensures.taken.moves
 
 pub returns-clause-memory : goal.returns-clause-memory
 returns-clause-memory g c = λ told. absurd (ok_not_err told)

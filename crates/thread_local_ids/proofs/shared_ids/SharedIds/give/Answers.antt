@@ -1,14 +1,12 @@
 use Rattle.std.proofs.Common.{◌∙◌, ℕ, ◌*◌, ◌%◌, ◌^◌, ap, sym}
 use Rattle.thread_local_ids.specs.SharedIds.{SharedView}
-use Rattle.thread_local_ids.specs.declared.right.Right.{Right}
 use Rattle.thread_local_ids.proofs.shared_ids.SharedIds.give.Goals as goal
 
 pub give-requires-clause-table : goal.give-requires-clause-table
 give-requires-clause-table g c =
     let held = c.requires.held in
     let first = sym (ap (λ (v : SharedView). v.table) c.self.view_is) in
-    (held.right ∙ first, ap (λ (r : Right). r.table) c.into_parts-id.ensures.mark.0 ∙ held.mark ∙ first, held.tenure ∙ first)
+    (held.right ∙ first, held.mark ∙ first, held.tenure ∙ first)
 
 pub give-requires-clause-bit : goal.give-requires-clause-bit
-give-requires-clause-bit g c =
-    ap (λ (n : ℕ). 64 * 2 ^ n % 2 ^ 64) (c.into_parts-id.ensures.id.0 ∙ sym c.requires.held.id)
+give-requires-clause-bit g c = ap (λ (n : ℕ). 64 * 2 ^ n % 2 ^ 64) (sym c.requires.held.id)
