@@ -441,7 +441,7 @@ impl<T: Drop> IntoIterator for ThreadLocal<T> {
 
     /// The values by ascending id, each moved out. A walk that is dropped early drops the rest.
     fn into_iter(self) -> IntoIter<T> {
-        self.into_buckets_and_book().0.into_iter()
+        self.into_buckets().into_iter()
     }
 }
 

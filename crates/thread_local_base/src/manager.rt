@@ -22,15 +22,15 @@ pub enum LocalError {
 
 /// Gives out the least id that isn't held, and takes ids back.
 ///
-/// Contracts see the held ids, as a truth value for each id below the peak, and the room: how
-/// many ids have a bit, so that taking them needs no memory. The peak is the greatest number of ids held
+/// Contracts see the held ids, as a truth value for each id below the peak, and the room: how many
+/// ids have a bit, so that taking them needs no memory. The peak is the greatest number of ids held
 /// at one moment.
 ///
 /// No call waits. The first 64 ids need no memory; for further ones `with_room` and `alloc` take it.
 ///
-/// Unlike in the Rust crate it is public, one for each table, and the memory for an id's bit
-/// is taken with the id, so that its return needs none. In the Rust crate `alloc` returns the bare id, and there is no
-/// `with_room`, `is_held`, `peak` or `clear`.
+/// Unlike in the Rust crate it is public, one for each table, and the memory for an id's bit is
+/// taken with the id, so that its return needs none. In the Rust crate `alloc` returns the bare id,
+/// and there is no `with_room`, `is_held`, `peak` or `clear`.
 #[derive(Drop)]
 pub struct ThreadIdManager {
     bits: IdBits,

@@ -7,10 +7,10 @@ use std::marker::Model;
 /// Stands for the published value of one id in one sharing of its table. A sharing begins when a
 /// table is made, cleared or renewed, and lasts until an owner's call lends or takes the values.
 ///
-/// It is the id at run time. Contracts see the sharing, the id and the value. Of a cell
-/// they see which cell it is, and not what it holds. A token that is made while the table has no sharing
-/// is good for nothing. It may be sent and shared whatever the type
-/// is. No call waits or takes memory. Rust's crate has no such type.
+/// It is the id at run time. Contracts see the sharing, the id and the value. Of a cell they see
+/// which cell it is, and not what it holds. A token that is made while the table has no sharing is
+/// good for nothing. It may be sent and shared whatever the type is. No call waits or takes memory.
+/// Rust's crate has no such type.
 #[derive(Drop)]
 pub struct Token<T> {
     id: usize,

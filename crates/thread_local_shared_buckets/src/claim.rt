@@ -1,7 +1,7 @@
 //! A claim of a slot, in three states: its bucket was missing, the slot is vacant, the slot holds a
 //! value. It begins in any of them, and goes on from one to the next.
 ghost use Rattle.std.specs.Prelude.{◌≡◌, ◌≢◌, ◌/◌, ◌-◌, ◌^◌, ◌<◌, ◌⊎◌, true, Some, None, Ok, Err, IsSome, is_some};
-ghost use Rattle.std.specs.Prelude.{IfOk, OnOk, IfErr, OnErr, MatchBool, MatchOption, MatchResult, slice_set};
+ghost use Rattle.std.specs.Prelude.{IfOk, OnOk, IfSome, IfErr, OnErr, MatchBool, MatchOption, MatchResult, slice_set};
 ghost use Rattle.thread_local_base.specs.Learnt.{Unknown, Missing, Vacant, Holding, Finds, learnt_by_publish};
 ghost use Rattle.thread_local_base.specs.Place.{IsPlaceOf};
 ghost use Rattle.thread_local_buckets.specs.Slots.{empty_slots, slot_value, flag_word_at};
@@ -299,10 +299,29 @@ impl<'a, T> Claim<'a, T> {
         let announced = self.announcements.announce(thread.bucket);
         let back = self.slot.exchange(thread.index, block, reached, announced);
         if let Some(block) = back {
-            let (value, block) = emptied(block, alloc, thread);
-            block.release(alloc, bucket_size(thread.bucket));
-            self.publish(thread, value);
+            self.publish_second(alloc, thread, block);
         }
+    }
+
+    /// Publishes the value of a block where another block was installed first, and frees that block.
+    /// It is never inlined, so that the way of the first is short.
+    #[cold]
+    #[inline(never)]
+    fn publish_second(&mut self, alloc: &Global, thread: Thread, block: Block<T, Global>)
+        requires vacant { self.old.learnt ≡ Vacant }
+        requires place { IsPlaceOf thread.bucket thread.index self.old.id }
+        requires block { (block.heap ≡ alloc.now) × (block.left ≡ 0) }
+        requires others { slice_set block.slots thread.index None ≡ empty_slots (2 ^ thread.bucket) }
+        requires value { IsSome (slot_value block.slots thread.index) }
+        ensures same_slot { (self.new.table ≡ self.old.table)
+            × (self.new.sharing ≡ self.old.sharing)
+            × (self.new.id ≡ self.old.id) }
+        ensures learnt { IfSome (slot_value block.slots thread.index) (λ value. self.new.learnt ≡ Holding value) }
+        ensures reserved { self.new.reserved ≡ self.old.reserved }
+    {
+        let (value, block) = emptied(block, alloc, thread);
+        block.release(alloc, bucket_size(thread.bucket));
+        self.publish(thread, value);
     }
 
     /// Publishes a value in a vacant slot: the value is written, and then the flag is set, by one
