@@ -1,10 +1,11 @@
 -- Tests, bits and chunks.
 use Rattle.std.proofs.Common.{◌≡◌, ◌≢◌, ℕ, ◌+◌, ◌/◌, ◌%◌, ◌<◌, ◌≤◌, ◌⊎◌, Bool, true, false, cond, eqb}
-use Rattle.std.proofs.Common.{refl, ap, sym, ◌∙◌, subst, arith, ⊎_elim, inl, inr}
+use Rattle.std.proofs.Common.{◌*◌, ◌^◌, bit_or, refl, ap, sym, ◌∙◌, subst, arith, ⊎_elim, inl, inr}
 use Rattle.std.proofs.Common.{Option, None, Some, IfSome}
+use Rattle.std.specs.Int.Bits.{or_zero_l}
 use Rattle.std.proofs.lemmas.Bool.{cond_both, eqb-true, eqb-false, eq-eqb, ne_eqb, cases_lt, cases_eq}
 use Rattle.thread_local_base.specs.Bits.{is_set, IsLowestSet, IsWordBut}
-use Rattle.thread_local_base.proofs.Word.{is_set-zero}
+use Rattle.thread_local_base.proofs.Word.{is_set-zero, set_bit}
 use Rattle.thread_local_shared_buckets.specs.AtHand.{LiesOutside}
 
 pub both_so : (a b c d : ℕ) → a ≡ b → c ≡ d → cond (eqb a b) (eqb c d) false ≡ true
@@ -103,3 +104,39 @@ keeps_set (Some index) chunk flags word bit adds other small set =
     ⊎_elim (λ (here : index / 64 ≡ chunk). keeps_bit word flags (index % 64) bit (adds here) small set)
     (λ apart. subst (λ (n : ℕ). is_set n bit ≡ true) (sym (other apart)) set)
     (cases_eq (index / 64) chunk)
+
+-- a chunk's flags as a walk takes them: that of the own slot is set in addition, if it lies there
+pub record Counts (own : Option ℕ) (chunk flags word : ℕ) : Type 0 where
+  pub adds : IfSome own (λ index. index / 64 ≡ chunk → IsWordBut word flags (index % 64) true)
+  pub other : LiesOutside own chunk → word ≡ flags
+
+pub counts_own : (own : Option ℕ) (index chunk flags word : ℕ) → own ≡ Some index → index / 64 ≡ chunk
+    → word ≡ bit_or flags (1 * 2 ^ (index % 64) % 2 ^ 64) → Counts own chunk flags word
+counts_own own index chunk flags word is here so =
+    subst (λ (o : Option ℕ). Counts o chunk flags word) (sym is) record {
+      adds = λ _.
+          subst (λ (n : ℕ). IsWordBut n flags (index % 64) true) (sym so)
+          (let small : index % 64 < 64 = omega arith in set_bit flags (index % 64) small);
+      other = λ apart. absurd (apart here);
+    }
+
+pub counts_apart : (own : Option ℕ) (index chunk flags word : ℕ) → own ≡ Some index → index / 64 ≢ chunk → word ≡ flags
+    → Counts own chunk flags word
+counts_apart own index chunk flags word is apart so =
+    subst (λ (o : Option ℕ). Counts o chunk flags word) (sym is) record {
+      adds = λ here. absurd (apart here);
+      other = λ _. so;
+    }
+
+pub counts_none : (own : Option ℕ) (chunk flags word : ℕ) → own ≡ None → word ≡ flags → Counts own chunk flags word
+counts_none own chunk flags word is so =
+    subst (λ (o : Option ℕ). Counts o chunk flags word) (sym is) record {
+      adds = tt;
+      other = λ _. so;
+    }
+
+-- the own slot's flag alone
+pub alone_set : (index : ℕ) → IsWordBut (1 * 2 ^ (index % 64) % 2 ^ 64) 0 (index % 64) true
+alone_set index =
+    subst (λ (n : ℕ). IsWordBut n 0 (index % 64) true) (or_zero_l (1 * 2 ^ (index % 64) % 2 ^ 64))
+    (let small : index % 64 < 64 = omega arith in set_bit 0 (index % 64) small)

@@ -57,24 +57,6 @@ fn take<'a, T>(
     }
 }
 
-/// A chunk's flags, with that of the own slot set if it lies there.
-#[inline]
-fn with_own(flags: u64, own: Option<usize>, chunk: usize) -> u64
-    ensures own { IfSome own (λ index. index / 64 ≡ chunk → IsWordBut result flags (index % 64) true) }
-    ensures other { LiesOutside own chunk → result ≡ flags }
-{
-    match own {
-        Some(index) => {
-            if index / 64 == chunk {
-                flags | 1 << (index % 64)
-            } else {
-                flags
-            }
-        }
-        None => flags,
-    }
-}
-
 /// Looks at the chunks of a row from the chunk `from` on, until one has a flag that is set or the
 /// own slot, whose index in the bucket is `own`. Each look is one atomic load. Answers what that
 /// look saw, how many of the row's chunks were seen by then, and the flags at hand.
@@ -98,14 +80,18 @@ fn look_on<'a, T>(
     if let Some(row) = row {
         for chunk in from..(size + 63) / 64 {
             let seen = row.look(chunk, flag_word_at::<T>(size, chunk), told);
-            let flags = with_own(seen.flags(), own, chunk);
+            let set = seen.flags();
+            let flags = match &own {
+                Some(index) if *index / 64 == chunk => set | 1 << (*index % 64),
+                _ => set,
+            };
             if flags != 0 {
                 return (Some(seen), chunk + 1, flags);
             }
         }
     }
     match own {
-        Some(index) => (None, index / 64 + 1, with_own(0, own, index / 64)),
+        Some(index) => (None, index / 64 + 1, 1 << (index % 64)),
         None => (None, from, 0),
     }
 }
