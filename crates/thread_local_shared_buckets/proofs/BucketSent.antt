@@ -1,5 +1,5 @@
 -- What a bucket owns and shares names no thread, if its values may go to another thread.
-use Rattle.std.proofs.Common.{ℕ, zero, suc, ◌+◌, Bool, true, false, List, [], ◌∷◌, ◌++◌, Option, None, Some}
+use Rattle.std.proofs.Common.{ℕ, zero, suc, ◌+◌, Bool, true, false, List, ◌∷◌, Option, None, Some}
 use mathlib.Core.Logic.{inl, inr}
 use base.Fml.{Lft, GName}
 use base.Shift.{Keyless}

@@ -1,6 +1,4 @@
 -- The search for these takes a second.
-use Rattle.std.proofs.Common.{◌∙◌, ℕ, sym, ap, arith}
-use Rattle.thread_local_buckets.specs.Slots.{empty_slots}
 use Rattle.thread_local_shared_buckets.proofs.claim.Claim.publish_in.Goals as goal
 
 pub announce-announced-requires-clause-in_table : goal.announce-announced-requires-clause-in_table

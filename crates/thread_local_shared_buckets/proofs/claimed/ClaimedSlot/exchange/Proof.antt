@@ -84,14 +84,13 @@ use Rattle.thread_local_shared_buckets.proofs.Loads.{glimpse}
 use Rattle.thread_local_shared_buckets.proofs.Offers as offers
 use Rattle.thread_local_shared_buckets.proofs.Offers.{with_first, parted_slots}
 use Rattle.thread_local_shared_buckets.proofs.RowFields.{word_laws}
-use Rattle.thread_local_base.proofs.Pairs.{both, pair_in}
 use Rattle.thread_local_base.specs.Learnt.{Learnt, Missing, Vacant, Holding}
 use Rattle.thread_local_shared_buckets.specs.Claims.{ClaimFields, claim_fields, IsOf, value_at, has, claim_owns}
 use Rattle.thread_local_shared_buckets.specs.contracts.claimed.ClaimedSlot as claim
 use Rattle.thread_local_shared_buckets.specs.contracts.claimed.ClaimedSlot.exchange.{ended, clauses}
 use Rattle.thread_local_shared_buckets.specs.contracts.claimed.ClaimedSlot.exchange.Key.{name as #self}
 use Rattle.thread_local_shared_buckets.proofs.Installs.{installs, installs_filled}
-use Rattle.thread_local_shared_buckets.proofs.ClaimedFields.{Kept, kept_of, value_of, FieldsType, fields_of, told, in_word, made, typed}
+use Rattle.thread_local_shared_buckets.proofs.ClaimedFields.{Kept, kept_of, value_of, FieldsType, fields_of, told, made}
 use Rattle.thread_local_shared_buckets.proofs.ClaimedFields.{lies_at, spaced, spaced_is}
 use Rattle.thread_local_shared_buckets.proofs.claimed.ClaimedSlot.exchange.Statement.{statement}
 use Rattle.thread_local_shared_buckets.proofs.claimed.ClaimedSlot.exchange.Code as code

@@ -7,8 +7,8 @@ use Rattle.thread_local_base.proofs.Names.{at_ret, ◌$◌, ◌∵◌, !, qed, b
 use Rattle.thread_local_base.proofs.Names.{fpick, fpack, pick, use0, use1, use2, use3, await, rewrite, group, fld}
 use Rattle.thread_local_base.proofs.Names.{stop, addr, lit, of_opd, no_more, and_then, first, blocks, exec}
 use Rattle.thread_local_base.proofs.Names.{Calls-last, returns, enter, alloc_all, pass_all, free_all, look_at, get}
-use Rattle.thread_local_base.proofs.Names.{get_in, through, sets, sets_last, size_word, lands_last, env, agg, sub}
-use Rattle.thread_local_base.proofs.Names.{whole, tables, fact, no, RattleType, owns, types_at, plain}
+use Rattle.thread_local_base.proofs.Names.{through, sets, sets_last, size_word, lands_last, env, agg, sub}
+use Rattle.thread_local_base.proofs.Names.{whole, tables, fact, RattleType, owns, types_at, plain}
 use Rattle.thread_local_base.proofs.Names.{named_lft, Ptr, block_ptr, block_of, count_of, at_block, nothing, heard}
 use Rattle.thread_local_base.proofs.Names.{param, bounded, Stays, stay_dropped, walk_of, Goes-dropped, proved, leaves}
 use Rattle.thread_local_base.proofs.Names.{fm, found, finds, ◌*◌, ◌<◌, ◌≢◌, length, Bool, false, dnil, bin}
@@ -48,7 +48,7 @@ use Rattle.thread_local_shared_buckets.specs.contracts.claimed.ClaimedSlot as cl
 use Rattle.thread_local_shared_buckets.specs.contracts.claimed.ClaimedSlot.find.{ended, clauses, Key.name as #self}
 use Rattle.thread_local_shared_buckets.proofs.Early.{comes}
 use Rattle.thread_local_shared_buckets.proofs.ClaimSteps as steps
-use Rattle.thread_local_shared_buckets.proofs.ClaimedFields.{Kept, kept_of, value_of, FieldsType, fields_of, told, in_word, made, typed}
+use Rattle.thread_local_shared_buckets.proofs.ClaimedFields.{Kept, kept_of, value_of, FieldsType, fields_of, told, made}
 use Rattle.thread_local_shared_buckets.proofs.ClaimedFields.{number_in, spaced, spaced_is}
 use Rattle.thread_local_shared_buckets.proofs.claimed.ClaimedSlot.find.Statement.{statement}
 use Rattle.thread_local_shared_buckets.proofs.claimed.ClaimedSlot.find.Code as code

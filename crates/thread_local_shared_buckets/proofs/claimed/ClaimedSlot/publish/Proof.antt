@@ -8,7 +8,7 @@ use Rattle.thread_local_base.proofs.Names.{◌⊛◌, given, later, mean, at_ret
 use Rattle.thread_local_base.proofs.Names.{drop, use0, use1, use2, await, split, split3, join, pick, fsplit, fsplit3}
 use Rattle.thread_local_base.proofs.Names.{fjoin, fjoin3, fpick, fpack, learn, group, suffices, rewrite, stop, fld}
 use Rattle.thread_local_base.proofs.Names.{lit, of_opd, no_more, and_then, first, blocks, exec, returns, enter, init}
-use Rattle.thread_local_base.proofs.Names.{assigns_last, alloc_all, pass_all, free_all, look_at, get, get_in, through}
+use Rattle.thread_local_base.proofs.Names.{assigns_last, alloc_all, pass_all, free_all, look_at, get, through}
 use Rattle.thread_local_base.proofs.Names.{sets, lands_last, is, env, agg, sub, whole, tables, fact, no}
 use Rattle.thread_local_base.proofs.Names.{RattleType, owns, types_at, plain, Ptr, block_ptr, block_of, count_of}
 use Rattle.thread_local_base.proofs.Names.{uint_Tells, usize, yes, size_word, sets_last, ◌*◌, ◌∙◌, nothing, heard}
@@ -49,7 +49,7 @@ use Rattle.thread_local_shared_buckets.specs.Claims.{ClaimFields, flag_word_of, 
 use Rattle.thread_local_shared_buckets.specs.contracts.claimed.ClaimedSlot as claim
 use Rattle.thread_local_shared_buckets.specs.contracts.claimed.ClaimedSlot.publish.{ended, clauses, Key.name as #self}
 use Rattle.thread_local_shared_buckets.proofs.ClaimSteps as steps
-use Rattle.thread_local_shared_buckets.proofs.ClaimedFields.{Kept, kept_of, value_of, FieldsType, fields_of, told, in_word, made, typed}
+use Rattle.thread_local_shared_buckets.proofs.ClaimedFields.{Kept, kept_of, value_of, FieldsType, fields_of, told, made}
 use Rattle.thread_local_shared_buckets.proofs.ClaimedFields.{number_in, distance, distance_fits, lies_ahead, leads_to_word, spaced}
 use Rattle.thread_local_shared_buckets.proofs.ClaimedFields.{spaced_is}
 use Rattle.thread_local_shared_buckets.proofs.claimed.ClaimedSlot.publish.Statement.{statement}
