@@ -41,3 +41,16 @@ module _ {V : Type 0} where
       let never : Some own.thread.index ≡ None = sym (index_of_own own bucket (eqb-true own.thread.bucket bucket t)) ∙ none in
       cc)
       (λ f. f)
+
+  -- whether it lies at an index of a bucket, by the tests that code makes one after the other
+  pub at_if : (own : Option (Own V)) (o : Own V) (bucket i : ℕ) → own ≡ Some o → o.thread.bucket ≡ bucket
+      → is_at own bucket i ≡ eqb o.thread.index i
+  at_if own o bucket i is same =
+      ap (λ (u : Option (Own V)). is_at u bucket i) is
+      ∙ ap (λ (u : Bool). cond u (eqb o.thread.index i) false) (eq-eqb o.thread.bucket bucket same)
+
+  pub not_at : (own : Option (Own V)) (o : Own V) (bucket i : ℕ) → own ≡ Some o → o.thread.bucket ≢ bucket
+      → is_at own bucket i ≡ false
+  not_at own o bucket i is apart =
+      ap (λ (u : Option (Own V)). is_at u bucket i) is
+      ∙ ap (λ (u : Bool). cond u (eqb o.thread.index i) false) (ne_eqb o.thread.bucket bucket apart)

@@ -64,7 +64,7 @@ module _ {V : Type 0} where
     pub gives : Yields (resting w.raw) (option_map owed w.own) x.1.now (resting to.raw) (option_map owed to.own)
     pub told : IsToldAt w.buckets.now.sharing to.raw x
 
-  passed_own : (w : Walk V) (low rest : ℕ) (own : Own V) (x : Item V) → w.own ≡ Some own → IsWalk w
+  pub passed_own : (w : Walk V) (low rest : ℕ) (own : Own V) (x : Item V) → w.own ≡ Some own → IsWalk w
       → IsLowestSet w.rest low → IsWordBut rest w.rest low false
       → is_at (Some own) w.raw.bucket (slot_of w low) ≡ true
       → x.0 ≡ own.witness → x.1.now ≡ own.value.now
@@ -159,7 +159,7 @@ module _ {V : Type 0} where
       cc) in
       (here.0, stays_set rest w.rest low bit but small other here.1)
 
-  passed_seen : (w : Walk V) (low rest : ℕ) (x : Item V) → IsWalk w → IsLowestSet w.rest low
+  pub passed_seen : (w : Walk V) (low rest : ℕ) (x : Item V) → IsWalk w → IsLowestSet w.rest low
       → IsWordBut rest w.rest low false → is_at w.own w.raw.bucket (slot_of w low) ≡ false
       → IfSome w.seen (IsGivenBy low x)
       → Passed w x (after_pass w low rest w.own)
@@ -187,54 +187,6 @@ module _ {V : Type 0} where
             (there.by apart) given;
       }
 
-  -- what `take` ensures
-  abbrev pub TakesOwn : Option (Own V) → ℕ → ℕ → Item V → Option (Own V) → Type 0
-  TakesOwn own bucket index x left =
-      is_at own bucket index ≡ true
-      → (left ≡ None) × IfSome own (λ o. (x.0 ≡ o.witness) × (x.1.now ≡ o.value.now))
-
-  abbrev pub TakesSeen : Option (Own V) → Option (Seen V) → ℕ → ℕ → ℕ → Item V → Option (Own V) → Type 0
-  TakesSeen own seen bucket index bit x left =
-      is_at own bucket index ≡ false
-      → (left ≡ own) × IfSome seen (IsGivenBy bit x)
-
-  passed_one : (w : Walk V) (low rest : ℕ) (own left : Option (Own V)) (x : Item V) → w.own ≡ own → IsWalk w
-      → IsLowestSet w.rest low → IsWordBut rest w.rest low false
-      → is_at own w.raw.bucket (slot_of w low) ≡ true
-      → TakesOwn own w.raw.bucket (slot_of w low) x left
-      → Passed w x (after_pass w low rest left)
-  passed_one w low rest None left x is walk lowest but at takes = let never : false ≡ true = at in cc
-  passed_one w low rest (Some own) left x is walk lowest but at takes =
-      let taken = takes at in
-      subst (λ (o : Option (Own V)). Passed w x (after_pass w low rest o)) (sym taken.0)
-      (passed_own w low rest own x is walk lowest but at taken.1.0 taken.1.1)
-
-  pub passed : (w : Walk V) (low rest : ℕ) (left : Option (Own V)) (x : Item V) → IsWalk w
-      → IsLowestSet w.rest low → IsWordBut rest w.rest low false
-      → TakesOwn w.own w.raw.bucket (slot_of w low) x left
-      → TakesSeen w.own w.seen w.raw.bucket (slot_of w low) low x left
-      → Passed w x (after_pass w low rest left)
-  passed w low rest left x walk lowest but own seen =
-      by_test (is_at w.own w.raw.bucket (slot_of w low))
-      (λ at. passed_one w low rest w.own left x refl walk lowest but at own)
-      (λ apart.
-      let given = seen apart in
-      subst (λ (o : Option (Own V)). Passed w x (after_pass w low rest o)) (sym given.0)
-      (passed_seen w low rest x walk lowest but apart given.1))
-
-  -- the same, by the place and the index that the code has
-  pub passed_by : (w : Walk V) (low rest : ℕ) (left : Option (Own V)) (x : Item V) (index : ℕ) (raw : RawIter)
-      → raw ≡ past w.raw index → index ≡ slot_of w low → IsWalk w
-      → IsLowestSet w.rest low → IsWordBut rest w.rest low false
-      → TakesOwn w.own w.raw.bucket index x left
-      → TakesSeen w.own w.seen w.raw.bucket index low x left
-      → Passed w x (record w { raw = raw; own = left; rest = rest })
-  passed_by w low rest left x index raw is at walk lowest but own seen =
-      subst (λ (r : RawIter). Passed w x (record w { raw = r; own = left; rest = rest })) (sym (is ∙ ap (past w.raw) at))
-      (passed w low rest left x walk lowest but
-      (subst (λ (i : ℕ). TakesOwn w.own w.raw.bucket i x left) at own)
-      (subst (λ (i : ℕ). TakesSeen w.own w.seen w.raw.bucket i low x left) at seen))
-
   -- the lowest flag at hand
   pub lowest_of : (w : Walk V) → w.rest < 2 ^ 64 → 0 < w.rest → IsLowestSet w.rest (trailing_zeros w64 w.rest)
   lowest_of w fits some = lowest_set w.rest fits (λ none. absurd (omega arith))
@@ -255,11 +207,11 @@ module _ {V : Type 0} where
       let inside : slot_of w (trailing_zeros w64 w.rest) < 2 ^ w.raw.bucket = there.inside in
       record { some = there.some; slot = omega arith; small = lowest.within; few = few w.raw w.own walk.walk }
 
-  pub set_lowest : (w : Walk V) (index : ℕ) → index ≡ slot_of w (trailing_zeros w64 w.rest) → IsWalk w → w.rest < 2 ^ 64 → 0 < w.rest
-      → is_at w.own w.raw.bucket index ≡ false
+  pub set_lowest : (w : Walk V) → IsWalk w → w.rest < 2 ^ 64 → 0 < w.rest
+      → is_at w.own w.raw.bucket (slot_of w (trailing_zeros w64 w.rest)) ≡ false
       → IsSetIn w.seen (trailing_zeros w64 w.rest)
-  set_lowest w index at walk fits some apart =
+  set_lowest w walk fits some apart =
       let lowest = lowest_of w fits some in
       let there = walk.at_hand (trailing_zeros w64 w.rest) lowest.within lowest.set in
       set_in w.buckets.now.sharing w.raw.bucket w.chunks (trailing_zeros w64 w.rest) w.seen
-      (there.by (subst (λ (i : ℕ). is_at w.own w.raw.bucket i ≡ false) at apart))
+      (there.by apart)

@@ -23,40 +23,6 @@ pub(crate) struct Own<'a, T> {
     pub(crate) witness: Witness<T>,
 }
 
-/// The value of a slot: the own value, if it lies there, and else what was seen with this bit.
-#[inline]
-fn take<'a, T>(
-    own: &mut Option<Own<'a, T>>,
-    seen: &Option<Seen<'a, T>>,
-    bucket: usize,
-    index: usize,
-    bit: usize,
-) -> (Witness<T>, &'a T)
-    requires within { bit < 64 }
-    requires by { is_at own.old bucket index ≡ false → IsSetIn seen.now bit }
-    ensures own { is_at own.old bucket index ≡ true
-        → (own.new ≡ None)
-        × IfSome own.old (λ o. (result.0 ≡ o.witness) × (result.1.now ≡ o.value.now)) }
-    ensures other { is_at own.old bucket index ≡ false
-        → (own.new ≡ own.old) × IfSome seen.now (IsGivenBy bit result) }
-{
-    let here = match own {
-        Some(own) => own.thread.bucket == bucket && own.thread.index == index,
-        None => false,
-    };
-    if here {
-        match own.take() {
-            Some(own) => (own.witness, own.value),
-            None => unreachable!(),
-        }
-    } else {
-        match seen {
-            Some(seen) => seen.give(bit),
-            None => unreachable!(),
-        }
-    }
-}
-
 /// Looks at the chunks of a row from the chunk `from` on, until one has a flag that is set or the
 /// own slot, whose index in the bucket is `own`. Each look is one atomic load. Answers what that
 /// look saw, how many of the row's chunks were seen by then, and the flags at hand.
@@ -121,7 +87,8 @@ pub(crate) struct Walk<'a, T> {
 }
 
 impl<'a, T> Walk<'a, T> {
-    /// Gives the value of the lowest flag at hand.
+    /// Gives the value of the lowest flag at hand: the own value, if it lies there, and else what was
+    /// seen with that bit.
     #[inline]
     pub(crate) fn pass(&mut self) -> (Witness<T>, &'a T)
         requires walk { IsWalk self.old }
@@ -139,10 +106,23 @@ impl<'a, T> Walk<'a, T> {
         let bit = self.rest.trailing_zeros() as usize;
         self.rest = without_first(self.rest);
         let index = (self.chunks - 1) * 64 + bit;
-        let found = take(&mut self.own, &self.seen, self.raw.bucket, index, bit);
         self.raw.index = index + 1;
         self.raw.yielded += 1;
-        found
+        let here = match &self.own {
+            Some(own) => own.thread.bucket == self.raw.bucket && own.thread.index == index,
+            None => false,
+        };
+        if here {
+            match self.own.take() {
+                Some(own) => (own.witness, own.value),
+                None => unreachable!(),
+            }
+        } else {
+            match &self.seen {
+                Some(seen) => seen.give(bit),
+                None => unreachable!(),
+            }
+        }
     }
 
     /// Looks on in the bucket that the walk is in, until a flag is at hand. It loads the bucket's
