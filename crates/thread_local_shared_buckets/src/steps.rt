@@ -1,13 +1,10 @@
 //! One call of a walk: it gives the value of the lowest flag at hand. Where no flag is at hand, it
 //! loads the next words of flags first, until one has a flag that is set.
-ghost use Rattle.std.specs.Prelude.{◌≡◌, ◌+◌, ◌-◌, ◌*◌, ◌/◌, ◌%◌, ◌^◌, ◌<◌, true, false, None, IfSome};
+ghost use Rattle.std.specs.Prelude.{◌≡◌, ◌^◌, ◌<◌, IfSome};
 ghost use Rattle.thread_local_base.specs.Judged.{Shareable};
-ghost use Rattle.thread_local_base.specs.Bits.{IsWordBut};
 ghost use Rattle.thread_local_ids.specs.TokenLists.{AllOf};
-ghost use Rattle.thread_local_shared_buckets.specs.Positions.{is_at, IsToldAt};
-ghost use Rattle.thread_local_shared_buckets.specs.Positions.{YieldsFrom, Stops};
-ghost use Rattle.thread_local_shared_buckets.specs.AtHand.{LiesOutside, IsSetIn, IsGivenBy, HasLookedOn, FindsTokens};
-ghost use Rattle.thread_local_shared_buckets.specs.AtHand.{IsWalk, LooksIn, Reaches};
+ghost use Rattle.thread_local_shared_buckets.specs.Positions.{IsToldAt, YieldsFrom, Stops};
+ghost use Rattle.thread_local_shared_buckets.specs.AtHand.{HasLookedOn, FindsTokens, IsWalk, LooksIn, Reaches};
 
 use crate::shared::Shared;
 use crate::{Row, Seen};
@@ -136,7 +133,8 @@ impl<'a, T> Walk<'a, T> {
         ensures { LooksIn self.old self.new }
     {
         if self.row.is_none() {
-            self.row = self.buckets.bucket(self.raw.bucket).load(self.told.list());
+            let pointers = &self.buckets.parts().pointers.pointers.pointers;
+            self.row = pointers[self.raw.bucket].load(self.told.list());
         }
         // The index of the own slot, if it lies in the bucket.
         let own = match &self.own {

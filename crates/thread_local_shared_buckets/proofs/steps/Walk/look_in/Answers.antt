@@ -3,12 +3,14 @@ use Rattle.thread_local_ids.specs.TokenLists.{NoneIn}
 use Rattle.thread_local_shared_buckets.specs.AtHand.{FindsTokens, HasLookedOn, IsRowOf, IsWalk, LooksIn}
 use Rattle.thread_local_shared_buckets.specs.Positions.{own_index}
 use Rattle.thread_local_shared_buckets.specs.Shared.{BucketView}
-use Rattle.thread_local_shared_buckets.specs.TableView.{TableView, IsBucketOf}
+use Rattle.thread_local_shared_buckets.specs.Announcing.{Announcing}
+use Rattle.thread_local_shared_buckets.specs.TableView.{TableView, bucket_view}
+use Rattle.thread_local_shared_buckets.proofs.Lists.{listed_bucket}
 use Rattle.thread_local_shared_buckets.specs.declared.row.Row.{Row}
 use Rattle.thread_local_shared_buckets.specs.declared.seen.Seen.{Seen}
 use Rattle.thread_local_shared_buckets.specs.declared.steps.Own.{Own}
 use Rattle.thread_local_shared_buckets.specs.declared.steps.Walk.{Walk}
-use Rattle.std.proofs.Common.{◌≡◌, ◌∙◌, ℕ, true, false, List, Option, None, Some, IfSome, is_some, not, subst, sym, ap, ◌<◌}
+use Rattle.std.proofs.Common.{◌≡◌, ◌∙◌, ℕ, true, false, List, Option, None, Some, IfSome, is_some, not, subst, sym, ap, ◌<◌, get_or}
 use Rattle.thread_local_shared_buckets.proofs.LookLaws.{looked_on}
 use Rattle.thread_local_shared_buckets.proofs.OwnLaws.{index_of_own, index_outside}
 use Rattle.thread_local_shared_buckets.proofs.steps.Walk.look_in.Goals as goal
@@ -23,11 +25,11 @@ module _ {V : Type 0} where
     pub of : IfSome row (IsRowOf w.buckets.now.sharing w.raw.bucket)
     pub absent : row ≡ None → NoneIn w.buckets.now.sharing w.raw.bucket w.told
 
-  of_bucket : (s : TableView) (bucket : ℕ) (d : BucketView) (row : Option (Row V)) → IsBucketOf s bucket d
+  of_bucket : (s : TableView) (w : Announcing) (bucket : ℕ) (d : BucketView) (row : Option (Row V)) → d ≡ bucket_view s w bucket
       → IfSome row (λ r. r.of ≡ d) → IfSome row (IsRowOf s.sharing bucket)
-  of_bucket s bucket d None is of = tt
-  of_bucket s bucket d (Some r) is of =
-      (ap (λ (b : BucketView). b.bucket) of ∙ is.number, ap (λ (b : BucketView). b.sharing) of ∙ is.sharing)
+  of_bucket s w bucket d None is of = tt
+  of_bucket s w bucket d (Some r) is of =
+      (ap (λ (b : BucketView). b.bucket) (of ∙ is), ap (λ (b : BucketView). b.sharing) (of ∙ is))
 
   looked : (w met : Walk V) → Loaded w met → (own : Option ℕ) (x : Option (Seen V) × ℕ × ℕ) → IsWalk w → w.rest ≡ 0
       → w.raw.bucket < 63 → own ≡ own_index met.own met.raw.bucket
@@ -47,14 +49,20 @@ loaded g c =
     let w = c.args.self.now in
     elim c.if-is_none.branch [
       | then-is_none x ↦
+          let parts = x.behind-self.inside in
+          let here =
+          listed_bucket parts.pointers.pointers.pointers parts.pointers.announced parts.reserved w.raw.bucket x.index-pointers-self.result
+          w.buckets.now x.behind-self.told c.requires.in_table x.behind-self.invariant.0 (x.behind-self.view_is ∙ x.parts.ensures) in
           (record {
             row = x.load-self.result;
             is = x.self-is;
-            of = of_bucket w.buckets.now w.raw.bucket x.bucket.result.now x.load-self.result x.bucket.ensures x.load-self.ensures.of;
+            of =
+                of_bucket w.buckets.now parts.pointers.announced w.raw.bucket
+                (get_or parts.pointers.pointers.pointers w.raw.bucket x.index-pointers-self.result) x.load-self.result here
+                x.load-self.ensures.of;
             absent = λ none.
                 subst (λ (ts : List (TokenView _)). NoneIn w.buckets.now.sharing w.raw.bucket ts) x.list.ensures
-                (subst (λ (at : Option ℕ × ℕ). NoneIn at.0 at.1 x.list.result.now.tokens)
-                (λ j. (x.bucket.ensures.sharing j, x.bucket.ensures.number j)) (x.load-self.ensures.told none));
+                (subst (λ (b : BucketView). NoneIn b.sharing b.bucket x.list.result.now.tokens) here (x.load-self.ensures.told none));
           })
       | else-is_none x ↦
           (record {
