@@ -207,14 +207,9 @@ module _ {V : Type 0} where
   -- 6. Looks at the chunks of a row, one after another.
 
   -- no token's id lies in the chunks from one on, up to another
-  abbrev pub NoneBefore : Option (Row V) → ℕ → ℕ → List (TokenView V) → Type 0
-  NoneBefore row from chunk tokens =
-      IfSome row (λ r.
-      AllOf r.of.sharing (λ p. (i : ℕ) → i < 2 ^ r.of.bucket → p.id ≡ id_at r.of.bucket i → from * 64 ≤ i → chunk * 64 ≤ i) tokens)
-
-  pub none_first : (row : Option (Row V)) (from : ℕ) (tokens : List (TokenView V)) → NoneBefore row from from tokens
-  none_first None from tokens = tt
-  none_first (Some r) from tokens = λ named k d near same i low at later. later
+  abbrev pub NoneBefore : Row V → ℕ → ℕ → List (TokenView V) → Type 0
+  NoneBefore r from chunk tokens =
+      AllOf r.of.sharing (λ p. (i : ℕ) → i < 2 ^ r.of.bucket → p.id ≡ id_at r.of.bucket i → from * 64 ≤ i → chunk * 64 ≤ i) tokens
 
   -- what a look at a chunk tells
   abbrev pub LookTells : Row V → ℕ → ℕ → List (TokenView V) → Type 0
@@ -233,28 +228,25 @@ module _ {V : Type 0} where
       let small : bit < 64 = omega arith in
       keeps bit small (tells bit small (omega arith) (omega arith))
 
-  pub none_next : (row : Option (Row V)) (r : Row V) (from chunk flags word : ℕ) (tokens : List (TokenView V)) → row ≡ Some r
-      → NoneBefore row from chunk tokens → LookTells r chunk flags tokens → Keeps flags word → word ≡ 0
-      → NoneBefore row from (chunk + 1) tokens
-  none_next row r from chunk flags word tokens is before tells keeps zero =
-      let had : NoneBefore (Some r) from chunk tokens = subst (λ (o : Option (Row V)). NoneBefore o from chunk tokens) is before in
-      subst (λ (o : Option (Row V)). NoneBefore o from (chunk + 1) tokens) (sym is) (λ named k d near same i low at later.
-      let base : chunk * 64 ≤ i = had named k d near same i low at later in
+  pub none_next : (r : Row V) (from chunk flags word : ℕ) (tokens : List (TokenView V))
+      → NoneBefore r from chunk tokens → LookTells r chunk flags tokens → Keeps flags word → word ≡ 0
+      → NoneBefore r from (chunk + 1) tokens
+  none_next r from chunk flags word tokens before tells keeps zero = λ named k d near same i low at later.
+      let base : chunk * 64 ≤ i = before named k d near same i low at later in
       ⊎_elim
       (λ (below : i < chunk * 64 + 64).
       none_set word (i - chunk * 64) zero
       (set_in_word r tokens chunk flags word (slice_index_or tokens k d).id i (tells named k d near same) keeps base below low at))
       (λ (past : chunk * 64 + 64 ≤ i). omega arith)
-      (cases_lt i (chunk * 64 + 64)))
+      (cases_lt i (chunk * 64 + 64))
 
   pub found_at : (row : Option (Row V)) (r : Row V) (seen : Seen V) (from chunk flags word : ℕ) (tokens : List (TokenView V)) → row ≡ Some r
-      → NoneBefore row from chunk tokens → LookTells r chunk flags tokens → Keeps flags word
+      → NoneBefore r from chunk tokens → LookTells r chunk flags tokens → Keeps flags word
       → FindsTokens row from tokens (Some seen, chunk + 1, word)
   found_at row r seen from chunk flags word tokens is before tells keeps =
-      let had : NoneBefore (Some r) from chunk tokens = subst (λ (o : Option (Row V)). NoneBefore o from chunk tokens) is before in
       subst (λ (o : Option (Row V)). FindsTokens o from tokens (Some seen, chunk + 1, word)) (sym is)
       (λ named k d near same i low at later below.
-      let base : chunk * 64 ≤ i = had named k d near same i low at later in
+      let base : chunk * 64 ≤ i = before named k d near same i low at later in
       let last : i - chunk * 64 ≡ i - (chunk + 1 - 1) * 64 = omega arith in (
         omega arith,
         subst (λ (j : ℕ). is_set word j ≡ true) last
@@ -264,13 +256,12 @@ module _ {V : Type 0} where
 
   -- no look of any chunk found a flag
   pub none_found : (row : Option (Row V)) (r : Row V) (from chunk size chunks flags : ℕ) (tokens : List (TokenView V)) → row ≡ Some r
-      → NoneBefore row from chunk tokens → size ≡ 2 ^ r.of.bucket → (size + 63) / 64 ≤ chunk
+      → NoneBefore r from chunk tokens → size ≡ 2 ^ r.of.bucket → (size + 63) / 64 ≤ chunk
       → FindsTokens row from tokens (None, chunks, flags)
   none_found row r from chunk size chunks flags tokens is before power end =
-      let had : NoneBefore (Some r) from chunk tokens = subst (λ (o : Option (Row V)). NoneBefore o from chunk tokens) is before in
       subst (λ (o : Option (Row V)). FindsTokens o from tokens (None, chunks, flags)) (sym is)
       (λ named k d near same i low at later.
-      let base : chunk * 64 ≤ i = had named k d near same i low at later in
+      let base : chunk * 64 ≤ i = before named k d near same i low at later in
       absurd (omega arith))
 
   pub none_there : (row : Option (Row V)) (from : ℕ) (tokens : List (TokenView V)) (x : Option (Seen V) × ℕ × ℕ) → row ≡ None

@@ -1,16 +1,16 @@
 //! One call of a walk: it gives the value of the lowest flag at hand. Where no flag is at hand, it
 //! loads the next words of flags first, until one has a flag that is set.
-ghost use Rattle.std.specs.Prelude.{◌≡◌, ◌^◌, ◌<◌, IfSome};
+ghost use Rattle.std.specs.Prelude.{◌≡◌, ◌<◌};
 ghost use Rattle.thread_local_base.specs.Judged.{Shareable};
 ghost use Rattle.thread_local_ids.specs.TokenLists.{AllOf};
 ghost use Rattle.thread_local_shared_buckets.specs.Positions.{IsToldAt, YieldsFrom, Stops};
-ghost use Rattle.thread_local_shared_buckets.specs.AtHand.{HasLookedOn, FindsTokens, IsWalk, LooksIn, Reaches};
+ghost use Rattle.thread_local_shared_buckets.specs.AtHand.{IsWalk, LooksIn, Reaches};
 
 use crate::shared::Shared;
 use crate::{Row, Seen};
 use thread_local_base::{BUCKETS, Thread, bucket_size};
 use thread_local_buckets::{RawIter, flag_word_at, take_first, without_first};
-use thread_local_ids::{TokenList, Told, Witness};
+use thread_local_ids::{Told, Witness};
 
 /// The walker's own value, the place of its id, and what shows that its slot was published with it.
 #[derive(Drop)]
@@ -18,45 +18,6 @@ pub(crate) struct Own<'a, T> {
     pub(crate) thread: Thread,
     pub(crate) value: &'a T,
     pub(crate) witness: Witness<T>,
-}
-
-/// Looks at the chunks of a row from the chunk `from` on, until one has a flag that is set or the
-/// own slot, whose index in the bucket is `own`. Each look is one atomic load. Answers what that
-/// look saw, how many of the row's chunks were seen by then, and the flags at hand.
-///
-/// Where no look finds one, it answers `None` and the flag of the own slot, with the chunks up to
-/// it, or `from` and 0 where that slot lies elsewhere. The bucket of the own value always stands,
-/// so a look finds its flag, but the code doesn't depend on it.
-#[inline]
-fn look_on<'a, T>(
-    row: &Option<Row<'a, T>>,
-    size: usize,
-    own: Option<usize>,
-    from: usize,
-    told: &TokenList<T>,
-) -> (Option<Seen<'a, T>>, usize, u64)
-    requires shareable { Shareable T.row }
-    requires of { IfSome row.now (λ r. (r.of.bucket < 63) × (size ≡ 2 ^ r.of.bucket)) }
-    ensures looked { HasLookedOn row.now own from result }
-    ensures told { FindsTokens row.now from told.now.tokens result }
-{
-    if let Some(row) = row {
-        for chunk in from..(size + 63) / 64 {
-            let seen = row.look(chunk, flag_word_at::<T>(size, chunk), told);
-            let set = seen.flags();
-            let flags = match &own {
-                Some(index) if *index / 64 == chunk => set | 1 << (*index % 64),
-                _ => set,
-            };
-            if flags != 0 {
-                return (Some(seen), chunk + 1, flags);
-            }
-        }
-    }
-    match own {
-        Some(index) => (None, index / 64 + 1, 1 << (index % 64)),
-        None => (None, from, 0),
-    }
 }
 
 /// Where a walk is, and what it has at hand there.
@@ -122,8 +83,13 @@ impl<'a, T> Walk<'a, T> {
         }
     }
 
-    /// Looks on in the bucket that the walk is in, until a flag is at hand. It loads the bucket's
-    /// pointer where it hasn't found the bucket yet.
+    /// Looks on in the bucket that the walk is in, at one chunk after another, until one has a flag
+    /// that is set or the own slot. Each look is one atomic load. It loads the bucket's pointer where
+    /// it hasn't found the bucket yet.
+    ///
+    /// Where no look finds one, the flag of the own slot comes to hand, if it lies in the bucket. The
+    /// bucket of the own value always stands, so a look finds its flag, but the code doesn't depend
+    /// on it.
     #[inline]
     fn look_in(&mut self)
         requires shareable { Shareable T.row }
@@ -141,16 +107,28 @@ impl<'a, T> Walk<'a, T> {
             Some(own) if own.thread.bucket == self.raw.bucket => Some(own.thread.index),
             _ => None,
         };
-        let (seen, chunks, rest) = look_on(
-            &self.row,
-            self.raw.bucket_size,
-            own,
-            self.chunks,
-            self.told.list(),
-        );
-        self.seen = seen;
-        self.chunks = chunks;
-        self.rest = rest;
+        if let Some(row) = &self.row {
+            let (size, from, told) = (self.raw.bucket_size, self.chunks, self.told.list());
+            for chunk in from..(size + 63) / 64 {
+                let seen = row.look(chunk, flag_word_at::<T>(size, chunk), told);
+                let set = seen.flags();
+                let flags = match &own {
+                    Some(index) if *index / 64 == chunk => set | 1 << (*index % 64),
+                    _ => set,
+                };
+                if flags != 0 {
+                    self.seen = Some(seen);
+                    self.chunks = chunk + 1;
+                    self.rest = flags;
+                    return;
+                }
+            }
+        }
+        self.seen = None;
+        if let Some(index) = own {
+            self.chunks = index / 64 + 1;
+            self.rest = 1 << (index % 64);
+        }
     }
 
     /// Looks on until a flag is at hand, in this bucket or a later one that is left. Answers whether

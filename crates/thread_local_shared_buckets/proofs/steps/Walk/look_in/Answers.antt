@@ -1,21 +1,27 @@
+-- The search for these takes seconds.
 use Rattle.thread_local_ids.specs.Views.{TokenView}
 use Rattle.thread_local_ids.specs.TokenLists.{NoneIn}
-use Rattle.thread_local_shared_buckets.specs.AtHand.{FindsTokens, HasLookedOn, IsRowOf, IsWalk, LooksIn}
+use Rattle.thread_local_shared_buckets.specs.AtHand.{FindsTokens, HasLookedOn, IsAlone, IsRowOf, IsWalk, LooksIn}
 use Rattle.thread_local_shared_buckets.specs.Positions.{own_index}
 use Rattle.thread_local_shared_buckets.specs.Shared.{BucketView}
 use Rattle.thread_local_shared_buckets.specs.Announcing.{Announcing}
 use Rattle.thread_local_shared_buckets.specs.TableView.{TableView, bucket_view}
-use Rattle.thread_local_shared_buckets.proofs.Lists.{listed_bucket}
 use Rattle.thread_local_shared_buckets.specs.declared.row.Row.{Row}
 use Rattle.thread_local_shared_buckets.specs.declared.seen.Seen.{Seen}
 use Rattle.thread_local_shared_buckets.specs.declared.steps.Own.{Own}
 use Rattle.thread_local_shared_buckets.specs.declared.steps.Walk.{Walk}
-use Rattle.std.proofs.Common.{◌≡◌, ◌∙◌, ℕ, true, false, List, Option, None, Some, IfSome, is_some, not, subst, sym, ap, ◌<◌, get_or}
-use Rattle.thread_local_shared_buckets.proofs.LookLaws.{looked_on}
+use Rattle.std.proofs.Common.{◌≡◌, ◌∙◌, ◌<◌, ◌*◌, ◌^◌, ◌+◌, ◌/◌, ◌%◌, ℕ, true, false, List, Option, None, Some, IfSome, is_some, not}
+use Rattle.std.proofs.Common.{subst, sym, ap, refl, arith, bit_or, get_or}
+use Rattle.thread_local_shared_buckets.proofs.Lists.{listed_bucket}
+use Rattle.thread_local_shared_buckets.proofs.BitLaws.{none_in_chunk, none_further, keeps_set, Counts, counts_own, counts_apart, counts_none, alone_set}
+use Rattle.thread_local_shared_buckets.proofs.LookLaws.{looked_on, read_at}
 use Rattle.thread_local_shared_buckets.proofs.OwnLaws.{index_of_own, index_outside}
+use Rattle.thread_local_shared_buckets.proofs.ToldLaws.{none_next, found_at, none_found, none_there}
 use Rattle.thread_local_shared_buckets.proofs.steps.Walk.look_in.Goals as goal
-use Rattle.thread_local_shared_buckets.proofs.steps.Walk.look_in.Goals.{then-is_none, else-is_none}
-use Rattle.thread_local_shared_buckets.proofs.steps.Walk.look_in.Goals.{in-Some, in_default-2, in_default}
+use Rattle.thread_local_shared_buckets.proofs.steps.Walk.look_in.Goals.{Joined-self, Joined-self-2, Joined-own}
+use Rattle.thread_local_shared_buckets.proofs.steps.Walk.look_in.Goals.{then-is_none, else-is_none, in-Some, in_default-2, in_default}
+use Rattle.thread_local_shared_buckets.proofs.steps.Walk.look_in.Goals.{in-Some-own, in_default-own, in_default-own-2}
+use Rattle.thread_local_shared_buckets.proofs.steps.Walk.look_in.Goals.{in-Some-row+else-loop-chunk-test, in_default-row}
 
 module _ {V : Type 0} where
   -- the walk has the bucket's row at hand, or has found none
@@ -44,7 +50,17 @@ module _ {V : Type 0} where
       → LooksIn w (record t { seen = x.0; chunks = x.1; rest = x.2 })) (sym loaded.is)
       (λ at looks finds. looked_on w loaded.row own x walk none low loaded.of at looks finds loaded.absent)
 
-loaded : (g : _) (c : goal.After-self-4-1 g) → Loaded c.args.self.now c.if-is_none.self
+  -- the bucket's size is that of the row that is at hand
+  sized : (w met : Walk V) (r : Row V) → Loaded w met → w.raw.bucket_size ≡ 2 ^ w.raw.bucket → met.row ≡ Some r
+      → met.raw.bucket_size ≡ 2 ^ r.of.bucket
+  sized w met r loaded size is =
+      let of : IsRowOf w.buckets.now.sharing w.raw.bucket r =
+      subst (λ (row : Option (Row V)). IfSome row (IsRowOf w.buckets.now.sharing w.raw.bucket))
+      (ap (λ (t : Walk V). t.row) (sym loaded.is) ∙ is) loaded.of in
+      ap (λ (t : Walk V). t.raw.bucket_size) loaded.is ∙ size ∙ ap (λ (k : ℕ). 2 ^ k) (sym of.0)
+
+-- what the walk has at hand of the bucket's pointer
+loaded : (g : _) (c : Joined-self g) → Loaded c.args.self.now c.if-is_none.self
 loaded g c =
     let w = c.args.self.now in
     elim c.if-is_none.branch [
@@ -77,7 +93,7 @@ loaded g c =
     ]
 
 -- the index of the own slot, if it lies in the bucket
-indexed : (g : _) (c : goal.After-self-4-1 g)
+indexed : (g : _) (c : Joined-self g)
     → (c.match-self.self ≡ c.if-is_none.self) × (c.match-self.own ≡ own_index c.if-is_none.self.own c.if-is_none.self.raw.bucket)
 indexed g c =
     let bucket = c.if-is_none.self.raw.bucket in
@@ -88,12 +104,109 @@ indexed g c =
       | in_default x ↦ (x.self-is, x.own-is ∙ sym (ap at x.in_default.is))
     ]
 
-pub returns : goal.returns
-returns g c =
-    let w = c.args.self.now in
-    let met = c.match-self.self in
-    let at = indexed g c in
-    looked w met (subst (Loaded w) (sym at.0) (loaded g c)) c.match-self.own c.look_on-seen.result c.requires.walk c.requires.passed
-    c.requires.in_table (at.1 ∙ ap (λ (m : Walk _). own_index m.own m.raw.bucket) (sym at.0)) c.look_on-seen.ensures.looked
-    (subst (λ (ts : List (TokenView _)). FindsTokens met.row met.chunks ts c.look_on-seen.result) c.list-2.ensures
-    c.look_on-seen.ensures.told)
+-- the walk has the row at hand, and the own slot's index
+met : (g : _) (c : Joined-self g)
+    → Loaded c.args.self.now c.match-self.self × (c.match-self.own ≡ own_index c.match-self.self.own c.match-self.self.raw.bucket)
+met g c =
+    let at = indexed g c in (
+      subst (Loaded c.args.self.now) (sym at.0) (loaded g c),
+      at.1 ∙ ap (λ (m : Walk _). own_index m.own m.raw.bucket) (sym at.0),
+    )
+
+-- the flags that the walk takes are those that the look saw, and that of the own slot if it lies in the chunk
+counted : (g : _) (c : Joined-own g) → Counts c.match-self.own c.loop-chunk.chunk c.look-seen.result.flags c.match-own.flags
+counted g c =
+    let own = c.match-self.own in
+    let chunk = c.loop-chunk.chunk in
+    let set = c.look-seen.result.flags in
+    elim c.match-own.branch [
+      | in-Some-own w ↦
+          counts_own own w.in-Some-own.index chunk set c.match-own.flags w.in-Some-own.is w.if-index-chunk.true
+          (w.flags-is ∙ ap (λ (n : ℕ). bit_or n (1 * 2 ^ (w.in-Some-own.index % 64) % 2 ^ 64)) c.flags-set.ensures)
+      | in_default-own-2 w ↦
+          counts_apart own w.in-Some-own.index chunk set c.match-own.flags w.in-Some-own.is w.if-index-chunk.false
+          (w.flags-is ∙ c.flags-set.ensures)
+      | in_default-own w ↦
+          counts_none own chunk set c.match-own.flags w.in_default-own.is (w.flags-is ∙ c.flags-set.ensures)
+    ]
+
+pub returns-then-flags-ne0 : goal.returns-then-flags-ne0
+returns-then-flags-ne0 g c =
+    let at = met g (goal.at.returns-then-flags-ne0 g c).Joined-self in
+    let taken = counted g (goal.at.returns-then-flags-ne0 g c).Joined-own in
+    let kept = c.loop-chunk.invariant in
+    let look = c.look-seen.ensures in
+    let w = c.match-self.self in
+    let own = c.match-self.own in
+    let chunk = c.loop-chunk.chunk in
+    let set = c.look-seen.result.flags in
+    let flags = c.match-own.flags in
+    looked c.args.self.now w at.0 own (Some c.look-seen.result, chunk + 1, flags) c.requires.walk c.requires.passed c.requires.in_table at.1
+    (read_at w.row c.in-Some-row.row own w.chunks chunk set flags c.look-seen.result c.in-Some-row.is look.of.0 look.of.2 refl
+    kept.later look.inside kept.none_before taken.adds taken.other c.if-flags-ne0.true)
+    (subst (λ (ts : List (TokenView _)). FindsTokens w.row w.chunks ts (Some c.look-seen.result, chunk + 1, flags)) c.list-told.ensures
+    (found_at w.row c.in-Some-row.row c.look-seen.result w.chunks chunk set flags c.list-told.result.now.tokens c.in-Some-row.is
+    kept.none_told look.told (λ bit small. keeps_set own chunk set flags bit taken.adds taken.other small)))
+
+pub loop-chunk-preserved : goal.loop-chunk-preserved
+loop-chunk-preserved g c =
+    let taken = counted g (goal.at.loop-chunk-preserved g c).Joined-own in
+    let kept = c.loop-chunk.invariant in
+    let own = c.match-self.own in
+    let from = c.match-self.self.chunks in
+    let chunk = c.loop-chunk.chunk in
+    let set = c.look-seen.result.flags in
+    let flags = c.match-own.flags in
+    record {
+      later = omega (arith, kept.later);
+      none_before =
+          none_further own from chunk kept.none_before (none_in_chunk own chunk set flags taken.adds c.if-flags-ne0.false);
+      none_told =
+          none_next c.in-Some-row.row from chunk set flags c.list-told.result.now.tokens kept.none_told c.look-seen.ensures.told
+          (λ bit small. keeps_set own chunk set flags bit taken.adds taken.other small) c.if-flags-ne0.false;
+    }
+
+-- no look found a flag
+none_at_hand : (g : _) (c : Joined-self-2 g) → Loaded c.args.self.now c.match-self.self
+    → (c.match-self-2.self ≡ c.match-self.self)
+    × ((chunks flags : ℕ) → FindsTokens c.match-self.self.row c.match-self.self.chunks c.match-self.self.told (None, chunks, flags))
+none_at_hand g c loaded =
+    let w = c.match-self.self in
+    elim c.match-self-2.branch [
+      | in-Some-row+else-loop-chunk-test x ↦ (
+        x.self-is,
+        λ chunks flags.
+            subst (λ (ts : List (TokenView _)). FindsTokens w.row w.chunks ts (None, chunks, flags)) x.list-told.ensures
+            (none_found w.row x.in-Some-row.row w.chunks x.loop-chunk.chunk w.raw.bucket_size chunks flags x.list-told.result.now.tokens
+            x.in-Some-row.is x.loop-chunk.invariant.none_told
+            (sized c.args.self.now w x.in-Some-row.row loaded c.requires.walk.walk.size x.in-Some-row.is)
+            (omega (arith, x.loop-chunk-test.false))),
+      )
+      | in_default-row x ↦ (x.self-is, λ chunks flags. none_there w.row w.chunks w.told (None, chunks, flags) x.in_default-row.is)
+    ]
+
+pub returns-in-Some-own-2 : goal.returns-in-Some-own-2
+returns-in-Some-own-2 g c =
+    let at = met g (goal.at.returns-in-Some-own-2 g c).Joined-self in
+    let none = none_at_hand g (goal.at.returns-in-Some-own-2 g c).Joined-self-2 at.0 in
+    let w = c.match-self.self in
+    let own = c.match-self.own in
+    let index = c.in-Some-own-2.index in
+    let chunks = index / 64 + 1 in
+    let flags = 1 * 2 ^ (index % 64) % 2 ^ 64 in
+    subst (λ (t : Walk _). LooksIn c.args.self.now (record t { seen = None; chunks = chunks; rest = flags })) (sym none.0)
+    (looked c.args.self.now w at.0 own (None, chunks, flags) c.requires.walk c.requires.passed c.requires.in_table at.1
+    (subst (λ (o : Option ℕ). IsAlone o w.chunks chunks flags) (sym c.in-Some-own-2.is) (refl, alone_set index))
+    (none.1 chunks flags))
+
+pub returns-in_default-own-2 : goal.returns-in_default-own-2
+returns-in_default-own-2 g c =
+    let at = met g (goal.at.returns-in_default-own-2 g c).Joined-self in
+    let none = none_at_hand g (goal.at.returns-in_default-own-2 g c).Joined-self-2 at.0 in
+    let w = c.match-self.self in
+    let own = c.match-self.own in
+    let nothing : w.rest ≡ 0 = ap (λ (t : Walk _). t.rest) at.0.is ∙ c.requires.passed in
+    subst (λ (t : Walk _). LooksIn c.args.self.now (record t { seen = None })) (sym none.0)
+    (looked c.args.self.now w at.0 own (None, w.chunks, w.rest) c.requires.walk c.requires.passed c.requires.in_table at.1
+    (subst (λ (o : Option ℕ). IsAlone o w.chunks w.chunks w.rest) (sym c.in_default-own-2.is) (refl, nothing))
+    (none.1 w.chunks w.rest))
