@@ -557,14 +557,14 @@ module _ {M : Type 1} {𝓤 : Ura M} (𝓛 : Logic 𝓤) (R : RattleType) (L : L
       use3 𝓛 (‵ (Shared.own_val s' vs)) (turns_shared so.0 s' y vs (sym so.1)) $
       nothing ! $ fpack ! (Typed Row.mir vs) (λ _. ftrue) typed $ fjoin ! $ now ! $ done !))))
 
-  abbrev pub Given : TableView → Val → Plain.Denot → SProp 𝓤
-  Given s v c =
-      guard 𝓤 (IsOwned (record { contents = c; reserved = s.reserved }))
+  abbrev pub Given : TableView → Val → Val → Plain.Denot → SProp 𝓤
+  Given s v u c =
+      guard 𝓤 (IsOwned (record { contents = c; reserved = s.reserved }) × (u ≡ vint w64 s.reserved))
       (⟦ Plain.own_val c (v ∷ []) ⟧ ∗ ⟦ book_owns R s.sharing c ⟧)
 
-  -- the end of a sharing: the pointers, and what is told of all slots
+  -- the end of a sharing: the pointers, the number, and what is told of all slots
   pub takes_pointers : (s : TableView) (v u : Val)
-      → ⟦ Row.own_val s (vstruct (vcons v (vcons u vnil)) ∷ []) ⟧ ⊢ H.⇛ (ex 𝓤 (Given s v))
+      → ⟦ Row.own_val s (vstruct (vcons v (vcons u vnil)) ∷ []) ⟧ ⊢ H.⇛ (ex 𝓤 (Given s v u))
   takes_pointers s v u =
       let vs : List Val = vstruct (vcons v (vcons u vnil)) ∷ [] in
       qed 𝓛 (‵ (Row.own_val s vs) ∷ []) ∵ updating ! $ fsplit ! $ move ! (1 ∷ []) $
@@ -584,13 +584,18 @@ module _ {M : Type 1} {𝓤 : Ura M} (𝓛 : Logic 𝓤) (R : RattleType) (L : L
       let same : v ≡ got.0 = cc in
       let kept : h.0.reserved ≡ s.reserved = ap (λ (o : Owned R.Denot). o.reserved) h.1.0 ∙ so.1 in
       rewrite ! 0 (λ (ws : List Val). ‵ (Plain.own_val c ws)) (got.1 ∙ sym (ap (λ (x : Val). x ∷ []) same)) refl $
-      move ! (3 ∷ 0 ∷ []) $
+      move ! (1 ∷ []) $ fsplit ! $ fsplit ! $ feq_l ! (λ number.
+      let all : vs ≡ vstruct (vcons got.0 (vcons (vint w64 h.0.reserved) vnil)) ∷ [] =
+      both ∙ ap (λ (ws : List Val). vstruct (of_list ((got.0 ∷ []) ++ (ws ++ []))) ∷ []) number in
+      let last : u ≡ vint w64 h.0.reserved = cc in
+      -- [the number's bound; nothing; the pointers; nothing; what is told; what they show; a fact]
+      move ! (4 ∷ 2 ∷ []) $
       rewrite ! 0 (λ (z : Contents R.Denot). ‵ (rows_telling R s.sharing 0 z.rows))
       (ap (λ (o : Owned R.Denot). o.contents) (sym h.1.0)) refl $
       use1 𝓛 (later (‵ (rows_tell R s.sharing 0 c.rows)))
       (via 𝓤 _ (rows_end 𝓛 R s.sharing 0 c.rows) (basic 𝓛 ⟦ rows_tell R s.sharing 0 c.rows ⟧)) $
       await ! tt $ nothing ! $ fpack ! (IsTable c) (λ _. ftrue) h.1.1.table $ fjoin ! $
       move ! (1 ∷ 0 ∷ []) $
-      now ! $ show ! (Given s v) c $
-      check ! (subst (λ (k : ℕ). IsOwned (record { contents = c; reserved = k })) kept h.1.1) $
-      keep ! (0 ∷ 1 ∷ []) $ done !))))))
+      now ! $ show ! (Given s v u) c $
+      check ! (subst (λ (k : ℕ). IsOwned (record { contents = c; reserved = k })) kept h.1.1, last ∙ ap (vint w64) kept) $
+      keep ! (0 ∷ 1 ∷ []) $ done !)))))))

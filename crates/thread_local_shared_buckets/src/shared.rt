@@ -109,25 +109,22 @@ impl<T> Shared<T> {
         ensures sharing { result.1.sharing ≡ self.sharing }
         ensures contents { result.1.contents ≡ result.0.contents }
     {
-        let reserved = self.reserved();
-        let (pointers, book) = self.into_pointers();
+        let (pointers, reserved, book) = self.into_parts();
         (Buckets::from_parts(pointers, reserved), book)
     }
 
-    /// Gives the pointers back to an owner, with all that was lent while they were shared, and with
-    /// what the slots were published with.
-    fn into_pointers(self) -> (BucketPointers<T>, Book<T>)
-        ensures owned { IsOwned (record { contents = result.0; reserved = self.reserved }) }
-        ensures book { (result.1.sharing ≡ self.sharing) × (result.1.contents ≡ result.0) }
+    /// Gives the pointers and the number of reserved slots back to an owner, with all that was lent
+    /// while they were shared, and with what the slots were published with.
+    fn into_parts(self) -> (BucketPointers<T>, usize, Book<T>)
+        ensures reserved { result.1 ≡ self.reserved }
+        ensures owned { IsOwned (record { contents = result.0; reserved = result.1 }) }
+        ensures book { (result.2.sharing ≡ self.sharing) × (result.2.contents ≡ result.0) }
     {
-        let Self {
-            pointers,
-            reserved: _,
-        } = self;
+        let Self { pointers, reserved } = self;
         let book = Book {
             marker: PhantomData,
         };
-        (pointers, book)
+        (pointers, reserved, book)
     }
 
     /// The same memory as `SharedParts`: what an owner sees as a `BucketPointer` is a
@@ -231,7 +228,7 @@ impl<T: Drop> Drop for Shared<T> {
     // Where the call isn't inlined, the caller copies the pointers once more.
     #[inline(always)]
     fn drop(self) {
-        let (pointers, book) = self.into_pointers();
+        let (pointers, _, book) = self.into_parts();
         drop(book);
         drop(pointers);
     }
