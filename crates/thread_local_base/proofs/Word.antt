@@ -114,7 +114,7 @@ count_ones-counts count word fits =
     ∙ ones-mask_l (λ b. b) (low_bits count word)
 
 -- a bit that isn't set is 0
-bit_at-unset : (word bit : ℕ) → is_set word bit ≡ false → bit_at word bit ≡ 0
+pub bit_at-unset : (word bit : ℕ) → is_set word bit ≡ false → bit_at word bit ≡ 0
 bit_at-unset word bit unset = bit_at-is word bit ∙ ap (λ b. cond b 1 0) unset
 
 -- words with the same bits are equal

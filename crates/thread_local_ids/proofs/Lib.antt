@@ -23,4 +23,5 @@ pub mod FirstElements
 mod FurtherLaws
 pub mod Twice
 mod TwoLent
+mod LowestUnset
 mod Whole

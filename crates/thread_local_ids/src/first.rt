@@ -323,8 +323,16 @@ fn word_with(word: u64, id: u64) -> u64
     requires first { id < 58 }
     ensures { result ≡ word_that_holds word id }
 {
-    let taken = word + (64 << id);
-    if id == word % 64 { taken + 1 } else { taken }
+    let _ = id;
+    // The id's bit by itself, so that the sum waits for no shift by the id.
+    let ids = word >> 6;
+    let lowest = (ids + 1) & !ids;
+    let taken = word + (lowest << 6);
+    if lowest == 1 << (word % 64) {
+        taken + 1
+    } else {
+        taken
+    }
 }
 
 unsafe impl Send for FirstIds {}
