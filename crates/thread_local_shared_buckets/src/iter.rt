@@ -110,7 +110,8 @@ impl<'a, T> Iter<'a, T> {
 }
 
 impl<'a, T> Iter<'a, T> {
-    /// The next value, with what shows that its slot was published with it.
+    /// The next value, with what shows that its slot was published with it. It is that of the lowest
+    /// flag at hand: the own value, if it lies there, and else what was seen with that bit.
     #[inline]
     pub(crate) fn step(&mut self) -> Option<(Witness<T>, &'a T)>
         requires can_go { CanGo T.row self.old }
@@ -128,7 +129,26 @@ impl<'a, T> Iter<'a, T> {
             self.walk.told.in_range();
             return None;
         }
-        let found = self.walk.pass();
+        let bit = self.walk.rest.trailing_zeros() as usize;
+        self.walk.rest = without_first(self.walk.rest);
+        let index = (self.walk.chunks - 1) * 64 + bit;
+        self.walk.raw.index = index + 1;
+        self.walk.raw.yielded += 1;
+        let here = match &self.walk.own {
+            Some(own) => own.thread.bucket == self.walk.raw.bucket && own.thread.index == index,
+            None => false,
+        };
+        let found = if here {
+            match self.walk.own.take() {
+                Some(own) => (own.witness, own.value),
+                None => unreachable!(),
+            }
+        } else {
+            match &self.walk.seen {
+                Some(seen) => seen.give(bit),
+                None => unreachable!(),
+            }
+        };
         self.walk.told.list().agrees(&found.0);
         Some(found)
     }

@@ -1,15 +1,13 @@
-//! One call of a walk: it gives the value of the lowest flag at hand. Where no flag is at hand, it
-//! loads the next words of flags first, until one has a flag that is set.
+//! Where a walk is, and how it looks on where no flag is at hand: it loads the next words of flags,
+//! until one has a flag that is set.
 ghost use Rattle.std.specs.Prelude.{◌≡◌, ◌<◌};
 ghost use Rattle.thread_local_base.specs.Judged.{Shareable};
-ghost use Rattle.thread_local_ids.specs.TokenLists.{AllOf};
-ghost use Rattle.thread_local_shared_buckets.specs.Positions.{IsToldAt, YieldsFrom, Stops};
 ghost use Rattle.thread_local_shared_buckets.specs.AtHand.{IsWalk, LooksIn, Reaches};
 
 use crate::shared::Shared;
 use crate::{Row, Seen};
 use thread_local_base::{BUCKETS, Thread, bucket_size};
-use thread_local_buckets::{RawIter, flag_word_at, take_first, without_first};
+use thread_local_buckets::{RawIter, flag_word_at, take_first};
 use thread_local_ids::{Told, Witness};
 
 /// The walker's own value, the place of its id, and what shows that its slot was published with it.
@@ -45,44 +43,6 @@ pub(crate) struct Walk<'a, T> {
 }
 
 impl<'a, T> Walk<'a, T> {
-    /// Gives the value of the lowest flag at hand: the own value, if it lies there, and else what was
-    /// seen with that bit.
-    #[inline]
-    pub(crate) fn pass(&mut self) -> (Witness<T>, &'a T)
-        requires walk { IsWalk self.old }
-        requires some { 0 < self.old.rest }
-        ensures walk { IsWalk self.new }
-        ensures sharing { self.new.buckets.now ≡ self.old.buckets.now }
-        ensures gives { YieldsFrom self.old.raw self.old.own result.1.now self.new.raw self.new.own }
-        ensures told { IsToldAt self.old.buckets.now.sharing self.new.raw result }
-        ensures same { self.new.told ≡ self.old.told }
-        ensures stops { AllOf
-            self.old.buckets.now.sharing
-            (λ p. Stops self.old.raw self.new.raw p.id)
-            self.old.told }
-    {
-        let bit = self.rest.trailing_zeros() as usize;
-        self.rest = without_first(self.rest);
-        let index = (self.chunks - 1) * 64 + bit;
-        self.raw.index = index + 1;
-        self.raw.yielded += 1;
-        let here = match &self.own {
-            Some(own) => own.thread.bucket == self.raw.bucket && own.thread.index == index,
-            None => false,
-        };
-        if here {
-            match self.own.take() {
-                Some(own) => (own.witness, own.value),
-                None => unreachable!(),
-            }
-        } else {
-            match &self.seen {
-                Some(seen) => seen.give(bit),
-                None => unreachable!(),
-            }
-        }
-    }
-
     /// Looks on in the bucket that the walk is in, at one chunk after another, until one has a flag
     /// that is set or the own slot. Each look is one atomic load. It loads the bucket's pointer where
     /// it hasn't found the bucket yet.

@@ -1,19 +1,28 @@
-use Rattle.std.proofs.Common.{◌≡◌, ◌∙◌, ℕ, Bool, List, Option, Some, is_some, option_map, refl, ap, sym, subst}
+use Rattle.std.proofs.Common.{◌≡◌, ◌∙◌, ◌<◌, ◌≤◌, ◌^◌, ℕ, Bool, true, false, List, Option, Some, IfSome, is_some, option_map, refl, ap, sym, subst, arith}
+use Rattle.std.specs.Prelude.{MatchBool}
+use Rattle.std.specs.Int.{w64, trailing_zeros}
+use Rattle.std.proofs.lemmas.Bool.{ne_eqb}
 use Rattle.thread_local_ids.specs.TokenLists.{AllOf}
 use Rattle.thread_local_ids.specs.Views.{TokenView}
 use Rattle.thread_local_shared_buckets.specs.TableView.{TableView}
 use Rattle.thread_local_shared_buckets.specs.declared.iter.Iter.TheInside.{Inside}
+use Rattle.thread_local_shared_buckets.specs.declared.seen.Seen.{Seen}
 use Rattle.thread_local_shared_buckets.specs.declared.steps.Own.{Own}
 use Rattle.thread_local_shared_buckets.specs.declared.steps.Walk.{Walk}
-use Rattle.thread_local_shared_buckets.specs.AtHand.{IsWalk, Comes}
-use Rattle.thread_local_shared_buckets.specs.Positions.{resting, owed, Item, IsToldAt, Stops, YieldsFrom}
+use Rattle.thread_local_shared_buckets.specs.AtHand.{IsWalk, Comes, slot_of, IsSetIn, IsGivenBy}
+use Rattle.thread_local_shared_buckets.specs.Positions.{resting, owed, Item, IsToldAt, Stops, YieldsFrom, is_at}
 use Rattle.thread_local_shared_buckets.specs.Walks.{WalkView, Goes}
 use Rattle.thread_local_shared_buckets.proofs.AtHandLaws.{comes_nowhere}
-use Rattle.thread_local_shared_buckets.proofs.ToldLaws.{moved, meets_some}
+use Rattle.thread_local_shared_buckets.proofs.OwnLaws.{at_if, not_at}
+use Rattle.thread_local_shared_buckets.proofs.PassLaws.{near, lowest_of, set_lowest, after_pass, Passed, passed_own, passed_seen}
+use Rattle.thread_local_shared_buckets.proofs.ToldLaws.{moved, meets_some, stops}
 use Rattle.thread_local_shared_buckets.proofs.WalkLaws.{gives_later, fits}
 use Rattle.thread_local_shared_buckets.proofs.iter.Iter.step.Goals as goal
+use Rattle.thread_local_shared_buckets.proofs.iter.Iter.step.Goals.{Joined-else-self-eq0, Joined-self-2, Joined-here}
 use Rattle.thread_local_shared_buckets.proofs.iter.Iter.step.Goals.{else-self-eq0-via-then-self-eq0+else-not-reach}
 use Rattle.thread_local_shared_buckets.proofs.iter.Iter.step.Goals.{else-self-eq0-via-else-self-eq0}
+use Rattle.thread_local_shared_buckets.proofs.iter.Iter.step.Goals.{in-Some-own+then-own-self, in-Some-own+else-own-self, in-None}
+use Rattle.thread_local_shared_buckets.proofs.iter.Iter.step.Goals.{then-here+in-Some-take, else-here+in-Some-seen}
 
 module _ {V : Type 0} where
   -- what contracts see of a walk, which was shown that threads may share the values, or wasn't
@@ -52,22 +61,176 @@ module _ {V : Type 0} where
             (subst (λ (o : Option ℕ). IsToldAt o to.raw x) named told) (subst (Agrees x) (kept ∙ comes.told) agrees);
       }
 
-  -- the walk looked on, or a flag was at hand
-  abbrev ComesTo : Inside V → Inside V → Type 0
-  ComesTo from met = Comes from.walk met.walk × (met.shown ≡ from.shown)
+  -- the walk looked on, or a flag was at hand: one is now
+  record HasCome (from met : Inside V) : Type 0 where
+    pub walk : IsWalk met.walk
+    pub some : 0 < met.walk.rest
+    pub comes : Comes from.walk met.walk
+    pub shown : met.shown ≡ from.shown
+
+  -- the lowest flag at hand
+  abbrev low_of : Walk V → ℕ
+  low_of w = trailing_zeros w64 w.rest
+
+  -- the walk gave the value of that flag
+  record HasGiven (met to : Inside V) (x : Item V) : Type 0 where
+    pub passed : Passed met.walk x to.walk
+    pub buckets : to.walk.buckets.now ≡ met.walk.buckets.now
+    pub told : to.walk.told ≡ met.walk.told
+    pub shown : to.shown ≡ met.shown
+    pub stops : AllOf met.walk.buckets.now.sharing (λ p. Stops met.walk.raw to.walk.raw p.id) met.walk.told
+
+  -- where that is the own value, or the walk has seen it
+  gave : (met : Inside V) (rest : ℕ) (left : Option (Own V)) (x : Item V) → IsWalk met.walk → met.walk.rest < 2 ^ 64 → 0 < met.walk.rest
+      → Passed met.walk x (after_pass met.walk (low_of met.walk) rest left)
+      → HasGiven met (record { walk = after_pass met.walk (low_of met.walk) rest left; shown = met.shown }) x
+  gave met rest left x walk fits some passed = record {
+    passed = passed;
+    buckets = refl;
+    told = refl;
+    shown = refl;
+    stops = stops met.walk (low_of met.walk) walk (lowest_of met.walk fits some);
+  }
+
+come_to : (g : _) (c : Joined-else-self-eq0 g) → HasCome c.self.inside c.else-self-eq0.self-inside
+come_to g c =
+    let from = c.self.inside in
+    elim c.else-self-eq0.branch [
+      | else-self-eq0-via-then-self-eq0+else-not-reach x ↦
+          let reached = x.reach.ensures in
+          subst (HasCome from) (sym x.self-inside-is) (record {
+            walk = reached.walk;
+            some = subst (λ (b : Bool). MatchBool b (0 < x.reach.new.self.rest) (63 ≤ x.reach.new.self.raw.bucket)) x.if-not-reach.false reached.by;
+            comes = reached.comes;
+            shown = refl;
+          })
+      | else-self-eq0-via-else-self-eq0 x ↦
+          subst (HasCome from) (sym x.self-inside-is) (record {
+            walk = c.self.invariant;
+            some = omega (arith, x.if-self-eq0.false);
+            comes = comes_nowhere from.walk;
+            shown = refl;
+          })
+    ]
+
+pub overflow_sub-index : goal.overflow_sub-index
+overflow_sub-index g c =
+    let come = come_to g (goal.at.overflow_sub-index g c).Joined-else-self-eq0 in
+    let at = near c.else-self-eq0.self-inside.walk come.walk (omega arith) come.some in omega (arith, at.some)
+
+pub overflow_mul-index : goal.overflow_mul-index
+overflow_mul-index g c =
+    let come = come_to g (goal.at.overflow_mul-index g c).Joined-else-self-eq0 in
+    let at = near c.else-self-eq0.self-inside.walk come.walk (omega arith) come.some in omega (arith, at.slot)
+
+pub overflow_add-index : goal.overflow_add-index
+overflow_add-index g c =
+    let come = come_to g (goal.at.overflow_add-index g c).Joined-else-self-eq0 in
+    let at = near c.else-self-eq0.self-inside.walk come.walk (omega arith) come.some in omega (arith, at.slot)
+
+pub overflow_add-self : goal.overflow_add-self
+overflow_add-self g c =
+    let come = come_to g (goal.at.overflow_add-self g c).Joined-else-self-eq0 in
+    let at = near c.else-self-eq0.self-inside.walk come.walk (omega arith) come.some in omega (arith, at.slot)
+
+pub overflow_add-self-2 : goal.overflow_add-self-2
+overflow_add-self-2 g c =
+    let come = come_to g (goal.at.overflow_add-self-2 g c).Joined-else-self-eq0 in
+    let at = near c.else-self-eq0.self-inside.walk come.walk (omega arith) come.some in omega (arith, at.few)
+
+-- whether the own value lies at the lowest flag
+tested : (g : _) (c : Joined-self-2 g)
+    → let w = c.else-self-eq0.self-inside.walk in c.match-self-2.here ≡ is_at w.own w.raw.bucket (slot_of w (low_of w))
+tested g c =
+    let w = c.else-self-eq0.self-inside.walk in
+    let index = slot_of w (low_of w) in
+    elim c.match-self-2.branch [
+      | in-Some-own+then-own-self x ↦ x.here-is ∙ sym (at_if w.own x.in-Some-own.own w.raw.bucket index x.in-Some-own.is x.if-own-self.true)
+      | in-Some-own+else-own-self x ↦
+          x.here-is ∙ ne_eqb x.in-Some-own.own.thread.bucket w.raw.bucket x.if-own-self.false
+          ∙ sym (not_at w.own x.in-Some-own.own w.raw.bucket index x.in-Some-own.is x.if-own-self.false)
+      | in-None x ↦ x.here-is ∙ sym (ap (λ (own : Option (Own _)). is_at own w.raw.bucket index) x.in-None.is)
+    ]
+
+-- where it doesn't, the walk saw that flag set
+set_there : (g : _) (c : Joined-self-2 g) → HasCome c.self.inside c.else-self-eq0.self-inside → c.match-self-2.here ≡ false
+    → let w = c.else-self-eq0.self-inside.walk in IsSetIn w.seen (low_of w)
+set_there g c come apart =
+    set_lowest c.else-self-eq0.self-inside.walk come.walk (omega arith) come.some (sym (tested g c) ∙ apart)
+
+pub give-requires-clause-set : goal.give-requires-clause-set
+give-requires-clause-set g c =
+    let at = goal.at.give-requires-clause-set g c in
+    subst (λ (seen : Option (Seen _)). IsSetIn seen (low_of c.else-self-eq0.self-inside.walk)) c.in-Some-seen.is
+    (set_there g at.Joined-self-2 (come_to g at.Joined-else-self-eq0) c.if-here.false)
+
+pub unreachable-requires-in-None-seen : goal.unreachable-requires-in-None-seen
+unreachable-requires-in-None-seen g c =
+    let at = goal.at.unreachable-requires-in-None-seen g c in
+    subst (λ (seen : Option (Seen _)). IsSetIn seen (low_of c.else-self-eq0.self-inside.walk)) c.in-None-seen.is
+    (set_there g at.Joined-self-2 (come_to g at.Joined-else-self-eq0) c.if-here.false)
+
+-- the walk gave its own value, or the value that it saw
+given_here : (g : _) (c : Joined-here g) → HasCome c.self.inside c.else-self-eq0.self-inside
+    → (let w = c.else-self-eq0.self-inside.walk in c.match-self-2.here ≡ is_at w.own w.raw.bucket (slot_of w (low_of w)))
+    → HasGiven c.else-self-eq0.self-inside c.if-here.self-inside c.if-here.found
+given_here g c come test =
+    let met = c.else-self-eq0.self-inside in
+    let w = met.walk in
+    let low = low_of w in
+    let lowest = lowest_of w (omega arith) come.some in
+    let rest = c.without_first-self-inside.result in
+    let cleared = c.without_first-self-inside.ensures.rest low lowest in
+    elim c.if-here.branch [
+      | then-here+in-Some-take x ↦
+          let own = x.in-Some-take.own in
+          let is = sym x.take.ensures.value ∙ x.in-Some-take.is in
+          let at =
+          subst (λ (o : Option (Own _)). is_at o w.raw.bucket (slot_of w low) ≡ true) is (sym test ∙ x.if-here.true) in
+          let left = x.take.new.self in
+          subst (λ (to : Inside _). HasGiven met to c.if-here.found) (sym x.self-inside-is)
+          (subst
+          (λ (found : Item _). HasGiven met (record { walk = after_pass w low rest left; shown = met.shown }) found) (sym x.found-is)
+          (gave met rest left (own.witness, own.value) come.walk (omega arith) come.some
+          (subst
+          (λ (o : Option (Own _)). Passed w (own.witness, own.value) (after_pass w low rest o)) (sym x.take.ensures.after)
+          (passed_own w low rest own (own.witness, own.value) is come.walk lowest cleared at refl refl))))
+      | else-here+in-Some-seen x ↦
+          let told = x.give.ensures.told in
+          subst (λ (to : Inside _). HasGiven met to c.if-here.found) (sym x.self-inside-is)
+          (subst
+          (λ (found : Item _). HasGiven met (record { walk = after_pass w low rest w.own; shown = met.shown }) found) (sym x.found-is)
+          (gave met rest w.own x.give.result come.walk (omega arith) come.some
+          (passed_seen w low rest x.give.result come.walk lowest cleared (sym test ∙ x.if-here.false)
+          (subst (λ (seen : Option (Seen _)). IfSome seen (IsGivenBy low x.give.result)) (sym x.in-Some-seen.is)
+          (record { sharing = told.0; id = told.1; value = told.2 })))))
+    ]
+
+pub invariant_of-self-2 : goal.invariant_of-self-2
+invariant_of-self-2 g c =
+    let at = goal.at.invariant_of-self-2 g c in
+    (given_here g at.Joined-here (come_to g at.Joined-else-self-eq0) (tested g at.Joined-self-2)).passed.walk
 
 pub returns-clause-goes : goal.returns-clause-goes
 returns-clause-goes g c =
+    let at = goal.at.returns-clause-goes g c in
+    let come = come_to g at.Joined-else-self-eq0 in
+    let gives = given_here g at.Joined-here come (tested g at.Joined-self-2) in
     let from = c.self.inside in
     let met = c.else-self-eq0.self-inside in
-    let pass = c.pass-found in
-    let come : ComesTo from met =
-    elim c.else-self-eq0.branch [
-      | else-self-eq0-via-then-self-eq0+else-not-reach x ↦
-          subst (ComesTo from) (sym x.self-inside-is) (x.reach.ensures.comes, refl)
-      | else-self-eq0-via-else-self-eq0 x ↦ subst (ComesTo from) (sym x.self-inside-is) (comes_nowhere from.walk, refl)
-    ] in
-    subst (λ (view : WalkView _). Goes view (Some pass.result.1) (seen pass.new.self (is_some met.shown))) c.self.view_is
-    (given from.walk met.walk pass.new.self pass.result (is_some from.shown) (is_some met.shown) (ap is_some come.1)
-    c.self.invariant come.0 pass.ensures.sharing pass.ensures.gives pass.ensures.told pass.ensures.same pass.ensures.stops
-    (subst (Agrees pass.result) c.list.ensures c.agrees.ensures))
+    let to = c.if-here.self-inside in
+    let found = c.if-here.found in
+    subst (λ (view : WalkView _). Goes view (Some found.1) (seen to.walk (is_some to.shown))) c.self.view_is
+    (given from.walk met.walk to.walk found (is_some from.shown) (is_some to.shown) (ap is_some (gives.shown ∙ come.shown))
+    c.self.invariant come.comes gives.buckets gives.passed.gives gives.passed.told gives.told gives.stops
+    (subst (Agrees found) c.list.ensures c.agrees.ensures))
+
+pub returns-clause-told : goal.returns-clause-told
+returns-clause-told g c =
+    let at = goal.at.returns-clause-told g c in
+    let come = come_to g at.Joined-else-self-eq0 in
+    let told = (given_here g at.Joined-here come (tested g at.Joined-self-2)).passed.told in (
+      told.sharing ∙ ap (λ (t : TableView). t.sharing) come.comes.buckets ∙ ap (λ (view : WalkView _). view.sharing) c.self.view_is,
+      told.id,
+      told.value,
+    )
