@@ -8,12 +8,13 @@ use Rattle.thread_local_shared_buckets.specs.declared.seen.Seen.{Seen}
 use Rattle.thread_local_shared_buckets.specs.declared.row.Row.{Row}
 use Rattle.thread_local_shared_buckets.specs.declared.steps.Own.{Own}
 use Rattle.thread_local_shared_buckets.specs.declared.steps.Walk.{Walk}
-use Rattle.thread_local_shared_buckets.specs.Positions.{lies_in, is_at, own_index}
+use Rattle.thread_local_shared_buckets.specs.Positions.{lies_in, is_at}
 use Rattle.thread_local_shared_buckets.specs.Positions.{IsAhead}
-use Rattle.thread_local_shared_buckets.specs.AtHand.{LiesOutside, IsRead, IsAlone, LooksAt, HasLookedOn, IsRowOf, slot_of}
-use Rattle.thread_local_shared_buckets.specs.AtHand.{OwnIsAtHand, IsWalk, LooksIn, IsMarked, IsFoundAt, FindsTokens}
+use Rattle.thread_local_shared_buckets.specs.AtHand.{IsRowOf, slot_of}
+use Rattle.thread_local_shared_buckets.specs.AtHand.{OwnIsAtHand, IsWalk, LooksIn, IsMarked}
 use Rattle.thread_local_ids.specs.TokenLists.{AllOf, NoneIn}
 use Rattle.thread_local_shared_buckets.specs.Positions.{IsBehind}
+use Rattle.thread_local_shared_buckets.proofs.Findings.{own_index, LiesOutside, IsRead, IsAlone, LooksAt, HasLookedOn, IsFoundAt, FindsTokens}
 use Rattle.thread_local_shared_buckets.proofs.ToldLaws.{found_all, marked_on, all_behind}
 use Rattle.thread_local_shared_buckets.proofs.BitLaws.{added_set, both_if, both_so, none_set, was_set}
 use Rattle.thread_local_shared_buckets.proofs.OwnLaws.{at_index, at_own_index, elsewhere, index_of_own}

@@ -3,7 +3,8 @@ use Rattle.std.proofs.Common.{◌≡◌, ◌≢◌, ℕ, Bool, true, false, cond
 use Rattle.std.proofs.Common.{Option, None, Some, refl, ap, sym, ◌∙◌}
 use Rattle.std.proofs.lemmas.Bool.{eqb-true, eq-eqb, ne_eqb}
 use Rattle.thread_local_shared_buckets.specs.declared.steps.Own.{Own}
-use Rattle.thread_local_shared_buckets.specs.Positions.{lies_in, is_at, own_index}
+use Rattle.thread_local_shared_buckets.specs.Positions.{lies_in, is_at}
+use Rattle.thread_local_shared_buckets.proofs.Findings.{own_index}
 use Rattle.thread_local_shared_buckets.proofs.BitLaws.{both_so, by_test}
 
 module _ {V : Type 0} where

@@ -1,80 +1,24 @@
 -- What a walk has at hand: the flags that it loaded whose values it hasn't given.
-use Rattle.std.specs.Prelude.{◌≡◌, ℕ, ◌≢◌, ◌+◌, ◌-◌, ◌*◌, ◌/◌, ◌%◌, ◌^◌, ◌<◌, ◌≤◌, true, false, Option, None}
-use Rattle.std.specs.Prelude.{Some, IfSome, MatchOption, Bool, MatchBool, List}
-use Rattle.thread_local_base.specs.Bits.{is_set, IsWordBut}
+use Rattle.std.specs.Prelude.{◌≡◌, ℕ, ◌+◌, ◌-◌, ◌*◌, ◌^◌, ◌<◌, ◌≤◌, true, false, Option, None}
+use Rattle.std.specs.Prelude.{Some, IfSome, Bool, MatchBool, List}
+use Rattle.thread_local_base.specs.Bits.{is_set}
 use Rattle.thread_local_base.specs.Place.{id_at}
-use Rattle.thread_local_shared_buckets.specs.Shared.{BucketView}
 use Rattle.thread_local_shared_buckets.specs.declared.row.Row.{Row}
 use Rattle.thread_local_shared_buckets.specs.declared.seen.Seen.{Seen}
 use Rattle.thread_local_shared_buckets.specs.declared.steps.Own.{Own}
 use Rattle.thread_local_shared_buckets.specs.declared.steps.Walk.{Walk}
 use Rattle.thread_local_ids.specs.TokenLists.{AllOf, NoneIn}
 use Rattle.thread_local_ids.specs.Views.{TokenView}
-use Rattle.thread_local_shared_buckets.specs.Positions.{Item, resting, lies_in, is_at, OwnIsTold, IsSharedWalk}
+use Rattle.thread_local_shared_buckets.specs.Positions.{resting, lies_in, is_at, OwnIsTold, IsSharedWalk}
 use Rattle.thread_local_shared_buckets.specs.Positions.{Skips, IsBehind}
 use Rattle.thread_local_shared_buckets.specs.Steps.{Leads}
 
--- the own slot, if it has an index in the bucket, lies in another chunk
-abbrev pub LiesOutside : Option ℕ → ℕ → Type 0
-LiesOutside own chunk = IfSome own (λ index. index / 64 ≢ chunk)
-
--- no look found a flag: the own slot's flag is at hand, or nothing is
-abbrev pub IsAlone : Option ℕ → ℕ → ℕ → ℕ → Type 0
-IsAlone own from chunks flags =
-    MatchOption own ((chunks ≡ from) × (flags ≡ 0))
-    (λ index. (chunks ≡ index / 64 + 1) × IsWordBut flags 0 (index % 64) true)
-
 module _ {V : Type 0} where
-  -- 1. What a look saw.
-
-  -- the flag of the slot with this bit was set
-  abbrev pub IsSetIn : Option (Seen V) → ℕ → Type 0
-  IsSetIn None bit = ⊥
-  IsSetIn (Some seen) bit = is_set seen.flags bit ≡ true
-
-  -- it gave this value of the slot with this bit
-  pub record IsGivenBy (bit : ℕ) (found : Item V) (seen : Seen V) : Type 0 where
-    pub sharing : found.0.sharing ≡ seen.of.sharing
-    pub id : found.0.id ≡ id_at seen.of.bucket (seen.chunk * 64 + bit)
-    pub value : found.0.value ≡ found.1.now
-
-  -- A look at a chunk of this bucket, the chunk `from` or a later one, after which so many chunks were
-  -- seen. The walk takes these flags from it: those that are set, and that of the own slot if its
-  -- index `own` lies in the chunk. The own slot lies in none of the chunks before, from `from` on.
-  pub record IsRead (d : BucketView) (own : Option ℕ) (from : ℕ) (seen : Seen V) (chunks flags : ℕ) : Type 0 where
-    pub of : seen.of ≡ d
-    pub later : from ≤ seen.chunk
-    pub chunk : chunks ≡ seen.chunk + 1
-    pub some : 0 < flags
-    pub inside : (bit : ℕ) → bit < 64 → is_set seen.flags bit ≡ true → seen.chunk * 64 + bit < 2 ^ d.bucket
-    pub adds : IfSome own (λ index. index / 64 ≡ seen.chunk → IsWordBut flags seen.flags (index % 64) true)
-    pub other : LiesOutside own seen.chunk → flags ≡ seen.flags
-    pub none_before : (chunk : ℕ) → from ≤ chunk → chunk < seen.chunk → LiesOutside own chunk
-
-  -- what looks at the chunks of a row find, from the chunk `from` on
-  abbrev pub LooksAt : Option (Row V) → Option ℕ → ℕ → Seen V → ℕ → ℕ → Type 0
-  LooksAt None own from seen chunks flags = ⊥
-  LooksAt (Some row) own from seen chunks flags = IsRead row.of own from seen chunks flags
-
-  abbrev pub HasLookedOn : Option (Row V) → Option ℕ → ℕ → Option (Seen V) × ℕ × ℕ → Type 0
-  HasLookedOn row own from x = MatchOption x.0 (IsAlone own from x.1 x.2) (λ seen. LooksAt row own from seen x.1 x.2)
-
-  -- where looks at a bucket's chunks from this one on found a flag, the id's flag is at hand, if the id
-  -- lies in the chunks that were looked at; where none did, it doesn't lie in these chunks
-  abbrev pub IsFoundAt : ℕ → ℕ → Option (Seen V) × ℕ × ℕ → ℕ → Type 0
-  IsFoundAt bucket from x id =
-      (i : ℕ) → i < 2 ^ bucket → id ≡ id_at bucket i → from * 64 ≤ i
-      → MatchOption x.0 ⊥ (λ _. i < x.1 * 64 → ((x.1 - 1) * 64 ≤ i) × (is_set x.2 (i - (x.1 - 1) * 64) ≡ true))
-
-  -- so it is with the id of each of these tokens that is of the row's sharing
-  abbrev pub FindsTokens : Option (Row V) → ℕ → List (TokenView V) → Option (Seen V) × ℕ × ℕ → Type 0
-  FindsTokens row from tokens x = IfSome row (λ r. AllOf r.of.sharing (λ p. IsFoundAt r.of.bucket from x p.id) tokens)
+  -- 1. What the walk has at hand.
 
   -- the row is that of this bucket, in this sharing
   abbrev pub IsRowOf : Option ℕ → ℕ → Row V → Type 0
   IsRowOf sharing bucket row = (row.of.bucket ≡ bucket) × (row.of.sharing ≡ sharing)
-
-  -- 2. What the walk has at hand.
 
   -- the index of a slot, by its bit in the word at hand
   abbrev pub slot_of : Walk V → ℕ → ℕ
@@ -130,7 +74,7 @@ module _ {V : Type 0} where
     pub marked : AllOf w.buckets.now.sharing (λ p. IsMarked w p.id) w.told
     pub left : AreLeft w.buckets.now.sharing w.told w.own w.raw.bucket w.left
 
-  -- 3. What single steps of a call do.
+  -- 2. What single steps of a call do.
 
   -- the walk has looked on in its bucket; where no flag is at hand then, the own value lies elsewhere
   pub record LooksIn (w to : Walk V) : Type 0 where

@@ -1,13 +1,13 @@
 -- Where a walk is, by what its code keeps, as the model's cursor.
-use Rattle.std.specs.Prelude.{◌≡◌, ℕ, suc, ◌+◌, ◌^◌, ◌≤◌, ◌<◌, ◌==◌, ◌⊎◌, Bool, false, Option, Some, None, IfSome}
-use Rattle.std.specs.Prelude.{option_map, if◌then◌else◌}
+use Rattle.std.specs.Prelude.{◌≡◌, ℕ, ◌+◌, ◌^◌, ◌≤◌, ◌<◌, ◌==◌, ◌⊎◌, Bool, false, Option, Some, None, IfSome}
+use Rattle.std.specs.Prelude.{if◌then◌else◌}
 use Rattle.thread_local_base.specs.Place.{id_at}
-use Rattle.thread_local_base.specs.Cursor.{Cursor, cursor_id, at_place}
+use Rattle.thread_local_base.specs.Cursor.{Cursor, at_place}
 use denote.Ref.{Bor}
 use Rattle.thread_local_ids.specs.declared.witness.Witness.{Witness}
 use Rattle.thread_local_buckets.specs.declared.cursor.RawIter.{RawIter}
 use Rattle.thread_local_shared_buckets.specs.declared.steps.Own.{Own}
-use Rattle.thread_local_shared_buckets.specs.Walks.{Owed, Yields}
+use Rattle.thread_local_shared_buckets.specs.Walks.{Owed}
 
 -- the cursor at the walk's place, before a load of the bucket's pointer
 abbrev pub loading : RawIter → Cursor
@@ -29,10 +29,6 @@ past raw index = record { yielded = raw.yielded + 1; bucket = raw.bucket; bucket
 -- the walk goes from one place to another, and an id doesn't lie between
 abbrev pub Skips : RawIter → RawIter → ℕ → Type 0
 Skips from to id = (id < next_id from) ⊎ (next_id to ≤ id)
-
--- the walk goes past one slot, and passes an id only if it is that slot's
-abbrev pub Stops : RawIter → RawIter → ℕ → Type 0
-Stops from to id = next_id from ≤ id → id < next_id to → next_id to ≡ suc id
 
 -- an id that lies in the walk's bucket lies behind the walk
 abbrev pub IsBehind : RawIter → ℕ → Type 0
@@ -61,24 +57,12 @@ module _ {V : Type 0} where
   is_at None bucket index = false
   is_at (Some own) bucket index = if own.thread.bucket == bucket then own.thread.index == index else false
 
-  -- its index in a bucket, if it lies there
-  abbrev pub own_index : Option (Own V) → ℕ → Option ℕ
-  own_index None bucket = None
-  own_index (Some own) bucket = if own.thread.bucket == bucket then Some own.thread.index else None
-
   -- the own value's witness tells of its id that its slot was published with this value, in this
   -- sharing
   pub record OwnIsTold (name : Option ℕ) (own : Own V) : Type 0 where
     pub sharing : own.witness.sharing ≡ name
     pub id : own.witness.id ≡ id_at own.thread.bucket own.thread.index
     pub value : own.witness.value ≡ own.value.now
-
-  -- the witness tells of the id that the walk has just passed that its slot was published with the
-  -- value, in this sharing
-  pub record IsToldAt (name : Option ℕ) (to : RawIter) (found : Item V) : Type 0 where
-    pub sharing : found.0.sharing ≡ name
-    pub id : cursor_id (resting to) ≡ suc found.0.id
-    pub value : found.0.value ≡ found.1.now
 
   -- the walk hasn't passed the own value
   pub record IsAhead (raw : RawIter) (own : Own V) : Type 0 where
@@ -94,8 +78,3 @@ module _ {V : Type 0} where
     pub size : raw.bucket_size ≡ 2 ^ raw.bucket
     pub own_ahead : IfSome own (IsAhead raw)
     pub yielded : raw.yielded ≤ next_id raw
-
-  -- a call that yields a value, from where the walk is to where it is then, with the own value that
-  -- is still to come
-  abbrev pub YieldsFrom : RawIter → Option (Own V) → V → RawIter → Option (Own V) → Type 0
-  YieldsFrom raw own v to left = Yields (resting raw) (option_map owed own) v (resting to) (option_map owed left)

@@ -1,8 +1,7 @@
 -- The search for these takes seconds.
 use Rattle.thread_local_ids.specs.Views.{TokenView}
 use Rattle.thread_local_ids.specs.TokenLists.{NoneIn}
-use Rattle.thread_local_shared_buckets.specs.AtHand.{FindsTokens, HasLookedOn, IsAlone, IsRowOf, IsWalk, LooksIn}
-use Rattle.thread_local_shared_buckets.specs.Positions.{own_index}
+use Rattle.thread_local_shared_buckets.specs.AtHand.{IsRowOf, IsWalk, LooksIn}
 use Rattle.thread_local_shared_buckets.specs.Shared.{BucketView}
 use Rattle.thread_local_shared_buckets.specs.Announcing.{Announcing}
 use Rattle.thread_local_shared_buckets.specs.TableView.{TableView, bucket_view}
@@ -10,6 +9,7 @@ use Rattle.thread_local_shared_buckets.specs.declared.row.Row.{Row}
 use Rattle.thread_local_shared_buckets.specs.declared.seen.Seen.{Seen}
 use Rattle.thread_local_shared_buckets.specs.declared.steps.Own.{Own}
 use Rattle.thread_local_shared_buckets.specs.declared.steps.Walk.{Walk}
+use Rattle.thread_local_shared_buckets.proofs.Findings.{FindsTokens, HasLookedOn, IsAlone, own_index}
 use Rattle.std.proofs.Common.{◌≡◌, ◌∙◌, ◌<◌, ◌*◌, ◌^◌, ◌+◌, ◌/◌, ◌%◌, ℕ, true, false, List, Option, None, Some, IfSome, is_some, not}
 use Rattle.std.proofs.Common.{subst, sym, ap, refl, arith, bit_or, get_or}
 use Rattle.thread_local_shared_buckets.proofs.Lists.{listed_bucket}

@@ -1,6 +1,6 @@
 -- The chunks before this one have no own slot, and no token is of one of their slots.
+use Rattle.thread_local_shared_buckets.proofs.Findings.{LiesOutside}
 use Rattle.std.proofs.Common.{◌≤◌, ◌<◌, ℕ}
-use Rattle.thread_local_shared_buckets.specs.AtHand.{LiesOutside}
 use Rattle.thread_local_shared_buckets.proofs.ToldLaws.{NoneBefore}
 use Rattle.thread_local_shared_buckets.proofs.steps.Walk.look_in.Given as goal
 
