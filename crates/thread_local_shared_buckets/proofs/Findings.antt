@@ -4,14 +4,16 @@ use Rattle.std.specs.Prelude.{◌==◌, MatchOption, if◌then◌else◌}
 use Rattle.thread_local_base.specs.Bits.{is_set, IsWordBut}
 use Rattle.thread_local_base.specs.Cursor.{cursor_id}
 use Rattle.thread_local_base.specs.Place.{id_at}
+use denote.Ref.{Bor}
 use Rattle.thread_local_buckets.specs.declared.cursor.RawIter.{RawIter}
+use Rattle.thread_local_ids.specs.declared.witness.Witness.{Witness}
 use Rattle.thread_local_ids.specs.TokenLists.{AllOf}
 use Rattle.thread_local_ids.specs.Views.{TokenView}
 use Rattle.thread_local_shared_buckets.specs.Shared.{BucketView}
 use Rattle.thread_local_shared_buckets.specs.declared.row.Row.{Row}
 use Rattle.thread_local_shared_buckets.specs.declared.seen.Seen.{Seen}
 use Rattle.thread_local_shared_buckets.specs.declared.steps.Own.{Own}
-use Rattle.thread_local_shared_buckets.specs.Positions.{Item, next_id, owed, resting}
+use Rattle.thread_local_shared_buckets.specs.Positions.{next_id, owed, resting}
 use Rattle.thread_local_shared_buckets.specs.Walks.{Yields}
 
 -- the own slot, if it has an index in the bucket, lies in another chunk
@@ -23,6 +25,10 @@ abbrev pub IsAlone : Option ℕ → ℕ → ℕ → ℕ → Type 0
 IsAlone own from chunks flags =
     MatchOption own ((chunks ≡ from) × (flags ≡ 0))
     (λ index. (chunks ≡ index / 64 + 1) × IsWordBut flags 0 (index % 64) true)
+
+-- what a walk gives: a value, and a witness that its slot was published with it
+abbrev pub Item : Type 0 → Type 0
+Item V = Witness V × Bor V
 
 -- the walk goes past one slot, and passes an id only if it is that slot's
 abbrev pub Stops : RawIter → RawIter → ℕ → Type 0

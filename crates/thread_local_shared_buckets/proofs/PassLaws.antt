@@ -11,11 +11,11 @@ use Rattle.thread_local_buckets.specs.declared.cursor.RawIter.{RawIter}
 use Rattle.thread_local_shared_buckets.specs.declared.steps.Own.{Own}
 use Rattle.thread_local_shared_buckets.specs.declared.steps.Walk.{Walk}
 use Rattle.thread_local_shared_buckets.specs.Walks.{Yields}
-use Rattle.thread_local_shared_buckets.specs.Positions.{resting, past, owed, is_at, Item, OwnIsTold}
+use Rattle.thread_local_shared_buckets.specs.Positions.{resting, past, owed, is_at, OwnIsTold}
 use Rattle.thread_local_shared_buckets.specs.Positions.{IsSharedWalk}
 use Rattle.thread_local_shared_buckets.specs.AtHand.{slot_of, HasSeen, IsAtHand}
 use Rattle.thread_local_shared_buckets.specs.AtHand.{OwnIsAtHand, IsWalk}
-use Rattle.thread_local_shared_buckets.proofs.Findings.{IsToldAt, IsSetIn, IsGivenBy}
+use Rattle.thread_local_shared_buckets.proofs.Findings.{Item, IsToldAt, IsSetIn, IsGivenBy}
 use Rattle.thread_local_shared_buckets.proofs.MoveLaws.{resting-id}
 use Rattle.thread_local_shared_buckets.proofs.WalkLaws.{few, IsBefore, given_found, Gave, gave_own}
 use Rattle.thread_local_shared_buckets.proofs.ToldLaws.{marked_later}

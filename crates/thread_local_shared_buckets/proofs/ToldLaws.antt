@@ -15,9 +15,9 @@ use Rattle.thread_local_shared_buckets.specs.declared.seen.Seen.{Seen}
 use Rattle.thread_local_shared_buckets.specs.declared.steps.Own.{Own}
 use Rattle.thread_local_shared_buckets.specs.declared.steps.Walk.{Walk}
 use Rattle.thread_local_shared_buckets.specs.Walks.{Meets}
-use Rattle.thread_local_shared_buckets.specs.Positions.{Item, resting, past, next_id, Skips, IsBehind}
+use Rattle.thread_local_shared_buckets.specs.Positions.{resting, past, next_id, Skips, IsBehind}
 use Rattle.thread_local_shared_buckets.specs.AtHand.{IsRowOf, slot_of, IsMarked, IsWalk}
-use Rattle.thread_local_shared_buckets.proofs.Findings.{Stops, IsToldAt, IsFoundAt, FindsTokens}
+use Rattle.thread_local_shared_buckets.proofs.Findings.{Item, Stops, IsToldAt, IsFoundAt, FindsTokens}
 use Rattle.thread_local_shared_buckets.proofs.BitLaws.{none_set, stays_set}
 use Rattle.thread_local_shared_buckets.proofs.MoveLaws.{resting-id}
 use Rattle.thread_local_shared_buckets.proofs.WalkLaws.{later_bucket}

@@ -11,9 +11,9 @@ use Rattle.thread_local_shared_buckets.specs.declared.steps.Own.{Own}
 use Rattle.thread_local_shared_buckets.specs.Steps.{Leads}
 use Rattle.thread_local_shared_buckets.specs.Walks.{Owed, YieldsOwn, Yields}
 use Rattle.thread_local_ids.specs.declared.witness.Witness.{Witness}
-use Rattle.thread_local_shared_buckets.specs.Positions.{resting, past, next_id, at_bucket, owed, lies_in, Item, OwnIsTold}
+use Rattle.thread_local_shared_buckets.specs.Positions.{resting, past, next_id, at_bucket, owed, lies_in, OwnIsTold}
 use Rattle.thread_local_shared_buckets.specs.Positions.{IsAhead, IsSharedWalk}
-use Rattle.thread_local_shared_buckets.proofs.Findings.{IsToldAt}
+use Rattle.thread_local_shared_buckets.proofs.Findings.{Item, IsToldAt}
 use Rattle.thread_local_shared_buckets.proofs.StepLaws.{looking_at, leads_then, leads_on}
 use Rattle.thread_local_shared_buckets.proofs.MoveLaws.{resting-id, resting-fits, rests_behind, leads_in}
 

@@ -3,8 +3,6 @@ use Rattle.std.specs.Prelude.{◌≡◌, ℕ, ◌+◌, ◌^◌, ◌≤◌, ◌<�
 use Rattle.std.specs.Prelude.{if◌then◌else◌}
 use Rattle.thread_local_base.specs.Place.{id_at}
 use Rattle.thread_local_base.specs.Cursor.{Cursor, at_place}
-use denote.Ref.{Bor}
-use Rattle.thread_local_ids.specs.declared.witness.Witness.{Witness}
 use Rattle.thread_local_buckets.specs.declared.cursor.RawIter.{RawIter}
 use Rattle.thread_local_shared_buckets.specs.declared.steps.Own.{Own}
 use Rattle.thread_local_shared_buckets.specs.Walks.{Owed}
@@ -37,10 +35,6 @@ IsBehind raw id = (i : ℕ) → i < 2 ^ raw.bucket → id ≡ id_at raw.bucket i
 -- the walk at the first slot of this bucket, which has so many slots
 abbrev pub at_bucket : RawIter → ℕ → ℕ → RawIter
 at_bucket raw bucket size = record { yielded = raw.yielded; bucket = bucket; bucket_size = size; index = 0 }
-
--- what a walk gives: a value, and a witness that its slot was published with it
-abbrev pub Item : Type 0 → Type 0
-Item V = Witness V × Bor V
 
 module _ {V : Type 0} where
   -- an own value with its id

@@ -10,9 +10,9 @@ use Rattle.thread_local_shared_buckets.specs.declared.seen.Seen.{Seen}
 use Rattle.thread_local_shared_buckets.specs.declared.steps.Own.{Own}
 use Rattle.thread_local_shared_buckets.specs.declared.steps.Walk.{Walk}
 use Rattle.thread_local_shared_buckets.specs.AtHand.{IsWalk, Comes, slot_of}
-use Rattle.thread_local_shared_buckets.specs.Positions.{resting, owed, Item, is_at}
+use Rattle.thread_local_shared_buckets.specs.Positions.{resting, owed, is_at}
 use Rattle.thread_local_shared_buckets.specs.Walks.{WalkView, Goes}
-use Rattle.thread_local_shared_buckets.proofs.Findings.{IsSetIn, IsGivenBy, IsToldAt, Stops, YieldsFrom}
+use Rattle.thread_local_shared_buckets.proofs.Findings.{Item, IsSetIn, IsGivenBy, IsToldAt, Stops, YieldsFrom}
 use Rattle.thread_local_shared_buckets.proofs.AtHandLaws.{comes_nowhere}
 use Rattle.thread_local_shared_buckets.proofs.OwnLaws.{at_if, not_at}
 use Rattle.thread_local_shared_buckets.proofs.PassLaws.{near, lowest_of, set_lowest, after_pass, Passed, passed_own, passed_seen}
