@@ -1,5 +1,6 @@
 //! How many ids of a table were held at once. No call does anything at run time.
 ghost use Rattle.std.specs.Prelude.{◌≡◌, ◌+◌, ◌≤◌, ℕ, length, []};
+ghost use denote.Sharing.{said};
 ghost use Rattle.thread_local_base.specs.IdMoves.{held_after};
 ghost use Rattle.thread_local_ids.specs.Rights.{reached_owns, taken_id};
 
@@ -16,6 +17,8 @@ pub struct Reached {
 
 impl Model for Reached {
     ghost also_owns = { λ r. reached_owns r.table r.ids };
+
+    ghost also_shares = { λ r _ κ. said (reached_owns r.table r.ids) κ };
 }
 
 impl Tenure {

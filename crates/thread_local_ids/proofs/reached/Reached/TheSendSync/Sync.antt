@@ -1,7 +1,7 @@
 -- Threads may share it: its element names none.
-use denote.Param.Send.{IsSync, part_keyless}
-use Rattle.thread_local_ids.proofs.reached.Reached.TheSendSync.Send.{send}
+use denote.Param.Send.{IsSync}
+use Rattle.thread_local_ids.proofs.ReachedElements.{reached_keyless}
 use Rattle.thread_local_ids.specs.contracts.reached.Reached.{the_row}
 
 pub sync : IsSync the_row
-sync = record { shared = λ d b o κ q. part_keyless the_row send q d b o }
+sync = record { shared = λ d b o κ. ((((tt, λ _. tt), tt), λ _. tt), reached_keyless d.table d.ids) }
