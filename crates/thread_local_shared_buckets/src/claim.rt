@@ -30,10 +30,12 @@ pub struct Claim<'a, T> {
     held: HeldId,
     /// The word in which the claim announces its bucket before it installs one.
     announcements: &'a Announcements,
+    /// That all ids up to its own were held at once, which an install shows.
+    reached: Reached,
 }
 
 impl<'a, T> Model for Claim<'a, T> {
-    ghost use Rattle.std.specs.Prelude.{◌≡◌};
+    ghost use Rattle.std.specs.Prelude.{◌≡◌, ◌<◌};
     ghost use Rattle.thread_local_base.specs.Place.{index_of};
     ghost use Rattle.thread_local_shared_buckets.specs.Announcing.{BeginsWithFirst};
     ghost use Rattle.thread_local_shared_buckets.specs.Known.{HasLooked};
@@ -58,7 +60,9 @@ impl<'a, T> Model for Claim<'a, T> {
         × HasLooked c.slot.learnt
         × (c.held.mark.table ≡ c.slot.table)
         × (c.slot.word ≡ c.announcements.now)
-        × BeginsWithFirst c.announcements.now };
+        × BeginsWithFirst c.announcements.now
+        × (c.reached.table ≡ c.slot.table)
+        × (c.held.id < c.reached.ids) };
 }
 
 impl<'a, T> Claim<'a, T> {
@@ -72,12 +76,14 @@ impl<'a, T> Claim<'a, T> {
         thread: Thread,
         held: HeldId,
         right: Right,
+        reached: Reached,
     ) -> Claim<'a, T>
         requires word { (bucket.now.word ≡ announcements.now) × BeginsWithFirst announcements.now }
         requires table { (right.table ≡ bucket.now.table) × (held.mark.table ≡ bucket.now.table) }
         requires id { right.id ≡ held.id }
         requires place { IsPlaceOf thread.bucket thread.index held.id }
         requires bucket { bucket.now.bucket ≡ thread.bucket }
+        requires reached { (reached.table ≡ bucket.now.table) × (held.id < reached.ids) }
         ensures same_slot { (result.table ≡ right.table)
             × (result.sharing ≡ bucket.now.sharing)
             × (result.id ≡ held.id) }
@@ -92,6 +98,7 @@ impl<'a, T> Claim<'a, T> {
             slot,
             held,
             announcements,
+            reached,
         }
     }
 
@@ -101,11 +108,9 @@ impl<'a, T> Claim<'a, T> {
     pub fn fill<F: FnOnce() -> T + Drop>(
         &mut self,
         alloc: Global,
-        reached: Reached,
         create: F,
     ) -> Result<(), AllocError>
         requires callable { IsEmpty self.old.learnt → F.pre create }
-        requires reached { (reached.table ≡ self.old.table) × (self.old.id < reached.ids) }
         ensures same_slot { (self.new.table ≡ self.old.table)
             × (self.new.sharing ≡ self.old.sharing)
             × (self.new.id ≡ self.old.id) }
@@ -120,7 +125,7 @@ impl<'a, T> Claim<'a, T> {
         }
         let thread = Thread::new(self.held.id);
         if self.is_missing() {
-            return self.fill_missing(alloc, thread, reached, create);
+            return self.fill_missing(alloc, thread, create);
         }
         self.publish(thread, create());
         Ok(())
@@ -133,13 +138,11 @@ impl<'a, T> Claim<'a, T> {
         &mut self,
         alloc: Global,
         thread: Thread,
-        reached: Reached,
         create: F,
     ) -> Result<(), AllocError>
         requires missing { self.old.learnt ≡ Missing }
         requires place { IsPlaceOf thread.bucket thread.index self.old.id }
         requires callable { F.pre create }
-        requires reached { (reached.table ≡ self.old.table) × (self.old.id < reached.ids) }
         ensures same_slot { (self.new.table ≡ self.old.table)
             × (self.new.sharing ≡ self.old.sharing)
             × (self.new.id ≡ self.old.id) }
@@ -148,7 +151,7 @@ impl<'a, T> Claim<'a, T> {
         ensures reserved { self.new.reserved ≡ self.old.reserved }
     {
         let block = self.make_room(&alloc, thread)?;
-        self.publish_in(&alloc, thread, block, create(), reached);
+        self.publish_in(&alloc, thread, block, create());
         Ok(())
     }
 
@@ -157,11 +160,9 @@ impl<'a, T> Claim<'a, T> {
     pub fn try_fill<F: FnOnce() -> Result<T, E> + Drop, E>(
         &mut self,
         alloc: Global,
-        reached: Reached,
         create: F,
     ) -> Result<Result<(), E>, AllocError>
         requires callable { IsEmpty self.old.learnt → F.pre create }
-        requires reached { (reached.table ≡ self.old.table) × (self.old.id < reached.ids) }
         ensures same_slot { (self.new.table ≡ self.old.table)
             × (self.new.sharing ≡ self.old.sharing)
             × (self.new.id ≡ self.old.id) }
@@ -181,7 +182,7 @@ impl<'a, T> Claim<'a, T> {
         let block = self.room(&alloc, thread)?;
         match create() {
             Ok(value) => {
-                self.publish_in(&alloc, thread, block, value, reached);
+                self.publish_in(&alloc, thread, block, value);
                 Ok(Ok(()))
             }
             Err(error) => {
@@ -196,9 +197,8 @@ impl<'a, T> Claim<'a, T> {
     /// Publishes a value in a slot that is empty, for which a missing bucket is made. Where memory is
     /// refused, the value comes back.
     #[inline]
-    pub fn set(&mut self, alloc: Global, reached: Reached, value: T) -> Result<(), T>
+    pub fn set(&mut self, alloc: Global, value: T) -> Result<(), T>
         requires empty { IsEmpty self.old.learnt }
-        requires reached { (reached.table ≡ self.old.table) × (self.old.id < reached.ids) }
         ensures same_slot { (self.new.table ≡ self.old.table)
             × (self.new.sharing ≡ self.old.sharing)
             × (self.new.id ≡ self.old.id) }
@@ -212,7 +212,7 @@ impl<'a, T> Claim<'a, T> {
         let thread = Thread::new(self.held.id);
         match self.room(&alloc, thread) {
             Ok(block) => {
-                self.publish_in(&alloc, thread, block, value, reached);
+                self.publish_in(&alloc, thread, block, value);
                 Ok(())
             }
             Err(_) => Err(value),
@@ -272,8 +272,7 @@ impl<'a, T> Claim<'a, T> {
     /// Publishes a value where there is room for it. Where no block was made, the bucket stands. Else
     /// the value goes into the block, and the bucket is announced. One compare and exchange installs
     /// the block, which publishes the value, too. Where another block was installed first, that one
-    /// stays, the value is published there, and this block is freed. All ids up to this one were held
-    /// at once.
+    /// stays, the value is published there, and this block is freed.
     #[inline(always)]
     pub fn publish_in(
         &mut self,
@@ -281,11 +280,9 @@ impl<'a, T> Claim<'a, T> {
         thread: Thread,
         block: Option<Block<T, Global>>,
         value: T,
-        reached: Reached,
     )
         requires room { HasRoom alloc.now thread.bucket self.old.learnt block }
         requires place { IsPlaceOf thread.bucket thread.index self.old.id }
-        requires reached { (reached.table ≡ self.old.table) × (self.old.id < reached.ids) }
         ensures same_slot { (self.new.table ≡ self.old.table)
             × (self.new.sharing ≡ self.old.sharing)
             × (self.new.id ≡ self.old.id) }
@@ -297,6 +294,7 @@ impl<'a, T> Claim<'a, T> {
         };
         let block = filled(block, alloc, thread, value);
         let announced = self.announcements.announce(thread.bucket);
+        let reached = &self.reached;
         let back = self.slot.exchange(thread.index, block, reached, announced);
         if let Some(block) = back {
             self.publish_second(alloc, thread, block);
@@ -412,6 +410,7 @@ impl<'a, T> Claim<'a, T> {
             slot,
             held,
             announcements: _,
+            reached: _,
         } = self;
         (held, slot.give_up())
     }

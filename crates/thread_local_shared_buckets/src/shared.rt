@@ -145,10 +145,11 @@ impl<T> Shared<T> {
 
     /// Claims the slot of a held id, for as long as the buckets are borrowed: one atomic load of
     /// the bucket's pointer, and where the bucket stands, one of the word that has the slot's flag.
-    /// The bucket of a reserved slot is never missing.
-    pub fn claim(&self, held: HeldId, right: Right) -> Claim<'_, T>
+    /// The bucket of a reserved slot is never missing. All ids up to this one were held at once.
+    pub fn claim(&self, held: HeldId, right: Right, reached: Reached) -> Claim<'_, T>
         requires table { (right.table ≡ self.now.table) × (held.mark.table ≡ self.now.table) }
         requires id { right.id ≡ held.id }
+        requires reached { (reached.table ≡ self.now.table) × (held.id < reached.ids) }
         ensures same_slot { (result.table ≡ self.now.table)
             × (result.sharing ≡ self.now.sharing)
             × (result.id ≡ held.id) }
@@ -159,7 +160,7 @@ impl<T> Shared<T> {
         let thread = Thread::new(held.id);
         let pointers = &self.parts().pointers;
         let bucket = &pointers.pointers.pointers[thread.bucket];
-        Claim::look(bucket, &pointers.announced, thread, held, right)
+        Claim::look(bucket, &pointers.announced, thread, held, right, reached)
     }
 
     /// Shows that the type of the values is judged, as it was when the buckets were shared. At run

@@ -26,7 +26,7 @@ impl<'a, T> ClaimedSlot<'a, T> {
         &mut self,
         index: usize,
         block: Block<T, Global>,
-        reached: Reached,
+        reached: &Reached,
         announced: Announced,
     ) -> Option<Block<T, Global>>
         requires missing { self.old.learnt ≡ Missing }
@@ -34,7 +34,7 @@ impl<'a, T> ClaimedSlot<'a, T> {
         requires made { (block.left ≡ 0)
             × (slice_set block.slots self.old.index None ≡ empty_slots (2 ^ bucket_of self.old.id))
             × IsSome (slot_value block.slots self.old.index) }
-        requires reached { (reached.table ≡ self.old.table) × (self.old.id < reached.ids) }
+        requires reached { (reached.now.table ≡ self.old.table) × (self.old.id < reached.now.ids) }
         requires announced { (announced.by ≡ self.old.word) × (announced.bucket ≡ bucket_of self.old.id) }
         ensures same_slot { (self.new.table ≡ self.old.table)
             × (self.new.sharing ≡ self.old.sharing)

@@ -57,6 +57,8 @@ invariant_of-result g c =
       c.requires.table.1 ∙ sym c.requires.table.0 ∙ sym slot.0 ∙ sym found.0,
       found.2 ∙ slot.2 ∙ c.requires.word.0,
       c.requires.word.1,
+      c.requires.reached.0 ∙ sym c.requires.table.0 ∙ sym slot.0 ∙ sym found.0,
+      c.requires.reached.1,
     )
 
 pub returns-clause-found : goal.returns-clause-found

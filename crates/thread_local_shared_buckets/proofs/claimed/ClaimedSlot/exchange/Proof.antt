@@ -13,7 +13,7 @@ use Rattle.thread_local_base.proofs.Names.{free_all, look_at, get, get_in, get_t
 use Rattle.thread_local_base.proofs.Names.{lands_last, env, is, agg, sub, whole, live, vrt, in_variant, tables, fact}
 use Rattle.thread_local_base.proofs.Names.{fact_i, no, RattleType, owns, types_at, plain, Ptr, block_ptr, null_ptr}
 use Rattle.thread_local_base.proofs.Names.{block_of, count_of, at_block, InBlock, ptr_val, nothing, heard, param}
-use Rattle.thread_local_base.proofs.Names.{layout, Stays, stay_dropped, walk_of, Goes-dropped, proved, leaves, fm}
+use Rattle.thread_local_base.proofs.Names.{layout, Stays, stay_dropped, walk_of, Goes-dropped, proved, leaves, fm, RefOf, shr_vals, shr_Tells, unhide}
 use Rattle.thread_local_base.proofs.Names.{after, u64}
 use Rattle.thread_local_base.proofs.Walking.{lends_token, returns_token}
 use Rattle.std.proofs.Common.{zero, suc, ◌++◌, ◌-◌, arith, IfSome, IsSome, length, length-set, ◌*◌, ◌<◌, ◌≤◌, subst}
@@ -142,8 +142,8 @@ module _ {M : Type 1} {𝓤 : Ura M} (𝓛 : Logic 𝓤) (𝓜 : Model 𝓤 𝓛
 
   abbrev stayed : Stays En.signature.params En.kept
   stayed =
-      let self = plain (λ κs. claim.the_row (named_lft 3 1 tt κs) R) in let number = plain (λ _. usize) in let lot = plain (λ _. Bl) in
-      let shown = plain (λ _. Reached.the_row) in
+      let self = plain (λ κs. claim.the_row (named_lft 4 1 tt κs) R) in let number = plain (λ _. usize) in let lot = plain (λ _. Bl) in
+      let shown = RefOf (2 ∷ []) tt (plain (λ _. Reached.the_row)) (λ _. tt) in
       let known = plain (λ _. Announced.the_row) in
       (stay_ref (0 ∷ []) tt self, (stay_dropped number yes, (stay_dropped lot no, (stay_dropped shown yes, (stay_dropped known yes, tt)))))
 
@@ -161,10 +161,10 @@ module _ {M : Type 1} {𝓤 : Ura M} (𝓛 : Logic 𝓤) (𝓜 : Model 𝓤 𝓛
     q = y.0.1.1.0
 
     abbrev others : Fml
-    others = fsep (flft y.0.0.1.1.0 y.0.1.1.1.0) ftrue
+    others = fsep (flft y.0.0.1.1.0 y.0.1.1.1.0) (fsep (flft y.0.0.1.1.1.0 y.0.1.1.1.1.0) ftrue)
 
     abbrev ℓ : NamedLft
-    ℓ = named_lft 3 1 tt y.0.0
+    ℓ = named_lft 4 1 tt y.0.0
 
     abbrev G : RattleType
     G = claim.the_row ℓ R
@@ -288,33 +288,33 @@ exchange_spec 𝓤 𝓛 𝓜 𝓡 wired X L =
     let fn = inst_fn inst code.function in
     let closed = code.unfolded 𝓤 H 𝓜 𝓡 wired (X, tt) in
     let Z : RattleType = heap.the_row in let Bl : RattleType = block.the_row R Z ghosts in let Back : RattleType = Opt.the_row Bl in
-    let self = plain (λ κs. claim.the_row (named_lft 3 1 tt κs) R) in let number = plain (λ _. usize) in let lot = plain (λ _. Bl) in
-    let shown = plain (λ _. Reached.the_row) in
+    let self = plain (λ κs. claim.the_row (named_lft 4 1 tt κs) R) in let number = plain (λ _. usize) in let lot = plain (λ _. Bl) in
+    let shown = RefOf (2 ∷ []) tt (plain (λ _. Reached.the_row)) (λ _. tt) in
     let known = plain (λ _. Announced.the_row) in
     let hs : Stays En.signature.params En.kept =
     (stay_ref (0 ∷ []) tt self, (stay_dropped number yes, (stay_dropped lot no, (stay_dropped shown yes, (stay_dropped known yes, tt))))) in
     proved 𝓛 En hs c 𝓜 𝓡 (
-      Goes-ref 𝓛 3 0 tt self,
+      Goes-ref 𝓛 4 0 tt self,
       (
-        Goes-dropped 𝓛 3 number yes (λ κs x f. refl),
+        Goes-dropped 𝓛 4 number yes (λ κs x f. refl),
         (
-          Goes-dropped 𝓛 3 lot no (λ κs x f. refl),
-          (Goes-dropped 𝓛 3 shown yes (λ κs x f. refl), (Goes-dropped 𝓛 3 known yes (λ κs x f. refl), tt)),
+          Goes-dropped 𝓛 4 lot no (λ κs x f. refl),
+          (Goes-dropped 𝓛 4 shown yes (λ κs x f. refl), (Goes-dropped 𝓛 4 known yes (λ κs x f. refl), tt)),
         ),
       ),
     )
     (#self inst) fn closed
     (λ κs. (
       mut_vals,
-      (uint_vals w64, ((λ x. fields.block_val x.at ∷ []), ((λ x. token ∷ []), ((λ x. token ∷ []), tt)))),
+      (uint_vals w64, ((λ x. fields.block_val x.at ∷ []), (shr_vals, ((λ x. token ∷ []), tt)))),
     ))
     (λ κs. (
-      mut_Tells (named 0) κs.0 (claim.the_row (named_lft 3 1 tt κs) R),
+      mut_Tells (named 0) κs.0 (claim.the_row (named_lft 4 1 tt κs) R),
       (
         uint_Tells w64,
         (
           (λ x vs so. fields.told R Z ghosts x.at vs so.0),
-          ((λ x vs so. token_told (Reached.the_type).name vs so.0), ((λ x vs so. token_told (Announced.the_type).name vs so.0), tt)),
+          (shr_Tells (named 2) κs.1.1.0 Reached.the_row, ((λ x vs so. token_told (Announced.the_type).name vs so.0), tt)),
         ),
       ),
     ))
@@ -324,8 +324,8 @@ exchange_spec 𝓤 𝓛 𝓜 𝓡 wired X L =
     let ro : ℕ = a.0.ref_ptr.1 in
     let β : Lft = κs.1.0 in
     let q : Share = qs.1.0 in
-    let others : Fml = fsep (flft κs.1.1.0 qs.1.1.0) ftrue in
-    let ℓ = named_lft 3 1 tt κs in
+    let others : Fml = fsep (flft κs.1.1.0 qs.1.1.0) (fsep (flft κs.1.1.1.0 qs.1.1.1.0) ftrue) in
+    let ℓ = named_lft 4 1 tt κs in
     let G : RattleType = claim.the_row ℓ R in
     let D : RattleType = FieldsType ℓ R in
     let ix : ℕ = a.1.0 in
@@ -336,12 +336,13 @@ exchange_spec 𝓤 𝓛 𝓜 𝓡 wired X L =
     let new : Ptr = block_ptr nb no' in
     let bv : Val = fields.block_val p in
     let Triple : RattleType = Tuple (RawPtr ∷ u64 ∷ Back ∷ []) in
-    let had = a.1.1.1.0 in
+    let had = a.1.1.1.0.now in
+    let seen : Val = vptr a.1.1.1.0.ref_ptr.0 a.1.1.1.0.ref_ptr.1 in
     let Had : Type 0 = (had.table ≡ h.table) × (h.id < had.ids) in
     let says = a.1.1.1.1.0 in
     let Says : Type 0 = (says.by ≡ h.word) × (says.bucket ≡ bucket_of h.id) in
-    let υ : Lft = κs.1.1.0 in
-    let r : Share = qs.1.1.0 in
+    let υ : Lft = κs.1.1.1.0 in
+    let r : Share = qs.1.1.1.0 in
     let Made : Type 0 = (x.left ≡ 0) × (slice_set x.slots h.index None ≡ empty_slots (2 ^ bucket_of h.id))
     × IsSome (slot_value x.slots h.index) in
     let w : Ptr = h.bucket in
@@ -350,7 +351,7 @@ exchange_spec 𝓤 𝓛 𝓜 𝓡 wired X L =
     let i : ℕ = h.index in
     let pl : ClaimFields = claim_fields h.id i w h.at h.sharing h.word h.reserved in
     let y : (walk_of 𝓛 En hs c).Ghost =
-    ((κs, qs, bounds, a, (vptr rb ro ∷ [], (vint w64 ix ∷ [], (bv ∷ [], (token ∷ [], (token ∷ [], tt)))))), gh) in
+    ((κs, qs, bounds, a, (vptr rb ro ∷ [], (vint w64 ix ∷ [], (bv ∷ [], (seen ∷ [], (token ∷ [], tt)))))), gh) in
     let Post : Val → SProp 𝓤 = (walk_of 𝓛 En hs c).post y in
     qed 𝓛 (((‵ (flft κs.0 qs.0) ⊛ ‵ (fsep (flft β q) others)) ⊛ ‵ (owns (types_at En.signature.params κs) a y.0.4))
     ∷ raw (fact 𝓤 (Incl υ X.lives)) ∷ raw (fact 𝓤 (h.learnt ≡ Missing)) ∷ raw (fact 𝓤 (ix ≡ i))
@@ -359,11 +360,11 @@ exchange_spec 𝓤 𝓛 𝓜 𝓡 wired X L =
     heard ! (ix ≡ i) (λ is_index. heard ! Made (λ blank. heard ! Had (λ evident. heard ! Says (λ told_so. split ! $ split ! $ move ! (2 ∷ []) $
     fsplit3 ! $ fsplit3 ! $ move ! (4 ∷ []) $ fsplit ! $ fsplit ! $ move ! (2 ∷ []) $ fsplit ! $ fsplit ! $
     move ! (2 ∷ []) $ fsplit ! $ fsplit ! $
-    keep ! (8 ∷ 9 ∷ 11 ∷ 12 ∷ 6 ∷ 4 ∷ 1 ∷ []) $
-    enter ! 𝓣.C 𝓣.Λ fn (vptr rb ro ∷ vint w64 ix ∷ bv ∷ token ∷ token ∷ []) Post $ alloc_all ! (λ l.
+    keep ! (4 ∷ 8 ∷ 9 ∷ 11 ∷ 12 ∷ 6 ∷ 1 ∷ []) $ unhide ! $ fsplit ! $ drop ! $ move ! (1 ∷ 2 ∷ 3 ∷ 4 ∷ 5 ∷ 0 ∷ []) $
+    enter ! 𝓣.C 𝓣.Λ fn (vptr rb ro ∷ vint w64 ix ∷ bv ∷ seen ∷ token ∷ []) Post $ alloc_all ! (λ l.
     pass_all ! {E = env (behind_first fn.locals) (λ j. l (suc j))} refl (
       (tt, tt),
-      ((tt, record { fits = are.1.0.1 }), (fields.block_good p, ((tt, (tt, tt)), ((tt, (tt, tt)), tt)))),
+      ((tt, record { fits = are.1.0.1 }), (fields.block_good p, ((tt, tt), ((tt, (tt, tt)), tt)))),
     ) $
     let Ev = env fn.locals l in
     opens ! tt G rb ro (λ ts. move ! (1 ∷ []) $ fsplit ! $
@@ -423,7 +424,9 @@ exchange_spec 𝓤 𝓛 𝓜 𝓡 wired X L =
     rewrite ! 0 (λ (u : Ptr). ‵ (Blank u)) e refl $
     -- [the block; the sharing lasts; the invariant; the life's token; the way back; the pass; the other tokens; how many ids were
     -- held; the bucket is announced]
-    move ! (6 ∷ []) $ fsplit ! $ move ! (2 ∷ 5 ∷ 0 ∷ []) $
+    move ! (6 ∷ []) $ fsplit ! $ move ! (1 ∷ []) $ fsplit ! $ move ! (2 ∷ 1 ∷ []) $ fjoin ! $ move ! (1 ∷ []) $
+    -- [one of the other tokens; the other; the block; ..]
+    move ! (2 ∷ 5 ∷ 0 ∷ []) $
     use3 𝓛 (later (some (λ (y : ℕ × offers.Names 𝓛 R t).
     given (offers.Lies 𝓛 R t LR d x.heap xv i rest many new y.1)
     (‵ (offers.private 𝓛 R t LR d x.heap xv i rest many new y.0 y.1)
@@ -432,7 +435,8 @@ exchange_spec 𝓤 𝓛 𝓜 𝓡 wired X L =
     await ! tt $ pick ! (λ zn. learn ! (λ so. split3 ! $ move ! (2 ∷ []) $ split ! $
     -- [the life's token; the other; the private block; what its claim has; nothing; the sharing lasts; the invariant; the way back;
     -- the pass; how many ids were held; the bucket is announced]
-    move ! (1 ∷ 4 ∷ []) $ fjoin ! $ move ! (2 ∷ 4 ∷ 5 ∷ 1 ∷ 6 ∷ 7 ∷ 0 ∷ 8 ∷ 9 ∷ 3 ∷ []) $
+    move ! (4 ∷ 1 ∷ []) $ fsplit ! $ move ! (2 ∷ 1 ∷ []) $ fjoin ! $ move ! (1 ∷ []) $ fjoin ! $
+    move ! (2 ∷ 4 ∷ 5 ∷ 1 ∷ 6 ∷ 7 ∷ 0 ∷ 8 ∷ 9 ∷ 3 ∷ []) $
     let won₀ : Ptr → Fml = offers.won 𝓛 R t LR d x.heap xv i rest many wb (wo + 0) s nb no' zn.0 zn.1 so in
     let lost₀ : Ptr → Fml = offers.lost 𝓛 R t LR d x.heap xv i rest many wb (wo + 0) s nb no' zn.0 zn.1 so in
     let won : Ptr → Fml = λ u. fsep (flft t.life s) (won₀ u) in
