@@ -180,8 +180,7 @@ impl<'a, T, R: Wait> Local<'a, T, R> {
         ensures has_value { IsSome self.old.value → IsOk result }
     {
         let table = self.table;
-        let reached = self.tenure.reached();
-        self.claim.fill(table.alloc, reached, create)
+        self.claim.fill(table.alloc, create)
     }
 
     /// Publishes a value that is at hand, where the slot is empty. `Occupied` gives it back where
@@ -200,7 +199,7 @@ impl<'a, T, R: Wait> Local<'a, T, R> {
             return Err(SetError::Occupied(value));
         }
         let table = self.table;
-        match self.claim.set(table.alloc, self.tenure.reached(), value) {
+        match self.claim.set(table.alloc, value) {
             Ok(()) => Ok(()),
             Err(value) => Err(SetError::Memory(value)),
         }
@@ -245,10 +244,7 @@ impl<'a, T, R: Wait> Local<'a, T, R> {
         ensures empty { OnErr result (self.new.value ≡ None) }
     {
         let table = self.table;
-        let filled = self
-            .claim
-            .try_fill(table.alloc, self.tenure.reached(), create)?;
-        match filled {
+        match self.claim.try_fill(table.alloc, create)? {
             Ok(()) => Ok(()),
             Err(error) => Err(TryError::Create(error)),
         }

@@ -177,7 +177,7 @@ impl<T> ThreadLocal<T> {
         Ok(Local {
             rt,
             table: self,
-            claim: self.buckets.claim(held, right),
+            claim: self.buckets.claim(held, right, tenure.reached()),
             tenure,
         })
     }
@@ -223,7 +223,7 @@ impl<T> ThreadLocal<T> {
         Ok(Local {
             rt,
             table: self,
-            claim: self.buckets.claim(held, right),
+            claim: self.buckets.claim(held, right, tenure.reached()),
             tenure,
         })
     }
