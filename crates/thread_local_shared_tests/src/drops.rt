@@ -1,5 +1,5 @@
 //! Each value is dropped once, and a claim is forgotten.
-ghost use Rattle.std.specs.Prelude.{◌≡◌};
+ghost use Rattle.std.specs.Prelude.{◌≡◌, ◌<◌};
 
 use crate::same::assert_same;
 use crate::steps::{Kept, Table, first_three, look, publish, share};
@@ -11,7 +11,7 @@ use std::sync::{Arc, Wait};
 use std::test::Fail;
 use thread_local_base::{LocalError, Thread, judge_sync};
 use thread_local_buckets::Buckets;
-use thread_local_ids::{HeldId, Right, Rights};
+use thread_local_ids::{HeldId, Reached, Right, Rights};
 use thread_local_shared_buckets::Shared;
 use thread_local_test_helpers::counted::Counted;
 
@@ -85,12 +85,13 @@ fn each_published_value_is_dropped_once(rt: HostRuntime) -> Result<(), Fail> {
 }
 
 /// What a new claim holds, which is forgotten then.
-fn found_and_forgotten(shared: &Shared<u32>, held: (HeldId, Right)) -> Option<u32>
+fn found_and_forgotten(shared: &Shared<u32>, held: (HeldId, Right, Reached)) -> Option<u32>
     requires table { (held.1.table ≡ shared.now.table) × (held.0.mark.table ≡ shared.now.table) }
     requires id { held.1.id ≡ held.0.id }
+    requires reached { (held.2.table ≡ shared.now.table) × (held.0.id < held.2.ids) }
 {
     let claimed = Kept {
-        claim: shared.claim(held.0, held.1),
+        claim: shared.claim(held.0, held.1, held.2),
     };
     let found = claimed.claim.get().copied();
     forget(claimed);

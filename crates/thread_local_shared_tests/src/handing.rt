@@ -1,6 +1,7 @@
 //! Values are handed on, from thread to thread and back out of the buckets.
 ghost use Rattle.std.specs.Prelude.{◌≡◌, ◌-◌, ◌^◌, ◌<◌};
 ghost use Rattle.thread_local_base.specs.Judged.{Judged};
+ghost use Rattle.thread_local_ids.specs.Taken.{IsHeldIn};
 
 use crate::same::assert_same;
 use crate::steps::{Table, look, publish, share};
@@ -12,21 +13,21 @@ use std::thread;
 use std::thread::Threads;
 use thread_local_base::{Judge, Thread, judge_sync};
 use thread_local_buckets::Buckets;
-use thread_local_ids::{HeldId, Right};
+use thread_local_ids::{HeldId, Reached, Right, Tenure};
 use thread_local_shared_buckets::Shared;
 
 /// Adds to the number at an id, and answers what was there.
 fn add(
     shared: &Shared<Cell<u64>>,
     held: (HeldId, Right),
+    tenure: &Tenure,
     more: u64,
 ) -> ((HeldId, Right), Option<u64>)
-    requires table { (held.1.table ≡ shared.now.table) × (held.0.mark.table ≡ shared.now.table) }
-    requires id { held.1.id ≡ held.0.id }
+    requires { IsHeldIn shared.now.table (held.0, held.1, tenure.now) }
     ensures table { (result.0.1.table ≡ shared.now.table) × (result.0.0.mark.table ≡ shared.now.table) }
     ensures id { (result.0.0.id ≡ held.0.id) × (result.0.1.id ≡ held.0.id) }
 {
-    let claim = shared.claim(held.0, held.1);
+    let claim = shared.claim(held.0, held.1, tenure.reached());
     let found = match claim.get() {
         Some(cell) => {
             let found = cell.get();
@@ -42,14 +43,15 @@ fn add(
 fn look_while_claimed<R: Threads>(
     rt: &R,
     shared: &Shared<u32>,
-    held: (HeldId, Right),
+    held: (HeldId, Right, Reached),
 ) -> (Option<u32>, Option<u32>)
     requires table { (held.1.table ≡ shared.now.table) × (held.0.mark.table ≡ shared.now.table) }
     requires id { held.1.id ≡ held.0.id }
+    requires reached { (held.2.table ≡ shared.now.table) × (held.0.id < held.2.ids) }
     requires in_range { held.0.id < 2 ^ 63 - 1 }
 {
     let id = held.0.id;
-    let claim = shared.claim(held.0, held.1);
+    let claim = shared.claim(held.0, held.1, held.2);
     let (seen, _) = thread::join(rt, || look(shared, id), || ());
     let own = claim.get().copied();
     claim.give_up();
@@ -68,7 +70,7 @@ fn a_number_is_handed_on_from_thread_to_thread(rt: HostRuntime) -> Result<(), Fa
     let first = || publish(there, (held, right), own, alloc, Cell::new(7));
     let (first, _) = thread::join(&rt, first, || ());
     let (held, published) = first;
-    let (second, _) = thread::join(&rt, || add(there, held, 5), || ());
+    let (second, _) = thread::join(&rt, || add(there, held, own, 5), || ());
     let found = second.1;
     let left = shared.into_buckets_and_book().0.into_iter().next();
     assert_same(

@@ -12,40 +12,31 @@ use std::sync::Wait;
 use std::test::Fail;
 use thread_local_base::{Thread, bucket_size};
 use thread_local_buckets::{Block, Buckets};
-use thread_local_ids::{Reached, Taken};
+use thread_local_ids::Taken;
 use thread_local_shared_buckets::{Claim, Shared};
 use thread_local_test_helpers::memory::take_all_but;
 
-/// A claim whose bucket may be missing, for which all ids up to its own were held at once.
-#[derive(Drop)]
-struct Early<'a, T> {
-    kept: Kept<'a, T>,
-    reached: Reached,
-    ghost are_held: { (reached.table ≡ kept.claim.table) × (kept.claim.id < reached.ids) },
-}
-
-impl<'a, T: Drop> Early<'a, T> {
+impl<'a, T: Drop> Kept<'a, T> {
     /// Offers a block with a value for the claim's bucket if that was missing, and answers the claim
     /// if it did.
     fn offered(self, block: Block<T, Global>, alloc: &Global, value: T) -> Option<Claim<'a, T>>
         requires heap { (block.heap ≡ alloc.now) × (block.left ≡ 0) }
-        requires slots { block.slots ≡ empty_slots (2 ^ bucket_of self.kept.claim.id) }
+        requires slots { block.slots ≡ empty_slots (2 ^ bucket_of self.claim.id) }
     {
-        let Self { kept, reached } = self;
-        let mut claim = kept.into_claim();
+        let mut claim = self.into_claim();
         let thread = Thread::new(claim.id());
         if !claim.is_missing() {
             block.release(alloc, bucket_size(thread.bucket));
             claim.give_up();
             return None;
         }
-        claim.publish_in(alloc, thread, Some(block), value, reached);
+        claim.publish_in(alloc, thread, Some(block), value);
         Some(claim)
     }
 
     /// Makes a block, offers it with a value and gives the claim up. Answers whether it did.
     fn offer(self, alloc: &Global, value: T) -> bool {
-        let Ok(block) = Block::new(alloc, bucket_size(Thread::new(self.kept.claim.id()).bucket))
+        let Ok(block) = Block::new(alloc, bucket_size(Thread::new(self.claim.id()).bucket))
         else {
             return false;
         };
@@ -60,15 +51,12 @@ impl<'a, T: Drop> Early<'a, T> {
 }
 
 /// Claims an id that was taken.
-fn claim_early<T>(shared: &Shared<T>, taken: Taken) -> Early<'_, T>
+fn claim_early<T>(shared: &Shared<T>, taken: Taken) -> Kept<'_, T>
     requires { IsHeldIn shared.now.table taken }
 {
     let (held, right, tenure) = taken;
-    Early {
-        reached: tenure.reached(),
-        kept: Kept {
-            claim: shared.claim(held, right),
-        },
+    Kept {
+        claim: shared.claim(held, right, tenure.reached()),
     }
 }
 
@@ -139,13 +127,13 @@ fn blocks_that_come_second_are_freed(rt: HostRuntime) -> Result<(), Fail> {
 /// the claim holds.
 fn offer_and_look(
     shared: &Shared<u32>,
-    claim: Early<'_, u32>,
+    claim: Kept<'_, u32>,
     block: Block<u32, Global>,
     alloc: &Global,
     value: u32,
 ) -> [Option<u32>; 3]
     requires heap { (block.heap ≡ alloc.now) × (block.left ≡ 0) }
-    requires slots { block.slots ≡ empty_slots (2 ^ bucket_of claim.kept.claim.id) }
+    requires slots { block.slots ≡ empty_slots (2 ^ bucket_of claim.claim.id) }
 {
     match claim.offered(block, alloc, value) {
         Some(claim) => {
@@ -161,15 +149,15 @@ fn offer_and_look(
 /// other with 2. Answers what was found after each offer.
 fn offer_two(
     shared: &Shared<u32>,
-    one: Early<'_, u32>,
-    other: Early<'_, u32>,
+    one: Kept<'_, u32>,
+    other: Kept<'_, u32>,
     alloc: &Global,
 ) -> Option<[[Option<u32>; 3]; 2]> {
-    let size = bucket_size(Thread::new(one.kept.claim.id()).bucket);
+    let size = bucket_size(Thread::new(one.claim.id()).bucket);
     let first = Block::new(alloc, size).ok()?;
     let second = match Block::new(
         alloc,
-        bucket_size(Thread::new(other.kept.claim.id()).bucket),
+        bucket_size(Thread::new(other.claim.id()).bucket),
     ) {
         Ok(block) => block,
         Err(_) => {
@@ -203,14 +191,13 @@ fn the_second_of_two_blocks_gives_way(rt: HostRuntime) -> Result<(), Fail> {
 }
 
 /// Fills a slot by a claim that found its bucket missing. Answers whether it did.
-fn publish_late(early: Early<'_, u32>, alloc: Global, value: u32) -> bool {
-    let Early { kept, reached } = early;
-    let mut claim = kept.into_claim();
+fn publish_late(early: Kept<'_, u32>, alloc: Global, value: u32) -> bool {
+    let mut claim = early.into_claim();
     if !claim.is_missing() {
         claim.give_up();
         return false;
     }
-    let is_filled = claim.fill(alloc, reached, || value).is_ok();
+    let is_filled = claim.fill(alloc, || value).is_ok();
     claim.give_up();
     is_filled
 }
@@ -233,9 +220,8 @@ fn an_early_claim_finds_its_bucket_later(rt: HostRuntime) -> Result<(), Fail> {
 }
 
 /// Whether a claim that found its bucket missing asks for no block, and publishes a value.
-fn publish_in_room(early: Early<'_, u32>, alloc: &Global, value: u32) -> bool {
-    let Early { kept, reached } = early;
-    let mut claim = kept.into_claim();
+fn publish_in_room(early: Kept<'_, u32>, alloc: &Global, value: u32) -> bool {
+    let mut claim = early.into_claim();
     if !claim.is_missing() {
         claim.give_up();
         return false;
@@ -244,7 +230,7 @@ fn publish_in_room(early: Early<'_, u32>, alloc: &Global, value: u32) -> bool {
     let needs_none = match claim.room(alloc, thread) {
         Ok(block) => {
             let needs_none = block.is_none();
-            claim.publish_in(alloc, thread, block, value, reached);
+            claim.publish_in(alloc, thread, block, value);
             needs_none
         }
         Err(_) => false,
@@ -269,9 +255,8 @@ fn an_early_claim_makes_no_block_where_its_bucket_stands(rt: HostRuntime) -> Res
 
 /// Makes room for a value by a claim, and frees the block. Answers whether there was one, and whether
 /// the bucket is missing still.
-fn make_and_release(early: Early<'_, u32>, alloc: &Global) -> [bool; 2] {
-    let Early { kept, reached: _ } = early;
-    let mut claim = kept.into_claim();
+fn make_and_release(early: Kept<'_, u32>, alloc: &Global) -> [bool; 2] {
+    let mut claim = early.into_claim();
     let thread = Thread::new(claim.id());
     if !claim.is_missing() {
         claim.give_up();

@@ -8,7 +8,7 @@ use std::alloc::Global;
 use std::sync::Wait;
 use thread_local_base::{LocalError, Thread, bucket_size};
 use thread_local_buckets::{Buckets, flag_word_at};
-use thread_local_ids::{HeldId, Page, Right, Room, SharedIds, Taken, Tenure, TokenList};
+use thread_local_ids::{HeldId, Page, Reached, Right, Room, SharedIds, Taken, Tenure, TokenList};
 use thread_local_shared_buckets::{Claim, Shared};
 
 /// The ids of a table, with the table's right, its first page and its room.
@@ -40,13 +40,14 @@ impl Table {
         self.ids.take(rt, &mut self.start.again(), &self.room)
     }
 
-    /// The same without its tenure.
-    pub fn take_id<R: Wait>(&self, rt: &R) -> Result<(HeldId, Right), LocalError>
+    /// The same without its tenure, but with what that says of the ids up to its own.
+    pub fn take_id<R: Wait>(&self, rt: &R) -> Result<(HeldId, Right, Reached), LocalError>
         ensures right { IfOk result (λ taken. (taken.1.table ≡ self.now.ids.table) × (taken.1.id ≡ taken.0.id)) }
         ensures mark { IfOk result (λ taken. taken.0.mark.table ≡ self.now.ids.table) }
+        ensures reached { IfOk result (λ taken. (taken.2.table ≡ self.now.ids.table) × (taken.0.id < taken.2.ids)) }
     {
-        let (held, right, _) = self.take(rt)?;
-        Ok((held, right))
+        let (held, right, tenure) = self.take(rt)?;
+        Ok((held, right, tenure.reached()))
     }
 }
 
@@ -95,11 +96,11 @@ pub fn publish<T: Drop>(
     ensures table { (result.0.1.table ≡ shared.now.table) × (result.0.0.mark.table ≡ shared.now.table) }
     ensures id { (result.0.0.id ≡ held.0.id) × (result.0.1.id ≡ held.0.id) }
 {
-    let mut claim = shared.claim(held.0, held.1);
+    let mut claim = shared.claim(held.0, held.1, tenure.reached());
     if claim.get().is_some() {
         return (claim.give_up(), false);
     }
-    let is_set = claim.set(alloc, tenure.reached(), value).is_ok();
+    let is_set = claim.set(alloc, value).is_ok();
     (claim.give_up(), is_set)
 }
 

@@ -29,7 +29,7 @@ fn told<T: Drop>(
         (token.sharing ≡ shared.now.sharing) × (token.id ≡ held.0.id)) }
 {
     let ((held, right), _) = publish(shared, held, tenure, alloc, value);
-    let claim = shared.claim(held, right);
+    let claim = shared.claim(held, right, tenure.reached());
     let token = claim.token();
     (claim.give_up(), token)
 }
@@ -100,13 +100,14 @@ fn renewed<T>(shared: &mut Shared<T>, own: &Right)
 fn held_again(
     shared: &Shared<u32>,
     held: (HeldId, Right),
+    tenure: &Tenure,
     token: &Token<u32>,
 ) -> (u32, Option<usize>)
-    requires table { (held.1.table ≡ shared.now.table) × (held.0.mark.table ≡ shared.now.table) }
-    requires id { (held.1.id ≡ held.0.id) × (held.0.id ≡ token.now.id) }
+    requires held { IsHeldIn shared.now.table (held.0, held.1, tenure.now) }
+    requires id { held.0.id ≡ token.now.id }
     requires sharing { (shared.now.sharing ≡ token.now.sharing) × IsSome shared.now.sharing }
 {
-    let mut claim = shared.claim(held.0, held.1);
+    let mut claim = shared.claim(held.0, held.1, tenure.reached());
     let seen = (holds(&mut claim, token), claim.token().map(|t| t.id()));
     claim.give_up();
     seen
@@ -131,7 +132,7 @@ fn a_token_says_what_was_published(rt: HostRuntime) -> Result<(), Fail> {
     let (held, right, tenure) = table.take(&rt)?;
     let (held, token) = told(&shared, (held, right), &tenure, rt.alloc(), 7u32);
     let token = token.expect(&rt, "a token");
-    let seen = held_again(&shared, held, &token);
+    let seen = held_again(&shared, held, &tenure, &token);
     let (second, right, tenure) = table.take(&rt)?;
     let (_, other) = told(&shared, (second, right), &tenure, rt.alloc(), 8);
     let other = other.expect(&rt, "a token");
@@ -151,8 +152,8 @@ fn a_token_says_what_was_published(rt: HostRuntime) -> Result<(), Fail> {
 fn a_vacant_slot_has_no_token(rt: HostRuntime) -> Result<(), Fail> {
     let table = Table::new(rt.alloc());
     let shared = share::<u32>(Buckets::with_capacity(rt.alloc(), 1)?, &table.right);
-    let (held, right) = table.take_id(&rt)?;
-    let mut claim = shared.claim(held, right);
+    let (held, right, reached) = table.take_id(&rt)?;
+    let mut claim = shared.claim(held, right, reached);
     let before = claim.token().is_none();
     let after = if claim.is_missing() || claim.get().is_some() {
         None

@@ -63,16 +63,18 @@ fn visit<T: Send>(
     thread: Thread,
     held: HeldId,
     right: Right,
+    reached: Reached,
 ) -> (HeldId, Right)
     requires word { (bucket.now.word ≡ announcements.now) × BeginsWithFirst announcements.now }
     requires table { (right.table ≡ bucket.now.table) × (held.mark.table ≡ bucket.now.table) }
     requires id { right.id ≡ held.id }
     requires place { IsPlaceOf thread.bucket thread.index held.id }
     requires bucket { bucket.now.bucket ≡ thread.bucket }
+    requires reached { (reached.table ≡ bucket.now.table) × (held.id < reached.ids) }
     ensures table { (result.1.table ≡ right.table) × (result.0.mark.table ≡ right.table) }
     ensures id { (result.0.id ≡ held.id) × (result.1.id ≡ held.id) }
 {
-    Claim::look(bucket, announcements, thread, held, right).give_up()
+    Claim::look(bucket, announcements, thread, held, right, reached).give_up()
 }
 
 /// What the look lent outlives the claim, and so does a token of it.
@@ -97,33 +99,29 @@ fn number_seen<'a>(claim: Claim<'a, u32>) -> ((HeldId, Right), Option<(Token<u32
 fn settled<T: Send>(
     claim: &mut Claim<'_, T>,
     block: Block<T, Global>,
-    reached: Reached,
     alloc: &Global,
     value: T,
 )
     requires missing { claim.old.learnt ≡ Missing }
-    requires reached { (reached.table ≡ claim.old.table) × (claim.old.id < reached.ids) }
     requires heap { (block.heap ≡ alloc.now) × (block.left ≡ 0) }
     requires slots { block.slots ≡ empty_slots (2 ^ bucket_of claim.old.id) }
     ensures { claim.new.learnt ≡ Holding value }
 {
     let thread = Thread::new(claim.id());
-    claim.publish_in(alloc, thread, Some(block), value, reached);
+    claim.publish_in(alloc, thread, Some(block), value);
 }
 
 fn settled_number(
     claim: &mut Claim<'_, u32>,
     block: Block<u32, Global>,
-    reached: Reached,
     alloc: &Global,
 )
     requires missing { claim.old.learnt ≡ Missing }
-    requires reached { (reached.table ≡ claim.old.table) × (claim.old.id < reached.ids) }
     requires heap { (block.heap ≡ alloc.now) × (block.left ≡ 0) }
     requires slots { block.slots ≡ empty_slots (2 ^ bucket_of claim.old.id) }
     ensures { claim.new.learnt ≡ Holding 7 }
 {
-    settled(claim, block, reached, alloc, 7)
+    settled(claim, block, alloc, 7)
 }
 
 /// Publishes a value in an empty slot, with a block for its bucket where that is missing. Answers
@@ -131,14 +129,12 @@ fn settled_number(
 fn filled<T: Send + Drop>(
     claim: &mut Claim<'_, T>,
     alloc: &Global,
-    reached: Reached,
     value: T,
 ) -> bool
     requires empty { (claim.old.learnt ≡ Missing) ⊎ (claim.old.learnt ≡ Vacant) }
-    requires reached { (reached.table ≡ claim.old.table) × (claim.old.id < reached.ids) }
     ensures { MatchBool result (claim.new.learnt ≡ Holding value) (claim.new.learnt ≡ Missing) }
 {
-    claim.set(*alloc, reached, value).is_ok()
+    claim.set(*alloc, value).is_ok()
 }
 
 /// Makes room for a value that never comes. A slot that was vacant stays so.
