@@ -3,7 +3,7 @@ ghost use Rattle.std.specs.Prelude.{◌≡◌, ◌-◌, ◌^◌, ◌<◌};
 ghost use Rattle.thread_local_base.specs.Judged.{Judged};
 
 use crate::same::assert_same;
-use crate::steps::{Table, look, publish, share};
+use crate::steps::{Table, look, publish, share, take_back};
 use std::alloc::Global;
 use std::cell::{Cell, RefCell};
 use std::sync::Wait;
@@ -70,7 +70,7 @@ fn a_number_is_handed_on_from_thread_to_thread(rt: HostRuntime) -> Result<(), Fa
     let (held, published) = first;
     let (second, _) = thread::join(&rt, || add(there, held, 5), || ());
     let found = second.1;
-    let left = shared.into_buckets_and_book().0.into_iter().next();
+    let left = take_back(shared).0.into_iter().next();
     assert_same(
         &rt,
         (published, found, left.map(|cell| cell.get())),
@@ -106,8 +106,7 @@ fn comes_back<R: Wait, T: Send + Drop>(rt: &R, alloc: Global, value: T) -> bool
     };
     let (_held, published) = publish(&shared, (held, right), &tenure, alloc, value);
     published
-        && shared
-            .into_buckets_and_book()
+        && take_back(shared)
             .0
             .into_iter()
             .next()
