@@ -105,12 +105,7 @@ fn comes_back<R: Wait, T: Send + Drop>(rt: &R, alloc: Global, value: T) -> bool
         return false;
     };
     let (_held, published) = publish(&shared, (held, right), &tenure, alloc, value);
-    published
-        && take_back(shared)
-            .0
-            .into_iter()
-            .next()
-            .is_some()
+    published && take_back(shared).0.into_iter().next().is_some()
 }
 
 #[test]

@@ -195,11 +195,7 @@ fn renewed_buckets_keep_their_values(rt: HostRuntime) -> Result<(), Fail> {
     renewed(&mut shared, &table.right);
     let (_, second) = told(&shared, held, &tenure, rt.alloc(), Cell::new(4));
     let slots = shared.slots_reached().0;
-    let values = take_back(shared)
-        .0
-        .into_iter()
-        .next()
-        .map(|c| c.get());
+    let values = take_back(shared).0.into_iter().next().map(|c| c.get());
     assert_same(&rt, (first.is_some(), second.is_some()), (true, true));
     assert_same(&rt, (slots, values), (1, Some(3)));
     Ok(())
