@@ -162,14 +162,6 @@ impl<'a, T, R: Wait> Local<'a, T, R> {
         self.id() < table.buckets.reserved()
     }
 
-    /// The value of a slot that holds one, without a test.
-    fn value(&self) -> &T
-        requires { self.now.value ≢ None }
-        ensures { self.now.value ≡ Some result.now }
-    {
-        self.claim.value()
-    }
-
     /// Fills the slot if it is empty.
     #[inline]
     fn fill<F: FnOnce() -> T + Drop>(&mut self, create: F) -> Result<(), AllocError>
@@ -274,7 +266,7 @@ impl<'a, T, R: Wait> Local<'a, T, R> {
         ensures failed { IfErr result (λ error. IfCreate error (λ e. F.post create (Err e))) }
     {
         self.try_fill(create)?;
-        Ok(self.value())
+        Ok(self.claim.value())
     }
 }
 

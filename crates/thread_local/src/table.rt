@@ -122,8 +122,9 @@ impl<T> ThreadLocal<T> {
         ensures grown { result.grown_by_ids ≡ only_reserved buckets }
     {
         let (ids, table_right, first, room) = made;
+        let (pointers, reserved) = buckets.into_parts();
         ThreadLocal {
-            buckets: Shared::new(buckets, &table_right),
+            buckets: Shared::new(pointers, reserved, &table_right),
             ids,
             table_right,
             first,
@@ -305,7 +306,8 @@ impl<T> ThreadLocal<T> {
             room: _,
             alloc: _,
         } = self;
-        buckets.into_buckets_and_book()
+        let (pointers, reserved, book) = buckets.into_parts();
+        (Buckets::from_parts(pointers, reserved), book)
     }
 
     /// Begins another sharing of the same buckets, with a name: an owner who has the table alone
@@ -441,7 +443,16 @@ impl<T: Drop> IntoIterator for ThreadLocal<T> {
 
     /// The values by ascending id, each moved out. A walk that is dropped early drops the rest.
     fn into_iter(self) -> IntoIter<T> {
-        self.into_buckets().into_iter()
+        let Self {
+            buckets,
+            ids: _,
+            table_right: _,
+            first: _,
+            room: _,
+            alloc: _,
+        } = self;
+        let (pointers, reserved, _) = buckets.into_parts();
+        Buckets::from_parts(pointers, reserved).into_iter()
     }
 }
 

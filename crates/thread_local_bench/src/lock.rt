@@ -17,7 +17,10 @@ pub(crate) fn compare<R: Clock + Threads + Wait + Sync + Print>(
     pairs: u64,
 ) -> io::Result<()> {
     for _ in 0..5 {
-        let (alone, four) = times(&Lock::new(Ids::new(alloc)), rt, pairs)?;
+        let lock = Lock::new(Ids::new(alloc));
+        let measured = times(&lock, rt, pairs);
+        drop(lock.into_inner());
+        let (alone, four) = measured?;
         println!(rt; "this lock: alone {alone} ns a pair, four threads {four} ns")?;
         let (alone, four) = times(&Mutex::new(Ids::new(alloc)), rt, pairs)?;
         println!(rt; "std's lock: alone {alone} ns a pair, four threads {four} ns")?;

@@ -41,10 +41,10 @@ const TURNS: u64 = 10;
 const YIELDS: u64 = 99;
 
 /// A value that one thread at a time writes through a `&`, and that fits whenever the lock is free.
-/// A contract sees the tag of the value.
+/// A contract sees the tag of the value. An owner takes the lock apart to drop it (`into_inner`).
 ///
-/// Only `lock` may wait, and no call takes memory, whatever a drop of the value does. A guard that
-/// is forgotten leaves the lock taken until its owner calls `get_mut` or takes it apart.
+/// Only `lock` may wait, and no call takes memory. A guard that is forgotten leaves the lock taken
+/// until its owner calls `get_mut` or takes it apart.
 pub struct Lock<V: Fits> {
     word: u64,
     value: V,
@@ -181,12 +181,6 @@ impl<V: Fits> LockGuard<'_, V> {
     }
 }
 
-impl<V: Fits + Drop> Drop for Lock<V> {
-    fn drop(self) {
-        drop(self.into_inner());
-    }
-}
-
 impl<V: Fits> Drop for LockGuard<'_, V> {
     #[inline]
     fn drop(self)
@@ -216,15 +210,8 @@ fn pause(turn: u64) {
 #[inline]
 unsafe fn wake_if(word: *const u64, seen: u64) {
     if seen == AWAITED {
-        unsafe { wake(word) };
+        unsafe { raw::wake_one(word) };
     }
-}
-
-/// Wakes a thread that sleeps on the word.
-#[cold]
-#[inline(never)]
-unsafe fn wake(word: *const u64) {
-    unsafe { raw::wake_one(word) };
 }
 
 unsafe impl<V: Fits + Send> Send for Lock<V> {}

@@ -195,6 +195,6 @@ impl Drop for SharedIds {
     #[inline]
     fn drop(self) {
         let Self { first: _, further } = self;
-        drop(further);
+        drop(further.into_inner());
     }
 }

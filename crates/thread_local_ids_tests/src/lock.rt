@@ -120,6 +120,7 @@ fn an_owner_frees_a_lock_that_was_left_taken(rt: HostRuntime) {
     let taken = counted(&count);
     count_anew(&mut count, 7);
     assert_same(&rt, (taken, counted(&count)), (None, Some(7)));
+    drop(count.into_inner());
 }
 
 /// How often a thread yields while it waits for another, or until others sleep.

@@ -277,13 +277,14 @@ module _ {V : Type 0} where
       record { first = first; none_past = none_past; has_announced = λ bucket small unset. unset; has_own = λ bucket small unset. refl }
 
   -- the buckets that a walk begins with, by the word of those that are announced
-  pub begins_left : (sharing : Option ℕ) (told : List (TokenView V)) (own : Option (Own V)) (announced word left : ℕ)
-      → HasAll own announced word → ((first : ℕ) → IsLowestSet word first → IsWordBut left word first false)
+  pub begins_left : (sharing : Option ℕ) (told : List (TokenView V)) (own : Option (Own V)) (announced word left first : ℕ)
+      → HasAll own announced word → IsLowestSet word first → IsWordBut left word first false
       → ((bucket : ℕ) → bucket < 63 → is_set announced bucket ≡ false → NoneIn sharing bucket told)
       → AreLeft sharing told own 0 left
-  begins_left sharing told own announced word left all without none =
-      let but : IsWordBut left word 0 false =
-      without 0 (record { within = omega arith; set = all.first; lower = λ i below. absurd (omega arith) }) in
+  begins_left sharing told own announced word left first all lowest without none =
+      let is_zero : first ≡ 0 =
+      ⊎_elim (λ e. e) (λ apart. let never : true ≡ false = sym all.first ∙ lowest.lower 0 (omega arith) in cc) (cases_eq first 0) in
+      let but : IsWordBut left word 0 false = subst (λ (bit : ℕ). IsWordBut left word bit false) is_zero without in
       record {
         behind = λ bucket small set.
             ⊎_elim

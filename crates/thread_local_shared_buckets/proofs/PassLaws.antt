@@ -4,8 +4,6 @@ use Rattle.std.proofs.Common.{Option, None, Some, IfSome, option_map, refl, ap, 
 use Rattle.std.proofs.lemmas.Bool.{eq-eqb, cases_lt}
 use Rattle.thread_local_base.specs.Bits.{is_set, IsLowestSet, IsWordBut}
 use Rattle.thread_local_base.specs.Place.{id_at}
-use Rattle.thread_local_base.proofs.Word.{lowest_set}
-use Rattle.std.specs.Int.{w64, trailing_zeros}
 use Rattle.thread_local_shared_buckets.specs.declared.seen.Seen.{Seen}
 use Rattle.thread_local_buckets.specs.declared.cursor.RawIter.{RawIter}
 use Rattle.thread_local_shared_buckets.specs.declared.steps.Own.{Own}
@@ -188,31 +186,24 @@ module _ {V : Type 0} where
             (there.by apart) given;
       }
 
-  -- the lowest flag at hand
-  pub lowest_of : (w : Walk V) → w.rest < 2 ^ 64 → 0 < w.rest → IsLowestSet w.rest (trailing_zeros w64 w.rest)
-  lowest_of w fits some = lowest_set w.rest fits (λ none. absurd (omega arith))
-
-  -- its slot is one of the table
+  -- the slot of a flag at hand is one of the table
   pub record IsNear (w : Walk V) (bit : ℕ) : Type 0 where
     pub some : 0 < w.chunks
     pub slot : slot_of w bit < 2 ^ 63
     pub small : bit < 64
     pub few : w.raw.yielded < 2 ^ 63
 
-  pub near : (w : Walk V) → IsWalk w → w.rest < 2 ^ 64 → 0 < w.rest → IsNear w (trailing_zeros w64 w.rest)
-  near w walk fits some =
-      let lowest = lowest_of w fits some in
-      let there = walk.at_hand (trailing_zeros w64 w.rest) lowest.within lowest.set in
-      let low : w.raw.bucket ≤ 63 = (let low = there.in_table in omega arith) in
-      let most : 2 ^ w.raw.bucket ≤ 2 ^ 63 = pow_mono low in
-      let inside : slot_of w (trailing_zeros w64 w.rest) < 2 ^ w.raw.bucket = there.inside in
+  pub near : (w : Walk V) (low : ℕ) → IsWalk w → IsLowestSet w.rest low → IsNear w low
+  near w low walk lowest =
+      let there = walk.at_hand low lowest.within lowest.set in
+      let last : w.raw.bucket ≤ 63 = (let last = there.in_table in omega arith) in
+      let most : 2 ^ w.raw.bucket ≤ 2 ^ 63 = pow_mono last in
+      let inside : slot_of w low < 2 ^ w.raw.bucket = there.inside in
       record { some = there.some; slot = omega arith; small = lowest.within; few = few w.raw w.own walk.walk }
 
-  pub set_lowest : (w : Walk V) → IsWalk w → w.rest < 2 ^ 64 → 0 < w.rest
-      → is_at w.own w.raw.bucket (slot_of w (trailing_zeros w64 w.rest)) ≡ false
-      → IsSetIn w.seen (trailing_zeros w64 w.rest)
-  set_lowest w walk fits some apart =
-      let lowest = lowest_of w fits some in
-      let there = walk.at_hand (trailing_zeros w64 w.rest) lowest.within lowest.set in
-      set_in w.buckets.now.sharing w.raw.bucket w.chunks (trailing_zeros w64 w.rest) w.seen
-      (there.by apart)
+  pub set_lowest : (w : Walk V) (low : ℕ) → IsWalk w → IsLowestSet w.rest low
+      → is_at w.own w.raw.bucket (slot_of w low) ≡ false
+      → IsSetIn w.seen low
+  set_lowest w low walk lowest apart =
+      set_in w.buckets.now.sharing w.raw.bucket w.chunks low w.seen
+      ((walk.at_hand low lowest.within lowest.set).by apart)

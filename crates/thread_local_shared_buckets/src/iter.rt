@@ -14,7 +14,7 @@ use std::fmt;
 use std::iter::FusedIterator;
 use std::marker::Model;
 use thread_local_base::Thread;
-use thread_local_buckets::{RawIter, without_first, write_struct};
+use thread_local_buckets::{RawIter, take_first, write_struct};
 use thread_local_ids::{Token, Told, Witness};
 
 /// The values of shared buckets, by ascending id, each lent as `&`, while other threads may publish
@@ -75,10 +75,12 @@ impl<'a, T> Iter<'a, T> {
             &pointers.pointers.pointers,
             told.list(),
         );
-        let all = match &own {
+        let mut left = match &own {
             Some(own) => announced | 1 << own.thread.bucket,
             None => announced,
         };
+        // The walk begins in the first bucket, and has those behind it left.
+        take_first(&mut left);
         Iter {
             walk: Walk {
                 buckets,
@@ -90,8 +92,7 @@ impl<'a, T> Iter<'a, T> {
                 },
                 own,
                 told,
-                // The walk begins in the first bucket, and has those behind it left.
-                left: without_first(all),
+                left,
                 row: None,
                 seen: None,
                 chunks: 0,
@@ -129,8 +130,7 @@ impl<'a, T> Iter<'a, T> {
             self.walk.told.in_range();
             return None;
         }
-        let bit = self.walk.rest.trailing_zeros() as usize;
-        self.walk.rest = without_first(self.walk.rest);
+        let bit = take_first(&mut self.walk.rest);
         let index = (self.walk.chunks - 1) * 64 + bit;
         self.walk.raw.index = index + 1;
         self.walk.raw.yielded += 1;

@@ -42,11 +42,9 @@ impl<T> Model for SharedParts<T> {
         × AreOfFirstBuckets s.reserved };
 }
 
-/// Accepts what threads may send and share.
-fn crosses<X: Send + Sync>(_: &X) {}
+/// What threads may send and share.
+trait Crosses: Send + Sync {}
 
-/// Makes the check show that threads may send and share the pointers where they may send the
-/// values, which the proofs of `Send` and `Sync` for `Shared` use. At run time it does nothing.
-fn pointers_cross<T: Send>(parts: &SharedParts<T>) {
-    crosses(parts);
-}
+// Makes the check show that threads may send and share the pointers where they may send the values,
+// which the proofs of `Send` and `Sync` for `Shared` use.
+impl<T: Send> Crosses for SharedParts<T> {}

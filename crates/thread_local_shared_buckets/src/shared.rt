@@ -15,7 +15,7 @@ use crate::parts::SharedParts;
 use crate::{Claim, SharedBucket};
 use std::marker::{Move, Owns, PhantomData};
 use thread_local_base::{Thread, bucket_size};
-use thread_local_buckets::{BucketPointers, Buckets, take_first};
+use thread_local_buckets::{BucketPointers, take_first};
 use thread_local_ids::{Book, HeldId, Reached, Right, Token, Told};
 
 mod lends;
@@ -44,21 +44,10 @@ impl<T> Move for Shared<T> {
 }
 
 impl<T> Shared<T> {
-    /// Lets threads share an owner's buckets, as the buckets of the table that the right belongs
-    /// to. The sharing gets a name.
-    pub fn new(buckets: Buckets<T>, own: &Right) -> Shared<T>
-        requires judged { Judged T.row }
-        ensures table { result.table ≡ own.now.table }
-        ensures sharing { IsSome result.sharing }
-        ensures reserved { result.reserved ≡ buckets.reserved }
-        ensures grown { result.grown_by_ids ≡ only_reserved buckets }
-    {
-        let (pointers, reserved) = buckets.into_parts();
-        Shared::of(pointers, reserved, own)
-    }
-
-    /// `new`, from an owner's pointers and the number of reserved slots.
-    fn of(pointers: BucketPointers<T>, reserved: usize, own: &Right) -> Shared<T>
+    /// Lets threads share an owner's buckets, of which it takes the pointers and the number of
+    /// reserved slots, as the buckets of the table that the right belongs to. The sharing gets a
+    /// name.
+    pub fn new(pointers: BucketPointers<T>, reserved: usize, own: &Right) -> Shared<T>
         requires judged { Judged T.row }
         requires owned { IsOwned (record { contents = pointers; reserved = reserved }) }
         ensures table { result.table ≡ own.now.table }
@@ -102,20 +91,9 @@ impl<T> Shared<T> {
         self.renew(own);
     }
 
-    /// Gives the buckets back to an owner, with all that was lent while they were shared, and with
-    /// what the slots were published with in the sharing that ends.
-    pub fn into_buckets_and_book(self) -> (Buckets<T>, Book<T>)
-        ensures reserved { result.0.reserved ≡ self.reserved }
-        ensures sharing { result.1.sharing ≡ self.sharing }
-        ensures contents { result.1.contents ≡ result.0.contents }
-    {
-        let (pointers, reserved, book) = self.into_parts();
-        (Buckets::from_parts(pointers, reserved), book)
-    }
-
     /// Gives the pointers and the number of reserved slots back to an owner, with all that was lent
-    /// while they were shared, and with what the slots were published with.
-    fn into_parts(self) -> (BucketPointers<T>, usize, Book<T>)
+    /// while they were shared, and with what the slots were published with in the sharing that ends.
+    pub fn into_parts(self) -> (BucketPointers<T>, usize, Book<T>)
         ensures reserved { result.1 ≡ self.reserved }
         ensures owned { IsOwned (record { contents = result.0; reserved = result.1 }) }
         ensures book { (result.2.sharing ≡ self.sharing) × (result.2.contents ≡ result.0) }

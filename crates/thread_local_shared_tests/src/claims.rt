@@ -1,7 +1,7 @@
 //! Claims that are sent or shared, and those of reserved buckets.
 
 use crate::same::assert_same;
-use crate::steps::{Kept, Table, left, publish_claimed, share};
+use crate::steps::{Kept, Table, left, publish_claimed, share, take_back};
 use std::cell::Cell;
 use std::test::Fail;
 use std::thread;
@@ -28,7 +28,7 @@ fn a_claim_goes_to_another_thread(rt: HostRuntime) -> Result<(), Fail> {
     };
     let (published, _) = thread::join(&rt, || claimed.publish(Cell::new(7u64)), || ());
     assert_same(&rt, published, true);
-    let value = shared.into_buckets_and_book().0.into_iter().next();
+    let value = take_back(shared).0.into_iter().next();
     assert_same(&rt, value.map(|cell| cell.get()), Some(7));
     Ok(())
 }

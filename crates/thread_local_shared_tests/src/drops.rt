@@ -2,7 +2,7 @@
 ghost use Rattle.std.specs.Prelude.{◌≡◌, ◌<◌};
 
 use crate::same::assert_same;
-use crate::steps::{Kept, Table, first_three, look, publish, share};
+use crate::steps::{Kept, Table, first_three, look, publish, share, take_back};
 use std::alloc::Global;
 use std::mem::forget;
 use std::sync::atomic::AtomicU64;
@@ -72,7 +72,7 @@ fn each_published_value_is_dropped_once(rt: HostRuntime) -> Result<(), Fail> {
     let shared = share(Buckets::new(rt.alloc()), &table.right);
     let published = publish_counted(&shared, &table, &rt, rt.alloc(), &drops, 100);
     let given_way = drops.load(SeqCst);
-    let mut values = shared.into_buckets_and_book().0.into_iter();
+    let mut values = take_back(shared).0.into_iter();
     drop(values.next());
     let taken = drops.load(SeqCst);
     drop(values);
@@ -127,7 +127,7 @@ fn a_forgotten_claim_costs_its_own_slot(rt: HostRuntime) {
     let shared = share(buckets, &table.right);
     let told = forget_two(&shared, &table, &rt, rt.alloc()).ok();
     let seen = [look(&shared, 0), look(&shared, 1), look(&shared, 2)];
-    let left = first_three(shared.into_buckets_and_book().0);
+    let left = first_three(take_back(shared).0);
     assert_same(
         &rt,
         (inserted, told, seen, left),

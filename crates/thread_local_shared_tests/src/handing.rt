@@ -4,7 +4,7 @@ ghost use Rattle.thread_local_base.specs.Judged.{Judged};
 ghost use Rattle.thread_local_ids.specs.Taken.{IsHeldIn};
 
 use crate::same::assert_same;
-use crate::steps::{Table, look, publish, share};
+use crate::steps::{Table, look, publish, share, take_back};
 use std::alloc::Global;
 use std::cell::{Cell, RefCell};
 use std::sync::Wait;
@@ -72,7 +72,7 @@ fn a_number_is_handed_on_from_thread_to_thread(rt: HostRuntime) -> Result<(), Fa
     let (held, published) = first;
     let (second, _) = thread::join(&rt, || add(there, held, own, 5), || ());
     let found = second.1;
-    let left = shared.into_buckets_and_book().0.into_iter().next();
+    let left = take_back(shared).0.into_iter().next();
     assert_same(
         &rt,
         (published, found, left.map(|cell| cell.get())),
@@ -107,13 +107,7 @@ fn comes_back<R: Wait, T: Send + Drop>(rt: &R, alloc: Global, value: T) -> bool
         return false;
     };
     let (_held, published) = publish(&shared, (held, right), &tenure, alloc, value);
-    published
-        && shared
-            .into_buckets_and_book()
-            .0
-            .into_iter()
-            .next()
-            .is_some()
+    published && take_back(shared).0.into_iter().next().is_some()
 }
 
 #[test]

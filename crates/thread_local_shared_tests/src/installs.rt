@@ -5,7 +5,7 @@ ghost use Rattle.thread_local_ids.specs.Taken.{IsHeldIn};
 ghost use Rattle.thread_local_base.specs.Place.{bucket_of};
 
 use crate::same::assert_same;
-use crate::steps::{Kept, Table, left, look, share};
+use crate::steps::{Kept, Table, left, look, share, take_back};
 use std::alloc::Global;
 use std::cell::{Cell, RefCell};
 use std::sync::Wait;
@@ -97,7 +97,7 @@ fn offer_by_all<R: Wait>(
 
 /// How many slots an owner has then, and how many values.
 fn slots_and_values(shared: Shared<u64>) -> (usize, usize) {
-    let mut buckets = shared.into_buckets_and_book().0;
+    let mut buckets = take_back(shared).0;
     (buckets.slots(), buckets.into_iter().len())
 }
 

@@ -2,7 +2,7 @@
 ghost use Rattle.std.specs.Prelude.{◌≡◌};
 
 use crate::same::assert_same;
-use crate::steps::{Table, publish, share};
+use crate::steps::{Table, publish, share, take_back};
 use std::alloc::Global;
 use std::sync::Wait;
 use std::test::Fail;
@@ -58,7 +58,7 @@ fn publish_by_eight<R: Wait + Threads + Sync>(racing: &Racing, rt: &R, alloc: Gl
 fn gives_all(racing: Racing) -> bool {
     let Racing { shared, table: _ } = racing;
     let mut next = 0usize;
-    for value in shared.into_buckets_and_book().0 {
+    for value in take_back(shared).0 {
         if value != next {
             return false;
         }

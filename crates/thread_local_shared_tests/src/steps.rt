@@ -8,7 +8,9 @@ use std::alloc::Global;
 use std::sync::Wait;
 use thread_local_base::{LocalError, Thread, bucket_size};
 use thread_local_buckets::{Buckets, flag_word_at};
-use thread_local_ids::{HeldId, Page, Reached, Right, Room, SharedIds, Taken, Tenure, TokenList};
+use thread_local_ids::{
+    Book, HeldId, Page, Reached, Right, Room, SharedIds, Taken, Tenure, TokenList,
+};
 use thread_local_shared_buckets::{Claim, Shared};
 
 /// The ids of a table, with the table's right, its first page and its room.
@@ -58,7 +60,18 @@ pub fn share<T>(buckets: Buckets<T>, own: &Right) -> Shared<T>
     ensures sharing { IsSome result.sharing }
     ensures reserved { result.reserved ≡ buckets.reserved }
 {
-    Shared::new(buckets, own)
+    let (pointers, reserved) = buckets.into_parts();
+    Shared::new(pointers, reserved, own)
+}
+
+/// Gives the buckets back to an owner, with what the slots were published with.
+pub fn take_back<T>(shared: Shared<T>) -> (Buckets<T>, Book<T>)
+    ensures reserved { result.0.reserved ≡ shared.reserved }
+    ensures sharing { result.1.sharing ≡ shared.sharing }
+    ensures contents { result.1.contents ≡ result.0.contents }
+{
+    let (pointers, reserved, book) = shared.into_parts();
+    (Buckets::from_parts(pointers, reserved), book)
 }
 
 /// A claim that is given up when this is dropped.
@@ -126,7 +139,7 @@ pub fn first_three(buckets: Buckets<u32>) -> [Option<u32>; 3] {
 
 /// How many slots an owner has then, and what its walk gives first, second and third.
 pub fn left(shared: Shared<u32>) -> (usize, [Option<u32>; 3]) {
-    let mut buckets = shared.into_buckets_and_book().0;
+    let mut buckets = take_back(shared).0;
     (buckets.slots(), first_three(buckets))
 }
 

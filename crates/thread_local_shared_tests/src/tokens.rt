@@ -5,7 +5,7 @@ ghost use Rattle.thread_local_base.specs.Buckets.{values};
 ghost use Rattle.thread_local_base.specs.Learnt.{Vacant};
 
 use crate::same::assert_same;
-use crate::steps::{Table, publish, share};
+use crate::steps::{Table, publish, share, take_back};
 use std::alloc::Global;
 use std::cell::Cell;
 use std::test::Fail;
@@ -65,7 +65,7 @@ fn owned<T>(shared: Shared<T>, one: &Token<T>, other: &Token<T>) -> Buckets<T>
     ensures one { values result.contents one.now.id ≡ Some one.now.value }
     ensures other { values result.contents other.now.id ≡ Some other.now.value }
 {
-    let (buckets, book) = shared.into_buckets_and_book();
+    let (buckets, book) = take_back(shared);
     book.tells(one);
     book.tells(other);
     buckets
@@ -196,12 +196,7 @@ fn renewed_buckets_keep_their_values(rt: HostRuntime) -> Result<(), Fail> {
     renewed(&mut shared, &table.right);
     let (_, second) = told(&shared, held, &tenure, rt.alloc(), Cell::new(4));
     let slots = shared.slots_reached().0;
-    let values = shared
-        .into_buckets_and_book()
-        .0
-        .into_iter()
-        .next()
-        .map(|c| c.get());
+    let values = take_back(shared).0.into_iter().next().map(|c| c.get());
     assert_same(&rt, (first.is_some(), second.is_some()), (true, true));
     assert_same(&rt, (slots, values), (1, Some(3)));
     Ok(())

@@ -2,7 +2,7 @@
 ghost use Rattle.std.specs.Prelude.{◌≡◌, ◌^◌, ◌<◌, ◌≤◌};
 ghost use Rattle.thread_local_base.specs.Judged.{Judged};
 
-use crate::steps::{has_bit, share};
+use crate::steps::{has_bit, share, take_back};
 use std::cell::{Cell, RefCell};
 use thread_local_base::{Judge, bucket_size, judge_sync};
 use thread_local_buckets::{Buckets, flag_word_at};
@@ -79,7 +79,7 @@ fn owner_slots(shared: &mut Shared<RefCell<String>>) -> usize
 fn back(shared: Shared<RefCell<String>>) -> Buckets<RefCell<String>>
     ensures { result.reserved ≡ shared.reserved }
 {
-    shared.into_buckets_and_book().0
+    take_back(shared).0
 }
 
 /// Buckets that are shared anew, by a caller that knows of the type what the buckets keep.
@@ -87,7 +87,7 @@ fn anew<T>(shared: Shared<T>, own: &Right) -> Shared<T>
     ensures { (result.table ≡ own.now.table) × (result.reserved ≡ shared.reserved) }
 {
     shared.judged();
-    share(shared.into_buckets_and_book().0, own)
+    share(take_back(shared).0, own)
 }
 
 fn published<'a>(row: &Row<'a, String>, bucket: usize, index: usize) -> Option<&'a String>

@@ -19,31 +19,31 @@ has_all own word first none_past = has_own own word _ first none_past (set_bit w
 some : (word : ℕ) → is_set word 0 ≡ true → 0 < word
 some word first = ⊎_elim (λ (none : word ≡ 0). none_set word 0 none first) (λ apart. omega arith) (cases_eq word 0)
 
-pub without_first-requires : goal.without_first-requires
-without_first-requires g c =
+pub take_first-requires : goal.take_first-requires
+take_first-requires g c =
     let word = c.load_announced-announced in
     elim c.match-own.branch [
-      | in-Some w ↦ rw w.all-is (some _ (has_all w.in-Some.own word.result word.ensures.first word.ensures.none_past).first)
-      | in-None w ↦ rw w.all-is (some _ word.ensures.first)
+      | in-Some w ↦ rw w.left-is (some _ (has_all w.in-Some.own word.result word.ensures.first word.ensures.none_past).first)
+      | in-None w ↦ rw w.left-is (some _ word.ensures.first)
     ]
 
 pub invariant_of-result : goal.invariant_of-result
 invariant_of-result g c =
     let word = c.load_announced-announced in
-    let Has : Option (Own _) → ℕ → Type 0 = λ own all. HasAll own word.result all in
+    let Has : Option (Own _) → ℕ → Type 0 = λ own left. HasAll own word.result left in
     begins _ refl refl refl refl c.requires.told
-    (begins_left c.args.buckets.now.sharing c.args.told c.args.own word.result c.match-own.all c.without_first.result
+    (begins_left c.args.buckets.now.sharing c.args.told c.args.own word.result c.match-own.left c.take_first.new.buckets c.take_first.result
     (elim c.match-own.branch [
       | in-Some w ↦
-          subst (λ (all : ℕ). Has c.args.own all) (sym w.all-is)
+          subst (λ (left : ℕ). Has c.args.own left) (sym w.left-is)
           (subst (λ (own : Option (Own _)). Has own (bit_or word.result (1 * 2 ^ w.in-Some.own.thread.bucket % 2 ^ 64))) (sym w.in-Some.is)
           (has_all w.in-Some.own word.result word.ensures.first word.ensures.none_past))
       | in-None w ↦
-          subst (λ (all : ℕ). Has c.args.own all) (sym w.all-is)
+          subst (λ (left : ℕ). Has c.args.own left) (sym w.left-is)
           (subst (λ (own : Option (Own _)). Has own word.result) (sym w.in-None.is)
           (has_announced word.result word.ensures.first word.ensures.none_past))
     ])
-    c.without_first.ensures.rest
+    c.take_first.ensures.first c.take_first.ensures.rest
     (subst (λ (ts : List (TokenView _)). (bucket : ℕ) → bucket < 63 → is_set word.result bucket ≡ false
     → NoneIn c.args.buckets.now.sharing bucket ts) c.list.ensures
     (subst (λ (sharing : Option ℕ). (bucket : ℕ) → bucket < 63 → is_set word.result bucket ≡ false

@@ -1,6 +1,6 @@
-use Rattle.std.proofs.Common.{◌≡◌, ◌∙◌, ◌<◌, ◌≤◌, ◌^◌, ℕ, Bool, true, false, List, Option, Some, IfSome, is_some, option_map, refl, ap, sym, subst, arith}
+use Rattle.std.proofs.Common.{◌≡◌, ◌∙◌, ◌<◌, ◌≤◌, ℕ, Bool, true, false, List, Option, Some, IfSome, is_some, option_map, refl, ap, sym, subst, arith}
 use Rattle.std.specs.Prelude.{MatchBool}
-use Rattle.std.specs.Int.{w64, trailing_zeros}
+use Rattle.thread_local_base.specs.Bits.{IsLowestSet}
 use Rattle.std.proofs.lemmas.Bool.{ne_eqb}
 use Rattle.thread_local_ids.specs.TokenLists.{AllOf}
 use Rattle.thread_local_ids.specs.Views.{TokenView}
@@ -15,7 +15,7 @@ use Rattle.thread_local_shared_buckets.specs.Walks.{WalkView, Goes}
 use Rattle.thread_local_shared_buckets.proofs.Findings.{Item, IsSetIn, IsGivenBy, IsToldAt, Stops, YieldsFrom}
 use Rattle.thread_local_shared_buckets.proofs.AtHandLaws.{comes_nowhere}
 use Rattle.thread_local_shared_buckets.proofs.OwnLaws.{at_if, not_at}
-use Rattle.thread_local_shared_buckets.proofs.PassLaws.{near, lowest_of, set_lowest, after_pass, Passed, passed_own, passed_seen}
+use Rattle.thread_local_shared_buckets.proofs.PassLaws.{near, set_lowest, after_pass, Passed, passed_own, passed_seen}
 use Rattle.thread_local_shared_buckets.proofs.ToldLaws.{moved, meets_some, stops}
 use Rattle.thread_local_shared_buckets.proofs.WalkLaws.{gives_later, fits}
 use Rattle.thread_local_shared_buckets.proofs.iter.Iter.step.Goals as goal
@@ -69,10 +69,6 @@ module _ {V : Type 0} where
     pub comes : Comes from.walk met.walk
     pub shown : met.shown ≡ from.shown
 
-  -- the lowest flag at hand
-  abbrev low_of : Walk V → ℕ
-  low_of w = trailing_zeros w64 w.rest
-
   -- the walk gave the value of that flag
   record HasGiven (met to : Inside V) (x : Item V) : Type 0 where
     pub passed : Passed met.walk x to.walk
@@ -82,15 +78,15 @@ module _ {V : Type 0} where
     pub stops : AllOf met.walk.buckets.now.sharing (λ p. Stops met.walk.raw to.walk.raw p.id) met.walk.told
 
   -- where that is the own value, or the walk has seen it
-  gave : (met : Inside V) (rest : ℕ) (left : Option (Own V)) (x : Item V) → IsWalk met.walk → met.walk.rest < 2 ^ 64 → 0 < met.walk.rest
-      → Passed met.walk x (after_pass met.walk (low_of met.walk) rest left)
-      → HasGiven met (record { walk = after_pass met.walk (low_of met.walk) rest left; shown = met.shown }) x
-  gave met rest left x walk fits some passed = record {
+  gave : (met : Inside V) (low rest : ℕ) (left : Option (Own V)) (x : Item V) → IsWalk met.walk → IsLowestSet met.walk.rest low
+      → Passed met.walk x (after_pass met.walk low rest left)
+      → HasGiven met (record { walk = after_pass met.walk low rest left; shown = met.shown }) x
+  gave met low rest left x walk lowest passed = record {
     passed = passed;
     buckets = refl;
     told = refl;
     shown = refl;
-    stops = stops met.walk (low_of met.walk) walk (lowest_of met.walk fits some);
+    stops = stops met.walk low walk lowest;
   }
 
 come_to : (g : _) (c : Joined-else-self-eq0 g) → HasCome c.self.inside c.else-self-eq0.self-inside
@@ -117,34 +113,34 @@ come_to g c =
 pub overflow_sub-index : goal.overflow_sub-index
 overflow_sub-index g c =
     let come = come_to g (goal.at.overflow_sub-index g c).Joined-else-self-eq0 in
-    let at = near c.else-self-eq0.self-inside.walk come.walk (omega arith) come.some in omega (arith, at.some)
+    let at = near c.else-self-eq0.self-inside.walk c.take_first-bit.result come.walk c.take_first-bit.ensures.first in omega (arith, at.some)
 
 pub overflow_mul-index : goal.overflow_mul-index
 overflow_mul-index g c =
     let come = come_to g (goal.at.overflow_mul-index g c).Joined-else-self-eq0 in
-    let at = near c.else-self-eq0.self-inside.walk come.walk (omega arith) come.some in omega (arith, at.slot)
+    let at = near c.else-self-eq0.self-inside.walk c.take_first-bit.result come.walk c.take_first-bit.ensures.first in omega (arith, at.slot)
 
 pub overflow_add-index : goal.overflow_add-index
 overflow_add-index g c =
     let come = come_to g (goal.at.overflow_add-index g c).Joined-else-self-eq0 in
-    let at = near c.else-self-eq0.self-inside.walk come.walk (omega arith) come.some in omega (arith, at.slot)
+    let at = near c.else-self-eq0.self-inside.walk c.take_first-bit.result come.walk c.take_first-bit.ensures.first in omega (arith, at.slot)
 
 pub overflow_add-self : goal.overflow_add-self
 overflow_add-self g c =
     let come = come_to g (goal.at.overflow_add-self g c).Joined-else-self-eq0 in
-    let at = near c.else-self-eq0.self-inside.walk come.walk (omega arith) come.some in omega (arith, at.slot)
+    let at = near c.else-self-eq0.self-inside.walk c.take_first-bit.result come.walk c.take_first-bit.ensures.first in omega (arith, at.slot)
 
 pub overflow_add-self-2 : goal.overflow_add-self-2
 overflow_add-self-2 g c =
     let come = come_to g (goal.at.overflow_add-self-2 g c).Joined-else-self-eq0 in
-    let at = near c.else-self-eq0.self-inside.walk come.walk (omega arith) come.some in omega (arith, at.few)
+    let at = near c.else-self-eq0.self-inside.walk c.take_first-bit.result come.walk c.take_first-bit.ensures.first in omega (arith, at.few)
 
 -- whether the own value lies at the lowest flag
 tested : (g : _) (c : Joined-self-2 g)
-    → let w = c.else-self-eq0.self-inside.walk in c.match-self-2.here ≡ is_at w.own w.raw.bucket (slot_of w (low_of w))
+    → let w = c.else-self-eq0.self-inside.walk in c.match-self-2.here ≡ is_at w.own w.raw.bucket (slot_of w c.take_first-bit.result)
 tested g c =
     let w = c.else-self-eq0.self-inside.walk in
-    let index = slot_of w (low_of w) in
+    let index = slot_of w c.take_first-bit.result in
     elim c.match-self-2.branch [
       | in-Some-own+then-own-self x ↦ x.here-is ∙ sym (at_if w.own x.in-Some-own.own w.raw.bucket index x.in-Some-own.is x.if-own-self.true)
       | in-Some-own+else-own-self x ↦
@@ -155,33 +151,33 @@ tested g c =
 
 -- where it doesn't, the walk saw that flag set
 set_there : (g : _) (c : Joined-self-2 g) → HasCome c.self.inside c.else-self-eq0.self-inside → c.match-self-2.here ≡ false
-    → let w = c.else-self-eq0.self-inside.walk in IsSetIn w.seen (low_of w)
+    → let w = c.else-self-eq0.self-inside.walk in IsSetIn w.seen c.take_first-bit.result
 set_there g c come apart =
-    set_lowest c.else-self-eq0.self-inside.walk come.walk (omega arith) come.some (sym (tested g c) ∙ apart)
+    set_lowest c.else-self-eq0.self-inside.walk c.take_first-bit.result come.walk c.take_first-bit.ensures.first (sym (tested g c) ∙ apart)
 
 pub give-requires-clause-set : goal.give-requires-clause-set
 give-requires-clause-set g c =
     let at = goal.at.give-requires-clause-set g c in
-    subst (λ (seen : Option (Seen _)). IsSetIn seen (low_of c.else-self-eq0.self-inside.walk)) c.in-Some-seen.is
+    subst (λ (seen : Option (Seen _)). IsSetIn seen c.take_first-bit.result) c.in-Some-seen.is
     (set_there g at.Joined-self-2 (come_to g at.Joined-else-self-eq0) c.if-here.false)
 
 pub unreachable-requires-in-None-seen : goal.unreachable-requires-in-None-seen
 unreachable-requires-in-None-seen g c =
     let at = goal.at.unreachable-requires-in-None-seen g c in
-    subst (λ (seen : Option (Seen _)). IsSetIn seen (low_of c.else-self-eq0.self-inside.walk)) c.in-None-seen.is
+    subst (λ (seen : Option (Seen _)). IsSetIn seen c.take_first-bit.result) c.in-None-seen.is
     (set_there g at.Joined-self-2 (come_to g at.Joined-else-self-eq0) c.if-here.false)
 
 -- the walk gave its own value, or the value that it saw
 given_here : (g : _) (c : Joined-here g) → HasCome c.self.inside c.else-self-eq0.self-inside
-    → (let w = c.else-self-eq0.self-inside.walk in c.match-self-2.here ≡ is_at w.own w.raw.bucket (slot_of w (low_of w)))
+    → (let w = c.else-self-eq0.self-inside.walk in c.match-self-2.here ≡ is_at w.own w.raw.bucket (slot_of w c.take_first-bit.result))
     → HasGiven c.else-self-eq0.self-inside c.if-here.self-inside c.if-here.found
 given_here g c come test =
     let met = c.else-self-eq0.self-inside in
     let w = met.walk in
-    let low = low_of w in
-    let lowest = lowest_of w (omega arith) come.some in
-    let rest = c.without_first-self-inside.result in
-    let cleared = c.without_first-self-inside.ensures.rest low lowest in
+    let low = c.take_first-bit.result in
+    let lowest = c.take_first-bit.ensures.first in
+    let rest = c.take_first-bit.new.buckets in
+    let cleared = c.take_first-bit.ensures.rest in
     elim c.if-here.branch [
       | then-here+in-Some-take x ↦
           let own = x.in-Some-take.own in
@@ -192,7 +188,7 @@ given_here g c come test =
           subst (λ (to : Inside _). HasGiven met to c.if-here.found) (sym x.self-inside-is)
           (subst
           (λ (found : Item _). HasGiven met (record { walk = after_pass w low rest left; shown = met.shown }) found) (sym x.found-is)
-          (gave met rest left (own.witness, own.value) come.walk (omega arith) come.some
+          (gave met low rest left (own.witness, own.value) come.walk lowest
           (subst
           (λ (o : Option (Own _)). Passed w (own.witness, own.value) (after_pass w low rest o)) (sym x.take.ensures.after)
           (passed_own w low rest own (own.witness, own.value) is come.walk lowest cleared at refl refl))))
@@ -201,7 +197,7 @@ given_here g c come test =
           subst (λ (to : Inside _). HasGiven met to c.if-here.found) (sym x.self-inside-is)
           (subst
           (λ (found : Item _). HasGiven met (record { walk = after_pass w low rest w.own; shown = met.shown }) found) (sym x.found-is)
-          (gave met rest w.own x.give.result come.walk (omega arith) come.some
+          (gave met low rest w.own x.give.result come.walk lowest
           (passed_seen w low rest x.give.result come.walk lowest cleared (sym test ∙ x.if-here.false)
           (subst (λ (seen : Option (Seen _)). IfSome seen (IsGivenBy low x.give.result)) (sym x.in-Some-seen.is)
           (record { sharing = told.0; id = told.1; value = told.2 })))))

@@ -1,4 +1,4 @@
--- `of` puts an owner's pointers beside the number, and begins a sharing: they are shared buckets at
+-- `new` puts an owner's pointers beside the number, and begins a sharing: they are shared buckets at
 -- rest.
 use Rattle.std.proofs.Common.{Bool, Some, None, IsSome, ◌≢◌, ◌≡◌, ℕ, ◌^◌, ◌<◌, List, [], ◌∷◌, ◌++◌, refl, sym, subst, w64}
 use mir.Syntax.{a_type, named}
@@ -41,14 +41,14 @@ use Rattle.thread_local_shared_buckets.specs.TableView.{TableView}
 use Rattle.thread_local_shared_buckets.proofs.AnnouncingLaws.{new_rights, rights_new}
 use Rattle.thread_local_shared_buckets.specs.Grown.{only_reserved}
 use Rattle.thread_local_shared_buckets.specs.contracts.shared.Shared as shared
-use Rattle.thread_local_shared_buckets.specs.contracts.shared.Shared.of.{ended, clauses, Key.name as #self}
+use Rattle.thread_local_shared_buckets.specs.contracts.shared.Shared.new.{ended, clauses, Key.name as #self}
 use Rattle.thread_local_shared_buckets.proofs.Turned.{pair_val, makes_shared}
-use Rattle.thread_local_shared_buckets.proofs.shared.Shared.of.Statement.{statement}
-use Rattle.thread_local_shared_buckets.proofs.shared.Shared.of.Code as code
+use Rattle.thread_local_shared_buckets.proofs.shared.Shared.new.Statement.{statement}
+use Rattle.thread_local_shared_buckets.proofs.shared.Shared.new.Code as code
 use Rattle.thread_local_base.proofs.Walking.{knows}
 
-pub of_spec : {M : Type 1} → statement M
-of_spec 𝓤 𝓛 𝓜 𝓡 wired T L =
+pub new_spec : {M : Type 1} → statement M
+new_spec 𝓤 𝓛 𝓜 𝓡 wired T L =
     let 𝓣 = tables 𝓤 𝓛.H 𝓜 𝓡 𝓡.env in let R : RattleType = param 0 T in let LR : Laws R = param_laws 0 T L in
     let Sh : RattleType = shared.the_row R in
     let Ws : RattleType = all_pointers.the_row R in
