@@ -198,18 +198,6 @@ impl OwnerCursor {
         self.later -= count;
     }
 
-    /// Reads on where no flag is at hand.
-    #[inline]
-    pub fn reach<P: FlagSource>(&mut self, source: &mut P)
-        requires may_read { MayRead (P.contents source.old) (P.given source.old) self.old }
-        ensures same { source.new ≡ source.old }
-        ensures read { HasRead (P.contents source.old) (P.given source.old) self.old self.new }
-    {
-        if self.rest == 0 {
-            self.read_on(source);
-        }
-    }
-
     /// Passes the next value, whose flag must be at hand, and returns the number of that flag's
     /// bit. The caller takes the value out of the source.
     #[inline]
