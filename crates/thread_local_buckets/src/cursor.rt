@@ -1,7 +1,7 @@
 //! How an owner's walk finds its next value: it reads the flags of 64 slots at a time, and skips
 //! flags that are all 0.
 ghost use Rattle.std.specs.Prelude.{◌≡◌, ◌+◌, ◌*◌, ◌^◌, ◌<◌, ◌≤◌, true, false, [], ◌∷◌, ℕ, length, Some, None, is_some, IsSome};
-ghost use Rattle.thread_local_base.specs.Bits.{is_set, IsLowestSet, IsWordBut};
+ghost use Rattle.thread_local_base.specs.Bits.{is_set};
 ghost use Rattle.thread_local_base.specs.Place.{id_at};
 ghost use Rattle.thread_local_base.specs.Buckets.{Contents, row, stands, values};
 ghost use Rattle.thread_local_base.specs.Rows.{value_in, with_slot};
@@ -94,16 +94,6 @@ fn flags_in_bucket<P: FlagSource>(source: &mut P, raw: &mut RawIter) -> u64
             return flags;
         }
     }
-}
-
-/// The flags, with the lowest set one cleared.
-#[inline]
-pub fn without_first(flags: u64) -> u64
-    requires { 0 < flags }
-    ensures rest { (first : ℕ) → IsLowestSet flags first → IsWordBut result flags first false }
-    ensures fewer { result < flags }
-{
-    flags & (flags - 1)
 }
 
 /// Where an owner's walk is, and how many values it has left. It reads the flags of 64 slots at a
@@ -234,8 +224,9 @@ impl OwnerCursor {
             (with_slot (P.contents source.old) self.new.raw.bucket (slot_at self.new.raw result) None))) }
     {
         let _ = source;
-        let bit = self.rest.trailing_zeros() as usize;
-        self.rest = without_first(self.rest);
+        let mut rest = self.rest;
+        let bit = take_first(&mut rest);
+        self.rest = rest;
         bit
     }
 }
