@@ -60,7 +60,7 @@ behind_flags cursor raw flags buckets = record {
 }
 
 -- the cursor of a walk that begins
-abbrev pub begun : ℕ → ℕ → OwnerCursor
+abbrev begun : ℕ → ℕ → OwnerCursor
 begun announced count = record {
   raw = record { yielded = 0; bucket = 0; bucket_size = 1; index = 0 };
   read = 0;
