@@ -9,7 +9,7 @@ use Rattle.thread_local_base.specs.Place.{id_at}
 use Rattle.thread_local_base.specs.Buckets.{Contents, row, values}
 use Rattle.thread_local_base.specs.Rows.{value_in}
 use Rattle.thread_local_base.specs.Owner.{NoneBelow}
-use Rattle.thread_local_buckets.specs.Cursor.{at_bucket, behind_next, AreFlagsAt, IsAt}
+use Rattle.thread_local_buckets.specs.Cursor.{behind_next, AreFlagsAt, IsAt}
 use Rattle.thread_local_buckets.specs.declared.cursor.RawIter.{RawIter}
 use Rattle.thread_local_base.proofs.TakingLaws.{NoneBelow-slot, id_at-next}
 
@@ -22,6 +22,10 @@ pub record IsFirst {V : Type 0} (c : Contents V) (raw : RawIter) (word index : �
   pub whole : length (row c raw.bucket) ≡ 2 ^ raw.bucket
   pub flags : AreFlagsAt c raw.bucket index word
   pub first : IsLowestSet word (index % 64)
+
+-- the walk at the first slot of a bucket
+abbrev at_bucket : RawIter → ℕ → RawIter
+at_bucket raw bucket = record { yielded = raw.yielded; bucket = bucket; bucket_size = 2 ^ bucket; index = 0 }
 
 module _ {V : Type 0} where
   -- empty slots are skipped
