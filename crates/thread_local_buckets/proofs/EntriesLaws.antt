@@ -34,3 +34,9 @@ module _ {V : Type 0} where
   -- so none are left where no value is
   pub no_entries : (values : ℕ → Option V) → length (walk values) ≡ 0 → walk (paired values) ≡ []
   no_entries values none = nil_from_length (walk (paired values)) (length_of_entries values ∙ none)
+
+  -- where an entry is the first of the walk with ids, its value is that of the walk without
+  pub first_value : (before after : ℕ → Option V) (entry : ℕ × V) → walk (paired before) ≡ entry ∷ walk (paired after)
+      → walk before ≡ entry.1 ∷ walk after
+  first_value before after entry first =
+      sym (walk_of_entries before) ∙ ap (map (λ (each : ℕ × V). each.1)) first ∙ ap (λ (vs : List V). entry.1 ∷ vs) (walk_of_entries after)

@@ -1,16 +1,15 @@
 -- How a walk finds its next value by the flags of 64 slots at a time.
 use Rattle.std.proofs.Common.{◌≡◌, ℕ, zero, suc, ◌+◌, ◌*◌, ◌/◌, ◌%◌, ◌^◌, ◌<◌, ◌≤◌, true, false, length, None, is_some}
-use Rattle.std.proofs.Common.{refl, ap, sym, ◌∙◌, subst, arith, ⊎_elim, true≢false, w64, ◌-◌}
-use Rattle.std.specs.Int.{trailing_zeros}
+use Rattle.std.proofs.Common.{refl, ap, sym, ◌∙◌, subst, arith, ⊎_elim, true≢false, ◌-◌}
 use Rattle.std.proofs.lemmas.List.{get_or_past}
 use Rattle.std.proofs.lemmas.Bool.{cases_lt}
 use Rattle.thread_local_base.specs.Bits.{is_set, IsLowestSet}
-use Rattle.thread_local_base.proofs.Word.{lowest_set, is_set-zero}
+use Rattle.thread_local_base.proofs.Word.{is_set-zero}
 use Rattle.thread_local_base.specs.Place.{id_at}
 use Rattle.thread_local_base.specs.Buckets.{Contents, row, values}
 use Rattle.thread_local_base.specs.Rows.{value_in}
 use Rattle.thread_local_base.specs.Owner.{NoneBelow}
-use Rattle.thread_local_buckets.specs.Cursor.{at_bucket, behind_next, AreFlagsAt, IsAt}
+use Rattle.thread_local_buckets.specs.Cursor.{behind_next, AreFlagsAt, IsAt}
 use Rattle.thread_local_buckets.specs.declared.cursor.RawIter.{RawIter}
 use Rattle.thread_local_base.proofs.TakingLaws.{NoneBelow-slot, id_at-next}
 
@@ -23,6 +22,10 @@ pub record IsFirst {V : Type 0} (c : Contents V) (raw : RawIter) (word index : �
   pub whole : length (row c raw.bucket) ≡ 2 ^ raw.bucket
   pub flags : AreFlagsAt c raw.bucket index word
   pub first : IsLowestSet word (index % 64)
+
+-- the walk at the first slot of a bucket
+abbrev at_bucket : RawIter → ℕ → RawIter
+at_bucket raw bucket = record { yielded = raw.yielded; bucket = bucket; bucket_size = 2 ^ bucket; index = 0 }
 
 module _ {V : Type 0} where
   -- empty slots are skipped
@@ -87,12 +90,10 @@ module _ {V : Type 0} where
       (cases_lt raw.index 1)
 
   -- the lowest set bit of the flags is that of the first value
-  pub first_at_hand : (c : Contents V) (raw : RawIter) (word : ℕ) → word < 2 ^ 64 → 0 < word
+  pub first_at_hand : (c : Contents V) (raw : RawIter) (word bit : ℕ) → 0 < word → IsLowestSet word bit
       → IsAt c raw word
-      → IsFirst c raw word (raw.index - 64 + trailing_zeros w64 word)
-  first_at_hand c raw word fits some at =
-      let low = lowest_set word fits (omega arith) in
-      let bit : ℕ = trailing_zeros w64 word in
+      → IsFirst c raw word (raw.index - 64 + bit)
+  first_at_hand c raw word bit some low at =
       let within : bit < 64 = low.within in
       let round = at.round in
       let behind : 64 ≤ raw.index = behind_slots c raw word at some in

@@ -1,8 +1,8 @@
 -- The walk and the contents once the walk has passed its next value.
 use Rattle.std.proofs.Common.{◌≡◌, ◌≢◌, ℕ, ◌+◌, ◌-◌, ◌*◌, ◌/◌, ◌%◌, ◌^◌, ◌<◌, ◌≤◌, false, length, ◌∷◌, Option, Some}
-use Rattle.std.proofs.Common.{None, is_some, IsSome, bit_and, count_ones, set, refl, ap, sym, ◌∙◌, arith, ⊎_elim}
+use Rattle.std.proofs.Common.{None, is_some, IsSome, bit_and, count_ones, set, refl, ap, sym, ◌∙◌, subst, arith, ⊎_elim}
 use Rattle.std.specs.Prelude.{nat_lt}
-use Rattle.std.specs.Int.{w64, bit_not, trailing_zeros}
+use Rattle.std.specs.Int.{w64, bit_not}
 use Rattle.std.proofs.lemmas.Bool.{cases_eq, eq-eqb, ne_eqb, cases_lt}
 use Rattle.std.proofs.lemmas.Nat.{zero_from_ones}
 use Rattle.std.proofs.lemmas.List.{get_or-set_same, get_or-set_other}
@@ -60,7 +60,7 @@ behind_flags cursor raw flags buckets = record {
 }
 
 -- the cursor of a walk that begins
-abbrev pub begun : ℕ → ℕ → OwnerCursor
+abbrev begun : ℕ → ℕ → OwnerCursor
 begun announced count = record {
   raw = record { yielded = 0; bucket = 0; bucket_size = 1; index = 0 };
   read = 0;
@@ -108,20 +108,22 @@ module _ {V : Type 0} where
       let whole : i / 64 * 64 + i % 64 ≡ i = omega arith in
       ap (λ k. is_some (value_in c raw.bucket k)) (sym whole) ∙ sym (at.flags (i % 64) at.first.within) ∙ at.first.set
 
-  pub passes : (c : Contents V) (cursor : OwnerCursor) (rest given : ℕ) → IsOwnerWalk c cursor
+  pub passes : (c : Contents V) (cursor : OwnerCursor) (rest bit given : ℕ) → IsOwnerWalk c cursor
       → cursor.rest < 2 ^ 64 → 0 < cursor.rest → rest < 2 ^ 64
-      → ((bit : ℕ) → IsLowestSet cursor.rest bit → IsWordBut rest cursor.rest bit false) → NoneBelow (values c) given
-      → Passes c cursor rest given (cursor.raw.index - 64 + trailing_zeros w64 cursor.rest)
-  passes c cursor rest given walks fit some fits cleared before =
+      → IsLowestSet cursor.rest bit → IsWordBut rest cursor.rest bit false → NoneBelow (values c) given
+      → Passes c cursor rest given (cursor.raw.index - 64 + bit)
+  passes c cursor rest bit given walks fit some fits low cleared before =
       let raw : RawIter = cursor.raw in
-      let i : ℕ = raw.index - 64 + trailing_zeros w64 cursor.rest in
+      let i : ℕ = raw.index - 64 + bit in
       let b : ℕ = raw.bucket in
       let at = walks.at in
       let size = at.size in
       let within = at.within in
       let round = at.round in
-      let from = first_at_hand c raw cursor.rest fit some at in
-      let but = cleared (i % 64) from.first in
+      let from = first_at_hand c raw cursor.rest bit some low at in
+      let lies = low.within in
+      let at_bit : bit ≡ i % 64 = omega arith in
+      let but = subst (λ (k : ℕ). IsWordBut rest cursor.rest k false) at_bit cleared in
       let inside = from.inside in
       let read = from.read in
       let whole = from.whole in

@@ -142,12 +142,6 @@ module _ {V : Type 0} where
   AreAhead-of_none word count few none_past =
       AreAhead-behind no_rows word count few (AreAhead-from no_rows word none_past (λ b low stood. absurd (false≢true stood)))
 
-  -- and those behind the first
-  pub AreAhead-begun : (c : Contents V) (word rest : ℕ) → Announces word c → IsWordBut rest word 0 false → AreAhead c rest 1
-  AreAhead-begun c word rest told but =
-      (takes c word rest 0 0 (AreAhead-all c word told)
-      (record { within = omega arith; set = told.first 0 (omega arith); lower = λ i below. absurd (omega arith) }) but).ahead
-
   -- the same buckets stand in other contents
   pub AreAhead-same : (c d : Contents V) (word from : ℕ) → ((b : ℕ) → stands d b ≡ stands c b) → AreAhead c word from → AreAhead d word from
   AreAhead-same c d word from same ahead = record {

@@ -10,10 +10,6 @@ use Rattle.thread_local_buckets.specs.Announced.{AreAhead}
 use Rattle.thread_local_buckets.specs.declared.cursor.RawIter.{RawIter}
 use Rattle.thread_local_buckets.specs.declared.cursor.OwnerCursor.{OwnerCursor}
 
--- the walk at the first slot of a bucket
-abbrev pub at_bucket : RawIter → ℕ → RawIter
-at_bucket raw bucket = record { yielded = raw.yielded; bucket = bucket; bucket_size = 2 ^ bucket; index = 0 }
-
 -- the walk behind the next chunk of its bucket
 abbrev pub behind_next : RawIter → RawIter
 behind_next raw =

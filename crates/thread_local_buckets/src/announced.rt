@@ -2,8 +2,6 @@
 ghost use Rattle.std.specs.Prelude.{◌<◌, false};
 ghost use Rattle.thread_local_base.specs.Bits.{IsLowestSet, IsWordBut};
 
-use crate::without_first;
-
 /// A bit for each announced bucket. It is a struct, since threads share it as a struct of one field.
 #[derive(Clone, Copy)]
 pub struct AnnouncedBuckets {
@@ -13,7 +11,7 @@ pub struct AnnouncedBuckets {
 /// The first seven buckets, which are announced from the beginning.
 pub(crate) const FIRST_SEVEN: u64 = 127;
 
-/// Takes the first bucket out of a word of buckets.
+/// Takes the lowest set bit out of a word, of buckets or of flags, and returns its number.
 #[inline]
 pub fn take_first(buckets: &mut u64) -> usize
     requires { 0 < buckets.old }
@@ -22,6 +20,6 @@ pub fn take_first(buckets: &mut u64) -> usize
     ensures fewer { buckets.new < buckets.old }
 {
     let first = buckets.trailing_zeros() as usize;
-    *buckets = without_first(*buckets);
+    *buckets &= *buckets - 1;
     first
 }

@@ -310,8 +310,15 @@ impl<T: Drop> IntoIterator for Buckets<T> {
     /// A walk over the values by ascending id, each moved out. It begins with a count of the
     /// values.
     fn into_iter(self) -> IntoIter<T> {
+        // Taken apart first, as in `into_entries`.
+        let Buckets {
+            mut pointers,
+            reserved,
+        } = self;
+        let cursor = pointers.begin_walk();
         IntoIter {
-            entries: self.into_entries(),
+            buckets: Buckets { pointers, reserved },
+            cursor,
         }
     }
 }

@@ -13,7 +13,8 @@ pub struct Chunk<T> {
     pub flags: u64,
 }
 
-/// How many bytes a value takes.
+/// How many bytes a value takes. It is proved by hand: the check takes `size_of` of a type parameter
+/// in a product alone, and only where that is shown to fit.
 #[inline]
 pub fn value_size<T>() -> usize
     ensures { result ≡ capped (stride T.row) }

@@ -1,7 +1,7 @@
 //! How an owner's walk finds its next value: it reads the flags of 64 slots at a time, and skips
 //! flags that are all 0.
 ghost use Rattle.std.specs.Prelude.{◌≡◌, ◌+◌, ◌*◌, ◌^◌, ◌<◌, ◌≤◌, true, false, [], ◌∷◌, ℕ, length, Some, None, is_some, IsSome};
-ghost use Rattle.thread_local_base.specs.Bits.{is_set, IsLowestSet, IsWordBut};
+ghost use Rattle.thread_local_base.specs.Bits.{is_set};
 ghost use Rattle.thread_local_base.specs.Place.{id_at};
 ghost use Rattle.thread_local_base.specs.Buckets.{Contents, row, stands, values};
 ghost use Rattle.thread_local_base.specs.Rows.{value_in, with_slot};
@@ -96,16 +96,6 @@ fn flags_in_bucket<P: FlagSource>(source: &mut P, raw: &mut RawIter) -> u64
     }
 }
 
-/// The flags, with the lowest set one cleared.
-#[inline]
-pub fn without_first(flags: u64) -> u64
-    requires { 0 < flags }
-    ensures rest { (first : ℕ) → IsLowestSet flags first → IsWordBut result flags first false }
-    ensures fewer { result < flags }
-{
-    flags & (flags - 1)
-}
-
 /// Where an owner's walk is, and how many values it has left. It reads the flags of 64 slots at a
 /// time, and goes by these until all their values are passed. No call takes memory.
 #[derive(Drop)]
@@ -198,18 +188,6 @@ impl OwnerCursor {
         self.later -= count;
     }
 
-    /// Reads on where no flag is at hand.
-    #[inline]
-    pub fn reach<P: FlagSource>(&mut self, source: &mut P)
-        requires may_read { MayRead (P.contents source.old) (P.given source.old) self.old }
-        ensures same { source.new ≡ source.old }
-        ensures read { HasRead (P.contents source.old) (P.given source.old) self.old self.new }
-    {
-        if self.rest == 0 {
-            self.read_on(source);
-        }
-    }
-
     /// Passes the next value, whose flag must be at hand, and returns the number of that flag's
     /// bit. The caller takes the value out of the source.
     #[inline]
@@ -246,8 +224,9 @@ impl OwnerCursor {
             (with_slot (P.contents source.old) self.new.raw.bucket (slot_at self.new.raw result) None))) }
     {
         let _ = source;
-        let bit = self.rest.trailing_zeros() as usize;
-        self.rest = without_first(self.rest);
+        let mut rest = self.rest;
+        let bit = take_first(&mut rest);
+        self.rest = rest;
         bit
     }
 }

@@ -90,15 +90,22 @@ impl<T: fmt::Debug> fmt::Debug for IntoEntries<T> {
 /// and frees every bucket. The Rust crate promises no order.
 #[derive(Drop)]
 pub struct IntoIter<T> {
-    pub(crate) entries: IntoEntries<T>,
+    pub(crate) buckets: Buckets<T>,
+    pub(crate) cursor: OwnerCursor,
 }
 
 impl<T> Model for IntoIter<T> {
-    ghost use Rattle.std.specs.Prelude.{List, map};
+    ghost use Rattle.std.specs.Prelude.{List};
+    ghost use Rattle.thread_local_base.specs.Buckets.{values};
+    ghost use Rattle.thread_local_base.specs.Walk.{walk};
 
     ghost Value = { List T };
 
-    ghost view = { λ it. map (λ entry. entry.1) it.entries };
+    ghost use Rattle.thread_local_buckets.specs.Cursor.{IsOwnerWalk};
+
+    ghost view = { λ it. walk (values it.buckets.contents) };
+
+    ghost invariant = { λ it. IsOwnerWalk it.buckets.contents it.cursor };
 }
 
 impl<T: Drop> Iterator for IntoIter<T> {
@@ -111,10 +118,11 @@ impl<T: Drop> Iterator for IntoIter<T> {
     /// The next value, whose flag is cleared before it moves out.
     #[inline(always)]
     fn next(&mut self) -> Option<T> {
-        match self.entries.next() {
-            Some((_, value)) => Some(value),
-            None => None,
+        if self.cursor.is_over() {
+            return None;
         }
+        let (_, value) = self.buckets.take_next(&mut self.cursor);
+        Some(value)
     }
 
     /// The number of values still to come, as both bounds.
@@ -123,14 +131,15 @@ impl<T: Drop> Iterator for IntoIter<T> {
         ensures lower { IsWithinCount result.0 (item_count (λ rest. rest) self.now) }
         ensures upper { IfSome result.1 (UpTo (item_count (λ rest. rest) self.now)) }
     {
-        self.entries.size_hint()
+        let left = self.len();
+        (left, Some(left))
     }
 }
 
 impl<T: Drop> ExactSizeIterator for IntoIter<T> {
     /// The number of values still to come. They were counted when the walk was made.
     fn len(&self) -> usize {
-        self.entries.len()
+        self.cursor.len()
     }
 }
 
@@ -139,6 +148,6 @@ impl<T: Drop> FusedIterator for IntoIter<T> {}
 impl<T: fmt::Debug> fmt::Debug for IntoIter<T> {
     /// Shows only where the walk is. The Rust crate shows the table.
     fn fmt<W: fmt::Write>(&self, f: &mut fmt::Formatter<W>) -> fmt::Result {
-        self.entries.cursor.write_as(f, "IntoIter")
+        self.cursor.write_as(f, "IntoIter")
     }
 }

@@ -170,7 +170,8 @@ impl<'a, T> Iterator for IterMut<'a, T> {
         ensures lower { IsWithinCount result.0 (item_count iter_mut_rest self.now) }
         ensures upper { IfSome result.1 (UpTo (item_count iter_mut_rest self.now)) }
     {
-        self.entries.size_hint()
+        let left = self.len();
+        (left, Some(left))
     }
 }
 

@@ -25,6 +25,6 @@ pub use bucket_pointer::BucketPointer;
 pub use bucket_pointers::BucketPointers;
 pub use buckets::{Buckets, CapacityError};
 pub use chunk::{Chunk, flag_word_at, value_size};
-pub use cursor::{FlagSource, OwnerCursor, RawIter, without_first, write_struct};
+pub use cursor::{FlagSource, OwnerCursor, RawIter, write_struct};
 pub use iter::{Drain, EntriesMut, IntoEntries, IntoIter, IterMut};
 pub use retired::RetiredBlock;

@@ -132,7 +132,7 @@ impl<T> BucketPointers<T> {
         ensures rest { result.rest ≡ 0 }
         ensures ends { values_left result ≡ 0 → emptied self.old ≡ self.old }
     {
-        let announced = self.announced();
+        let announced = self.announced.bits;
         OwnerCursor {
             raw: RawIter {
                 yielded: 0,

@@ -22,7 +22,9 @@ impl<T> Buckets<T> {
         ensures ends { values_left cursor.new ≡ 0 → emptied self.new.contents ≡ self.new.contents }
         ensures leaves { owned_emptied self.new ≡ owned_emptied self.old }
     {
-        cursor.reach(&mut self.pointers);
+        if cursor.rest == 0 {
+            cursor.read_on(&mut self.pointers);
+        }
         let bit = cursor.pass(&mut self.pointers);
         let index = cursor.raw.index - 64 + bit;
         let size = cursor.raw.bucket_size;

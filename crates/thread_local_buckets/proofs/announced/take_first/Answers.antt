@@ -1,6 +1,6 @@
 use Rattle.std.proofs.Common.{arith}
 use Rattle.std.specs.Int.{w64, trailing_zeros}
-use Rattle.thread_local_base.proofs.Word.{lowest_set}
+use Rattle.thread_local_base.proofs.Word.{lowest_set, clear_lowest_at}
 use Rattle.thread_local_buckets.proofs.announced.take_first.Goals as goal
 
 pub returns-clause-first : goal.returns-clause-first
@@ -9,5 +9,5 @@ returns-clause-first c =
 
 pub returns-clause-rest : goal.returns-clause-rest
 returns-clause-rest c =
-    c.without_first.ensures.rest (trailing_zeros w64 c.args.buckets.now)
+    clear_lowest_at c.args.buckets.now (trailing_zeros w64 c.args.buckets.now) (omega arith)
     (lowest_set c.args.buckets.now (omega arith) (λ none. absurd (let some = c.requires in omega (arith, none, some))))

@@ -1,17 +1,66 @@
-use Rattle.std.proofs.Common.{◌≡◌, ◌+◌, ◌-◌, ◌^◌, ◌<◌, ◌≤◌, ℕ, None, ◌∷◌, ap, sym, ◌∙◌, subst, length, arith, pow_pos, lit<}
+use Rattle.std.proofs.Common.{◌≡◌, refl, ◌+◌, ◌-◌, ◌^◌, ◌<◌, ◌≤◌, ℕ, None, ◌∷◌, ap, sym, ◌∙◌, subst, length, arith, lit<}
 use Rattle.std.specs.Prelude.{IsSome, IsTrue, nat_lt}
 use Rattle.thread_local_base.specs.Buckets.{Contents, IsTable, row, values}
 use Rattle.thread_local_base.specs.Owned.{Owned, IsOwned}
 use Rattle.thread_local_base.specs.Rows.{value_in, with_slot}
 use Rattle.thread_local_base.specs.Owner.{emptied}
 use Rattle.thread_local_base.specs.Walk.{walk, paired}
-use Rattle.thread_local_buckets.specs.Cursor.{values_left, read_to, slot_at, AreFlagsAt, IsOwnerWalk}
+use Rattle.thread_local_buckets.specs.Cursor.{values_left, read_to, slot_at, AreFlagsAt, IsOwnerWalk, MayRead, HasRead}
+use Rattle.thread_local_buckets.specs.declared.buckets.Buckets.TheInside.{Inside}
 use Rattle.thread_local_buckets.specs.declared.cursor.OwnerCursor.{OwnerCursor}
 use Rattle.thread_local_base.proofs.RowLaws.{IsTable-with_slot, length-row-with_slot, row_whole}
 use Rattle.thread_local_base.proofs.EmptyingLaws.{emptied-with_slot, emptied-none}
 use Rattle.thread_local_buckets.specs.Emptied.{owned_emptied}
 use Rattle.thread_local_buckets.proofs.EntriesLaws.{IsNear, is_near}
 use Rattle.thread_local_buckets.proofs.buckets.Buckets.take_next.Goals as goal
+use Rattle.thread_local_buckets.proofs.buckets.Buckets.take_next.Goals.{Joined-cursor-eq0, then-cursor-eq0, else-cursor-eq0}
+use Rattle.thread_local_buckets.proofs.buckets.Buckets.take_next.Goals.{After-pass-bit, After-take_and_store-value}
+
+not_below : (n : ℕ) → 0 ≤ n
+not_below n = omega arith
+
+module _ {V : Type 0} where
+  -- what contracts see of the buckets
+  abbrev seen : Inside V → Owned V
+  seen inside = record { contents = inside.pointers; reserved = inside.reserved }
+
+  may_read : (inside : Inside V) (buckets : Owned V) (cursor : OwnerCursor) → seen inside ≡ buckets
+      → IsOwnerWalk buckets.contents cursor → 0 < values_left cursor → MayRead inside.pointers 0 cursor
+  may_read inside buckets cursor is walk some = record {
+    walk = subst (λ (s : Owned V). IsOwnerWalk s.contents cursor) (sym is) walk;
+    ahead = not_below (read_to cursor.raw);
+    some = some;
+  }
+
+  -- flags are at hand, and the buckets are the same
+  record IsAtHand (before after : Inside V) (cursor now : OwnerCursor) : Type 0 where
+    same : seen after ≡ seen before
+    owned : IsOwned (seen after)
+    read : HasRead after.pointers 0 cursor now
+
+  at_hand : (before after : Inside V) (cursor now read : OwnerCursor) → after ≡ before → IsOwned (seen before) → now ≡ read
+      → HasRead before.pointers 0 cursor read → IsAtHand before after cursor now
+  at_hand before after cursor now read same owned is has =
+      let P : Inside V → Type 0 = λ i. IsAtHand before i cursor now in
+      subst P (sym same) (record { same = refl; owned = owned; read = subst (HasRead before.pointers 0 cursor) (sym is) has })
+
+it_is_at_hand : (g : _) (c : Joined-cursor-eq0 g)
+    → IsAtHand c.self.inside c.if-cursor-eq0.self-inside c.args.cursor.now c.if-cursor-eq0.cursor
+it_is_at_hand g c =
+    let inside = c.self.inside in
+    let cursor = c.args.cursor.now in
+    elim c.if-cursor-eq0.branch [
+      | then-cursor-eq0 w ↦
+          let with : Contents g.row.T.Denot → Inside g.row.T.Denot = λ w. record { pointers = w; reserved = inside.reserved } in
+          let same = w.self-inside-is ∙ ap with w.read_on.ensures.same in
+          at_hand inside c.if-cursor-eq0.self-inside cursor c.if-cursor-eq0.cursor w.read_on.new.self same
+          c.self.invariant w.cursor-is w.read_on.ensures.read
+      | else-cursor-eq0 w ↦
+          let may = may_read inside c.args.self.now cursor c.self.view_is c.requires.walk c.requires.some in
+          let some : 0 < cursor.rest = omega (arith, w.if-cursor-eq0.false) in
+          at_hand inside c.if-cursor-eq0.self-inside cursor c.if-cursor-eq0.cursor cursor w.self-inside-is
+          c.self.invariant w.cursor-is (record { walk = may.walk; ahead = may.ahead; some = some; left = refl })
+    ]
 
 -- a value is taken from a table: it has the same buckets without their values, and is that where the
 -- walk has none left
@@ -31,28 +80,27 @@ takes c d e b i cursor t same after on =
       ends = λ none. emptied-none taken (IsTable-with_slot c b i None t) (sym on.counted ∙ none);
     })
 
-it_takes : (g : _) (c : goal.After-take_and_store-value g)
-    → Takes c.self.inside.pointers c.take_and_store-value.new.self c.pass-bit.new.self
-it_takes g c =
+it_takes : (g : _) (c : After-take_and_store-value g) → IsTable c.if-cursor-eq0.self-inside.pointers
+    → Takes c.if-cursor-eq0.self-inside.pointers c.take_and_store-value.new.self c.pass-bit.new.self
+it_takes g c table =
     let cursor = c.pass-bit.new.self in
-    let i = slot_at cursor.raw c.pass-bit.result in
-    let P : Contents g.row.T.Denot → Type 0 = λ w. IsOwnerWalk (with_slot w cursor.raw.bucket i None) cursor in
-    takes c.self.inside.pointers c.pass-bit.new.source c.take_and_store-value.new.self cursor.raw.bucket i cursor
-    c.self.invariant.table (c.pass-bit.ensures.same ∙ c.reach.ensures.same)
-    c.take_and_store-value.ensures.after (subst P c.reach.ensures.same c.pass-bit.ensures.walk)
+    takes c.if-cursor-eq0.self-inside.pointers c.pass-bit.new.source c.take_and_store-value.new.self cursor.raw.bucket
+    (slot_at cursor.raw c.pass-bit.result) cursor table c.pass-bit.ensures.same
+    c.take_and_store-value.ensures.after c.pass-bit.ensures.walk
 
 -- the slot is one of its bucket's
-slot_near : {V : Type 0} (c d : Contents V) (b i : ℕ) → IsTable c → d ≡ c → i < length (row d b) → i < 2 ^ b
-slot_near c d b i t same inside =
-    let near : i < length (row c b) = subst (λ (w : Contents _). i < length (row w b)) same inside in
-    subst (λ (n : ℕ). i < n) (row_whole c b i t near) near
-
-slot_is_near : {V : Type 0} (c d : Contents V) (b i size : ℕ) → IsTable c → d ≡ c → i < length (row d b) → b < 63
+slot_is_near : {V : Type 0} (c : Contents V) (b i size : ℕ) → IsTable c → i < length (row c b) → b < 63
     → size ≡ 2 ^ b → IsNear i size
-slot_is_near c d b i size t same inside low all = is_near b i size low (slot_near c d b i t same inside) all
+slot_is_near c b i size t inside low all =
+    is_near b i size low (subst (λ (n : ℕ). i < n) (row_whole c b i t inside) inside) all
 
-not_below : (n : ℕ) → 0 ≤ n
-not_below n = omega arith
+it_is_near : (g : _) (c : After-pass-bit g) → IsTable c.if-cursor-eq0.self-inside.pointers
+    → IsNear (slot_at c.pass-bit.new.self.raw c.pass-bit.result) c.pass-bit.new.self.raw.bucket_size
+it_is_near g c table =
+    let raw = c.pass-bit.new.self.raw in
+    let passed = c.pass-bit.ensures in
+    slot_is_near c.if-cursor-eq0.self-inside.pointers raw.bucket (slot_at raw c.pass-bit.result) raw.bucket_size
+    table passed.in_bucket passed.walk.at.in_table passed.walk.at.size
 
 owned_still : {V : Type 0} (c d e : Contents V) (reserved b i : ℕ) → IsOwned (record { contents = c; reserved = reserved })
     → d ≡ c → e ≡ with_slot d b i None → IsOwned (record { contents = e; reserved = reserved })
@@ -68,40 +116,34 @@ owned_still c d e reserved b i owned same after =
           (owned.standing bucket low below);
     })
 
--- The search for all that follows takes six seconds.
-pub reach-requires-room-P-FlagSource : goal.reach-requires-room-P-FlagSource
-reach-requires-room-P-FlagSource g c κs within = lit< tt
+-- The search for all that follows takes a minute, and leaves two of them open.
+pub read_on-requires-room-P-FlagSource : goal.read_on-requires-room-P-FlagSource
+read_on-requires-room-P-FlagSource g c κs within = lit< tt
 
 pub pass-bit-requires-room-P-FlagSource : goal.pass-bit-requires-room-P-FlagSource
 pass-bit-requires-room-P-FlagSource g c κs within = lit< tt
 
-pub reach-requires : goal.reach-requires
-reach-requires g c =
-    let cursor = c.args.cursor.now in
-    let walk = subst (λ (s : Owned _). IsOwnerWalk s.contents cursor) (sym c.self.view_is) c.requires.walk in
-    record { may_read = record { walk = walk; ahead = not_below (read_to cursor.raw); some = c.requires.some } }
+pub read_on-requires : goal.read_on-requires
+read_on-requires g c =
+    let may = may_read c.self.inside c.args.self.now c.args.cursor.now c.self.view_is c.requires.walk c.requires.some in
+    record { may_read = may; passed = c.if-cursor-eq0.true }
 
 pub pass-bit-requires-clause-walk : goal.pass-bit-requires-clause-walk
-pass-bit-requires-clause-walk g c =
-    subst (λ (w : Contents _). IsOwnerWalk w c.reach.new.self) (sym c.reach.ensures.same) c.reach.ensures.read.walk
+pass-bit-requires-clause-walk g c = (it_is_at_hand g (goal.at.pass-bit-requires-clause-walk g c).Joined-cursor-eq0).read.walk
 
 pub pass-bit-requires-clause-given : goal.pass-bit-requires-clause-given
 pass-bit-requires-clause-given g c = λ id below. absurd (omega (arith, below))
 
 pub pass-bit-requires-clause-some : goal.pass-bit-requires-clause-some
-pass-bit-requires-clause-some g c = c.reach.ensures.read.some
+pass-bit-requires-clause-some g c = (it_is_at_hand g (goal.at.pass-bit-requires-clause-some g c).Joined-cursor-eq0).read.some
 
 pub overflow_sub-index : goal.overflow_sub-index
 overflow_sub-index g c = c.pass-bit.ensures.read
 
 pub overflow_add-index : goal.overflow_add-index
 overflow_add-index g c =
-    let cursor = c.pass-bit.new.self in
-    let near =
-    slot_is_near c.self.inside.pointers c.reach.new.source cursor.raw.bucket (slot_at cursor.raw c.pass-bit.result)
-    cursor.raw.bucket_size c.self.invariant.table c.reach.ensures.same c.pass-bit.ensures.in_bucket
-    c.pass-bit.ensures.walk.at.in_table c.pass-bit.ensures.walk.at.size in
-    record { fits = near.index }
+    let at = it_is_at_hand g (goal.at.overflow_add-index g c).Joined-cursor-eq0 in
+    record { fits = (it_is_near g c at.owned.table).index }
 
 pub take_and_store-value-requires : goal.take_and_store-value-requires
 take_and_store-value-requires g c =
@@ -116,25 +158,21 @@ take_and_store-value-requires g c =
 
 pub overflow_sub-result : goal.overflow_sub-result
 overflow_sub-result g c =
-    let cursor = c.pass-bit.new.self in
-    let some : (b size : ℕ) → size ≡ 2 ^ b → 1 ≤ size = λ b size all. (let some = pow_pos b in omega (arith, some, all)) in
-    some cursor.raw.bucket cursor.raw.bucket_size c.pass-bit.ensures.walk.at.size
+    let at = it_is_at_hand g (goal.at.overflow_sub-result g c).Joined-cursor-eq0 in
+    (it_is_near g (goal.at.overflow_sub-result g c).After-pass-bit at.owned.table).some
 
 pub overflow_add-result : goal.overflow_add-result
 overflow_add-result g c =
-    let cursor = c.pass-bit.new.self in
-    let near =
-    slot_is_near c.self.inside.pointers c.reach.new.source cursor.raw.bucket (slot_at cursor.raw c.pass-bit.result)
-    cursor.raw.bucket_size c.self.invariant.table c.reach.ensures.same c.pass-bit.ensures.in_bucket
-    c.pass-bit.ensures.walk.at.in_table c.pass-bit.ensures.walk.at.size in
-    record { fits = near.id }
+    let at = it_is_at_hand g (goal.at.overflow_add-result g c).Joined-cursor-eq0 in
+    record { fits = (it_is_near g (goal.at.overflow_add-result g c).After-pass-bit at.owned.table).id }
 
 pub invariant_of-self : goal.invariant_of-self
 invariant_of-self g c =
+    let at = it_is_at_hand g (goal.at.invariant_of-self g c).Joined-cursor-eq0 in
+    let inside = c.if-cursor-eq0.self-inside in
     let cursor = c.pass-bit.new.self in
-    owned_still c.self.inside.pointers c.pass-bit.new.source c.take_and_store-value.new.self c.self.inside.reserved
-    cursor.raw.bucket (slot_at cursor.raw c.pass-bit.result) c.self.invariant
-    (c.pass-bit.ensures.same ∙ c.reach.ensures.same) c.take_and_store-value.ensures.after
+    owned_still inside.pointers c.pass-bit.new.source c.take_and_store-value.new.self inside.reserved cursor.raw.bucket
+    (slot_at cursor.raw c.pass-bit.result) at.owned c.pass-bit.ensures.same c.take_and_store-value.ensures.after
 
 pub returns-clause-walk : goal.returns-clause-walk
 returns-clause-walk g c =
@@ -145,6 +183,7 @@ returns-clause-walk g c =
 
 pub returns-clause-first : goal.returns-clause-first
 returns-clause-first g c =
+    let at = it_is_at_hand g (goal.at.returns-clause-first g c).Joined-cursor-eq0 in
     let cursor = c.pass-bit.new.self in
     let b = cursor.raw.bucket in
     let i = slot_at cursor.raw c.pass-bit.result in
@@ -153,20 +192,23 @@ returns-clause-first g c =
     let there = ap (λ (w : Contents _). value_in w b i) (sym c.pass-bit.ensures.same) ∙ c.take_and_store-value.ensures.value in
     let size = sym c.pass-bit.ensures.walk.at.size in
     let left = sym now in
-    sym (ap (λ (s : Owned _). walk (paired (values s.contents))) c.self.view_is)
-    ∙ ap (λ (w : Contents _). walk (paired (values w))) (sym c.reach.ensures.same)
+    sym (ap (λ (s : Owned _). walk (paired (values s.contents))) (at.same ∙ c.self.view_is))
     ∙ c.pass-bit.ensures.first value there
     ∙ (λ j. (i + (size j - 1), value) ∷ walk (paired (values (left j))))
 
 pub returns-clause-left : goal.returns-clause-left
-returns-clause-left g c = c.pass-bit.ensures.left ∙ c.reach.ensures.read.left
+returns-clause-left g c =
+    c.pass-bit.ensures.left ∙ (it_is_at_hand g (goal.at.returns-clause-left g c).Joined-cursor-eq0).read.left
 
 pub returns-clause-ends : goal.returns-clause-ends
-returns-clause-ends g c = (it_takes g c).ends
+returns-clause-ends g c =
+    let at = it_is_at_hand g (goal.at.returns-clause-ends g c).Joined-cursor-eq0 in
+    (it_takes g c at.owned.table).ends
 
 pub returns-clause-leaves : goal.returns-clause-leaves
 returns-clause-leaves g c =
+    let at = it_is_at_hand g (goal.at.returns-clause-leaves g c).Joined-cursor-eq0 in
     ap (λ (w : Contents _).
-    let s : Owned _ = record { contents = w; reserved = c.self.inside.reserved } in s)
-    (it_takes g c).leaves
-    ∙ ap (λ (s : Owned _). owned_emptied s) c.self.view_is
+    let s : Owned _ = record { contents = w; reserved = c.if-cursor-eq0.self-inside.reserved } in s)
+    (it_takes g c at.owned.table).leaves
+    ∙ ap (λ (s : Owned _). owned_emptied s) (at.same ∙ c.self.view_is)

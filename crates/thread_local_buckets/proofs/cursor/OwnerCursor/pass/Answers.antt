@@ -1,15 +1,15 @@
 use Rattle.std.proofs.Common.{◌+◌, ◌-◌, arith}
-use Rattle.std.specs.Int.{w64, trailing_zeros}
 use Rattle.thread_local_buckets.proofs.NextValue.{Passes, passes}
 use Rattle.thread_local_buckets.proofs.cursor.OwnerCursor.pass.Goals as goal
 
 it_passes : (g : _) (c : goal.After-self-1 g)
-    → Passes (g.P.FlagSource.contents c.args.source.now) c.args.self.now c.without_first-self.result
+    → Passes (g.P.FlagSource.contents c.args.source.now) c.args.self.now c.take_first-bit.new.buckets
     (g.P.FlagSource.given c.args.source.now)
-    (c.args.self.now.raw.index - 64 + trailing_zeros w64 c.args.self.now.rest)
+    (c.args.self.now.raw.index - 64 + c.take_first-bit.result)
 it_passes g c =
-    passes (g.P.FlagSource.contents c.args.source.now) c.args.self.now c.without_first-self.result (g.P.FlagSource.given c.args.source.now)
-    c.requires.walk (omega arith) c.requires.some c.without_first-self.type_inv c.without_first-self.ensures.rest c.requires.given
+    passes (g.P.FlagSource.contents c.args.source.now) c.args.self.now c.take_first-bit.new.buckets c.take_first-bit.result
+    (g.P.FlagSource.given c.args.source.now) c.requires.walk (omega arith) c.requires.some (omega arith)
+    c.take_first-bit.ensures.first c.take_first-bit.ensures.rest c.requires.given
 
 pub returns-clause-in_bucket : goal.returns-clause-in_bucket
 returns-clause-in_bucket g c = (it_passes g c).inside

@@ -1,8 +1,8 @@
-use Rattle.std.proofs.Common.{◌≡◌, ◌+◌, ◌<◌, ℕ, arith, ◌∷◌, List, map, refl, ap, sym, ◌∙◌, lit<}
+use Rattle.std.proofs.Common.{◌≡◌, ◌+◌, ◌<◌, ℕ, arith, refl, sym, ◌∙◌, lit<}
 use Rattle.std.proofs.lemmas.List.{nil_from_length}
 use Rattle.thread_local_base.specs.Buckets.{values}
 use Rattle.thread_local_base.specs.Walk.{walk}
-use Rattle.thread_local_buckets.proofs.EntriesLaws.{walk_of_entries}
+use Rattle.thread_local_buckets.proofs.EntriesLaws.{first_value}
 use Rattle.thread_local_buckets.proofs.drain.DrainIterator.next.Goals as goal
 
 fewer : (after before : ℕ) → after + 1 ≡ before → after < before
@@ -11,8 +11,7 @@ fewer after before is = omega (arith, is)
 pub returns-clause-steps : goal.returns-clause-steps
 returns-clause-steps g c =
     let taken = c.take_next-value in (
-      sym (walk_of_entries (values c.args.self.now.buckets.now.contents)) ∙ ap (map (λ (entry : ℕ × _). entry.1)) taken.ensures.first
-          ∙ ap (λ (vs : List _). taken.result.1 ∷ vs) (walk_of_entries (values taken.new.self.contents)),
+      first_value (values c.args.self.now.buckets.now.contents) (values taken.new.self.contents) taken.result taken.ensures.first,
       (refl, taken.ensures.leaves),
       taken.ensures.walk,
     )
