@@ -465,7 +465,7 @@ impl<'a, T> IntoIterator for &'a mut ThreadLocal<T> {
 
     /// The values by ascending id, each lent as `&mut`, as `iter_mut`.
     fn into_iter(self) -> IterMut<'a, T> {
-        self.iter_mut()
+        self.buckets.owner().iter_mut()
     }
 }
 

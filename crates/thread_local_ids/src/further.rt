@@ -151,16 +151,3 @@ fn alloc(manager: &mut ThreadIdManager) -> Result<usize, LocalError>
     }
     manager.alloc()
 }
-
-impl Drop for Further {
-    #[inline]
-    fn drop(self) {
-        let Self {
-            manager,
-            log: _,
-            room: _,
-            reached: _,
-        } = self;
-        drop(manager);
-    }
-}

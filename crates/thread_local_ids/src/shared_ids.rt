@@ -195,6 +195,12 @@ impl Drop for SharedIds {
     #[inline]
     fn drop(self) {
         let Self { first: _, further } = self;
-        drop(further.into_inner());
+        let Further {
+            manager,
+            log: _,
+            room: _,
+            reached: _,
+        } = further.into_inner();
+        drop(manager);
     }
 }
