@@ -70,7 +70,10 @@ impl Announcements {
         }
     }
 
-    /// Sets the bit of a bucket, which is the one in `mask`, by one atomic step.
+    /// Sets the bit of a bucket, which is the one in `mask`, by one atomic step. It is never inlined,
+    /// so that a first value in one of the first seven buckets is published in a short way.
+    #[cold]
+    #[inline(never)]
     fn set(&self, bucket: usize, mask: u64) -> Announced
         requires in_table { bucket < 63 }
         requires mask { mask ≡ 1 * 2 ^ bucket % 2 ^ 64 }
