@@ -224,6 +224,7 @@ impl OwnerCursor {
             (with_slot (P.contents source.old) self.new.raw.bucket (slot_at self.new.raw result) None))) }
     {
         let _ = source;
+        // A copy, since a proof knows that the word fits 64 bits once it is read.
         let mut rest = self.rest;
         let bit = take_first(&mut rest);
         self.rest = rest;
