@@ -290,7 +290,7 @@ impl<'a, T> Claim<'a, T> {
         ensures reserved { self.new.reserved ≡ self.old.reserved }
     {
         let Some(block) = block else {
-            return self.publish(thread, value);
+            return self.publish_standing(thread, value);
         };
         let block = filled(block, alloc, thread, value);
         let announced = self.announcements.announce(thread.bucket);
@@ -299,6 +299,22 @@ impl<'a, T> Claim<'a, T> {
         if let Some(block) = back {
             self.publish_second(alloc, thread, block);
         }
+    }
+
+    /// `publish`, which is never inlined, so that the way of who installs a block is short.
+    #[cold]
+    #[inline(never)]
+    fn publish_standing(&mut self, thread: Thread, value: T)
+        requires vacant { self.old.learnt ≡ Vacant }
+        requires place { IsPlaceOf thread.bucket thread.index self.old.id }
+        ensures same_slot { (self.new.table ≡ self.old.table)
+            × (self.new.sharing ≡ self.old.sharing)
+            × (self.new.id ≡ self.old.id) }
+        ensures learnt { self.new.learnt ≡ Holding value }
+        ensures reserved { self.new.reserved ≡ self.old.reserved }
+    {
+        self.slot
+            .publish(thread.index, flag_word_of::<T>(thread), value);
     }
 
     /// Publishes the value of a block where another block was installed first, and frees that block.
