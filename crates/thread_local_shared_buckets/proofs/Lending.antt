@@ -221,11 +221,11 @@ module _ {M : Type 1} {𝓤 : Ura M} (𝓛 : Logic 𝓤) where
           use1 𝓛 (‵ Told ⊛ ‵ Told) (told_dup 𝓛 d.sharing c.id (value_code R (Some x))) $ split ! $
           move ! (2 ∷ 0 ∷ []) $ fjoin ! $ frame ! $ move ! (1 ∷ 0 ∷ []) $ fjoin ! $ done !
 
-      lends_by : (q : Share) (j : Judged R)
-          → A.obor ν q C ∗ ⟦ Kept ⟧ ∗ ⟦ Row ⟧ ∗ ⟦ Filled ⟧ ∗ ⟦ Pinned ⟧ ∗ ⟦ By j ⟧
+      lends_shared : (q : Share) (σ : Shareable R)
+          → A.obor ν q C ∗ ⟦ Kept ⟧ ∗ ⟦ Row ⟧ ∗ ⟦ Filled ⟧ ∗ ⟦ Pinned ⟧ ∗ ⟦ By (inl σ) ⟧
           ⊢ H.⇛ (⟦ Saw ⟧ ∗ A.lft ν q)
       unfolding fseps
-      lends_by q (inl σ) =
+      lends_shared q σ =
           qed 𝓛 (‵ (fobor ν q C) ∷ ‵ Kept ∷ ‵ Row ∷ ‵ Filled ∷ ‵ Pinned ∷ ‵ (By (inl σ)) ∷ []) ∵
           updating ! $ move ! (2 ∷ []) $ fsplit ! $ move ! (1 ∷ []) $ fsplit ! $ move ! (1 ∷ []) $
           use1 𝓛 (‵ (before β life) ⊛ ‵ (before β life)) (before_dup 𝓛 β life) $ split ! $
@@ -242,7 +242,12 @@ module _ {M : Type 1} {𝓤 : Ura M} (𝓛 : Logic 𝓤) where
           fpack ! (Judged R) Seen (inl σ) $
           move ! (4 ∷ 2 ∷ 5 ∷ 6 ∷ 1 ∷ []) $ group ! 5 $ use1 𝓛 (‵ C) (again (inl σ)) $
           move ! (2 ∷ 0 ∷ []) $ obor_close ! tt $ now ! $ keep ! (2 ∷ 1 ∷ []) $ done !
-      lends_by q (inr σ) =
+
+      lends_borrowed : (q : Share) (σ : Shareable R → ⊥)
+          → A.obor ν q C ∗ ⟦ Kept ⟧ ∗ ⟦ Row ⟧ ∗ ⟦ Filled ⟧ ∗ ⟦ Pinned ⟧ ∗ ⟦ By (inr σ) ⟧
+          ⊢ H.⇛ (⟦ Saw ⟧ ∗ A.lft ν q)
+      unfolding fseps
+      lends_borrowed q σ =
           qed 𝓛 (‵ (fobor ν q C) ∷ ‵ Kept ∷ ‵ Row ∷ ‵ Filled ∷ ‵ Pinned ∷ ‵ (By (inr σ)) ∷ []) ∵
           updating ! $ move ! (2 ∷ []) $ fsplit ! $ move ! (1 ∷ []) $ fsplit ! $ move ! (1 ∷ []) $
           use1 𝓛 (‵ (before β life) ⊛ ‵ (before β life)) (before_dup 𝓛 β life) $ split ! $
@@ -259,6 +264,12 @@ module _ {M : Type 1} {𝓤 : Ura M} (𝓛 : Logic 𝓤) where
           await ! tt $ split ! $
           move ! (0 ∷ 1 ∷ 3 ∷ []) $ use3 𝓛 (later (‵ Saw ⊛ ‵ (flft ν q))) (lends_value σ q) $
           await ! tt $ split ! $ now ! $ keep ! (0 ∷ 1 ∷ []) $ done !
+
+      lends_by : (q : Share) (j : Judged R)
+          → A.obor ν q C ∗ ⟦ Kept ⟧ ∗ ⟦ Row ⟧ ∗ ⟦ Filled ⟧ ∗ ⟦ Pinned ⟧ ∗ ⟦ By j ⟧
+          ⊢ H.⇛ (⟦ Saw ⟧ ∗ A.lft ν q)
+      lends_by q (inl σ) = lends_shared q σ
+      lends_by q (inr σ) = lends_borrowed q σ
 
     -- what is told of its id
     abbrev pub Tells : Fml
@@ -348,9 +359,8 @@ module _ {M : Type 1} {𝓤 : Ura M} (𝓛 : Logic 𝓤) where
           (by_one 𝓛 κ ts sp (A.bor κ P) ⟦ fact Φ ⟧ (keeps_at κ)) $
           await ! tt $ split ! $ anything ! $ move ! (1 ∷ 0 ∷ []) $ fjoin ! $ now ! $ done !
 
-    -- a borrow of a claim becomes a `&` to the value that its slot holds
-    pub lends_claim : (t : Learnt R.Denot) → Lends 𝓛 (claim_owns R β table c t state) (claim_shares R β c t state) l
-    lends_claim (Holding x) = λ κ ts inc sp.
+    lends_holding : (x : R.Denot) → Lends 𝓛 (claim_owns R β table c (Holding x) state) (claim_shares R β c (Holding x) state) l
+    lends_holding x = λ κ ts inc sp.
         let ν : Lft = κ ++ β in
         let P : Fml = claim_owns R β table c (Holding x) state in
         let Told : Fml = fact (IsStateOf R state (Holding x)) in
@@ -374,6 +384,10 @@ module _ {M : Type 1} {𝓤 : Ura M} (𝓛 : Logic 𝓤) where
         fsplit ! $ move ! (1 ∷ 3 ∷ []) $ fjoin ! $ move ! (1 ∷ 0 ∷ []) $ fjoin ! $
         move ! (3 ∷ 0 ∷ []) $ fjoin ! $ move ! (2 ∷ 0 ∷ []) $ fjoin ! $ now ! $
         keep ! (0 ∷ 1 ∷ []) $ done !)
+
+    -- a borrow of a claim becomes a `&` to the value that its slot holds
+    pub lends_claim : (t : Learnt R.Denot) → Lends 𝓛 (claim_owns R β table c t state) (claim_shares R β c t state) l
+    lends_claim (Holding x) = lends_holding x
     lends_claim Unknown = shows_none Unknown
     lends_claim Missing = shows_none Missing
     lends_claim Standing = shows_none Standing

@@ -302,16 +302,11 @@ module _ {M : Type 1} {𝓤 : Ura M} (𝓛 : Logic 𝓤) (R : RattleType) (t : T
           won_of j = fsep (right_owns t.filled j) (tells R sharing j (Some x))
 
           -- the slot is born with its value, for the claim that has its pass
-          full_born : (i : ℕ) (η : GName) (w : Bool) → is_set_in ns i ≡ true
+          full_reborn : (i : ℕ) (η : GName) → is_set_in ns i ≡ true
               → ⟦ right_owns t.vacant (i + k) ⟧ ∗ ⟦ fsep (right_owns t.filled (i + k)) (untold_in sharing (i + k)) ⟧
-              ∗ ⟦ slots_side R w table t.pass (i + k) ⟧ ∗ ⟦ right_owns t.pass (i + k) ⟧ ∗ ⟦ full (value_offset R o i) η ⟧
+              ∗ ⟦ right_owns table (i + k) ⟧ ∗ ⟦ right_owns t.pass (i + k) ⟧ ∗ ⟦ full (value_offset R o i) η ⟧
               ⊢ upd 𝓤 (⟦ numbered_slot R t b ν sharing table k o ns η i ⟧ ∗ ⟦ won_of (i + k) ⟧)
-          full_born i η false set =
-              let j : ℕ = i + k in
-              qed 𝓛 (‵ (right_owns t.vacant j) ∷ ‵ (fsep (right_owns t.filled j) (untold_in sharing j))
-              ∷ ‵ (right_owns t.pass j) ∷ ‵ (right_owns t.pass j) ∷ ‵ (full (value_offset R o i) η) ∷ []) ∵
-              keep ! (2 ∷ 3 ∷ []) $ by ! (right_once 𝓛 t.pass j _)
-          full_born i η true set =
+          full_reborn i η set =
               let j : ℕ = i + k in
               let e : ℕ = value_offset R o i in
               let bit : Bool = is_set_in ns i in
@@ -332,6 +327,18 @@ module _ {M : Type 1} {𝓤 : Ura M} (𝓛 : Logic 𝓤) (R : RattleType) (t : T
               nothing ! $ fpack ! (bit ≡ is_some v) (λ _. ftrue) set $ fjoin ! $
               fpack ! (Option R.Denot × Who) (shared_slot_as R t b ν sharing table bit j e η) (v, claimed) $
               move ! (1 ∷ 0 ∷ []) $ fjoin ! $ move ! (2 ∷ 1 ∷ []) $ fjoin ! $ move ! (1 ∷ 0 ∷ []) $ done !
+
+          -- so it is whoever has the slot: with the pass it is the claim
+          full_born : (i : ℕ) (η : GName) (w : Bool) → is_set_in ns i ≡ true
+              → ⟦ right_owns t.vacant (i + k) ⟧ ∗ ⟦ fsep (right_owns t.filled (i + k)) (untold_in sharing (i + k)) ⟧
+              ∗ ⟦ slots_side R w table t.pass (i + k) ⟧ ∗ ⟦ right_owns t.pass (i + k) ⟧ ∗ ⟦ full (value_offset R o i) η ⟧
+              ⊢ upd 𝓤 (⟦ numbered_slot R t b ν sharing table k o ns η i ⟧ ∗ ⟦ won_of (i + k) ⟧)
+          full_born i η false set =
+              let j : ℕ = i + k in
+              qed 𝓛 (‵ (right_owns t.vacant j) ∷ ‵ (fsep (right_owns t.filled j) (untold_in sharing j))
+              ∷ ‵ (right_owns t.pass j) ∷ ‵ (right_owns t.pass j) ∷ ‵ (full (value_offset R o i) η) ∷ []) ∵
+              keep ! (2 ∷ 3 ∷ []) $ by ! (right_once 𝓛 t.pass j _)
+          full_born i η true set = full_reborn i η set
 
   -- ---- several slots one after another
   each_apart : {X : Type 0} (F : X → ℕ → Fml) (xs ys : List X) (i j : ℕ) → j ≡ length xs + i
@@ -618,8 +625,13 @@ module _ {M : Type 1} {𝓤 : Ura M} (𝓛 : Logic 𝓤) (R : RattleType) (t : T
       is_as : IsAs
       is_as = (refl, names_long new z so, so.sized)
 
-      found : (p : Ptr) → ⟦ cell b o p ⟧ ∗ ⟦ beside_pointer R d t p ⟧ ∗ ⟦ private new ν z ⟧ ∗ ⟦ grown d ⟧ ∗ ⟦ Pass ⟧ ⊢ ex 𝓤 F
-      found null_ptr = let m = block_code s in let γ : GName = t.which in let G : SProp 𝓤 = ⟦ J ⟧ ∗ ⟦ won null_ptr ⟧ in
+      -- what the exchange finds in the pointer
+      abbrev Finds : Ptr → Type 1
+      Finds p = ⟦ cell b o p ⟧ ∗ ⟦ beside_pointer R d t p ⟧ ∗ ⟦ private new ν z ⟧ ∗ ⟦ grown d ⟧ ∗ ⟦ Pass ⟧ ⊢ ex 𝓤 F
+
+      -- no block was installed: this one is
+      found_none : Finds null_ptr
+      found_none = let m = block_code s in let γ : GName = t.which in let G : SProp 𝓤 = ⟦ J ⟧ ∗ ⟦ won null_ptr ⟧ in
           qed 𝓛
           (‵ (cell b o null_ptr) ∷ ‵ (beside_pointer R d t null_ptr) ∷ ‵ (private new ν z) ∷ ‵ (grown d) ∷ ‵ Pass ∷ []) ∵
           show ! F (null_ptr, true) $ frame ! $
@@ -643,7 +655,9 @@ module _ {M : Type 1} {𝓤 : Ura M} (𝓛 : Logic 𝓤) (R : RattleType) (t : T
           fpack ! (StandingBlock × Share) (standing R d t new) (s, left full_share) $
           -- [beside the pointer; the part; what the claim gets; the pointer]
           move ! (1 ∷ 2 ∷ []) $ fjoin ! $ move ! (2 ∷ 1 ∷ []) $ fjoin ! $ fpack ! Ptr Held new $ done !
-      found (block_ptr pb po) =
+      -- another one was installed first
+      found_other : (pb po : ℕ) → Finds (block_ptr pb po)
+      found_other pb po =
           let p : Ptr = block_ptr pb po in
           qed 𝓛 (‵ (cell b o p) ∷ ‵ (beside_pointer R d t p) ∷ ‵ (private new ν z) ∷ ‵ (grown d) ∷ ‵ Pass ∷ []) ∵
           keep ! (0 ∷ 1 ∷ 2 ∷ 4 ∷ []) $ show ! F (p, false) $ frame ! $ fpick ! (λ y. fsplit ! $ fpick ! (λ h. drop ! $
@@ -656,6 +670,10 @@ module _ {M : Type 1} {𝓤 : Ura M} (𝓛 : Logic 𝓤) (R : RattleType) (t : T
           fpack ! Ptr Held p $ frame ! $
           fpack ! (StandingBlock × Share) (part 𝓛 R d t p) (y.0, right y.1) $ nothing ! $
           move ! (1 ∷ 0 ∷ []) $ fjoin ! $ move ! (1 ∷ 0 ∷ []) $ fjoin ! $ fjoin ! $ done !))
+
+      found : (p : Ptr) → Finds p
+      found null_ptr = found_none
+      found (block_ptr pb po) = found_other pb po
 
       pub offers : A.inv (fbor t.life J) ∗ (A.lft t.life q ∗ (⟦ private new ν z ⟧ ∗ ⟦ grown d ⟧ ∗ ⟦ Pass ⟧))
           ⊢ compares 𝓛 (block_ptr b o) null_ptr new (λ p. fsep (flft t.life q) (won p))

@@ -116,11 +116,10 @@ module _ {M : Type 1} {𝓤 : Ura M} (𝓛 : Logic 𝓤) (R : RattleType) (L : L
           guard 𝓤 ((length cs ≡ n) × Told ns i cs)
           (⟦ each (slot R b o) cs i ⟧ ∗ ⟦ all_told_or_untold R sharing (i + k) cs ⟧)
 
-      redeems_slots : (n i : ℕ) → ⟦ slots_rest R sharing k n i b o ns ⟧ ⊢ H.⇛ (ex 𝓤 (AllRedeemed n i))
-      redeems_slots zero i =
-          qed 𝓛 (‵ ftrue ∷ []) ∵ updating ! $ now ! $ show ! (AllRedeemed 0 i) [] $
-          check ! (refl, λ j near. absurd (omega arith)) $ nothing ! $ done !
-      redeems_slots (suc n) i =
+      -- the first slot, and then the others
+      redeems_next : (n i : ℕ) → ⟦ slots_rest R sharing k n (suc i) b o ns ⟧ ⊢ H.⇛ (ex 𝓤 (AllRedeemed n (suc i)))
+          → ⟦ slots_rest R sharing k (suc n) i b o ns ⟧ ⊢ H.⇛ (ex 𝓤 (AllRedeemed (suc n) i))
+      redeems_next n i others =
           let e : ℕ = value_offset R o i in
           let set : Bool = is_set_in ns i in
           let next : suc i + k ≡ suc (i + k) = omega arith in
@@ -132,7 +131,7 @@ module _ {M : Type 1} {𝓤 : Ura M} (𝓛 : Logic 𝓤) (R : RattleType) (L : L
           use1 𝓛 (later (some (λ (cs : List C).
           given ((length cs ≡ n) × Told ns (suc i) cs)
           (‵ (each (slot R b o) cs (suc i)) ⊛ ‵ (all_told_or_untold R sharing (suc i + k) cs)))))
-          (redeems_slots n (suc i)) $
+          others $
           await ! tt $ pick ! (λ cs. learn ! (λ so.
           split ! $ move ! (2 ∷ []) $ split ! $
           -- [the slot; what is told of it; the other slots; what is told of them]
@@ -140,6 +139,12 @@ module _ {M : Type 1} {𝓤 : Ura M} (𝓛 : Logic 𝓤) (R : RattleType) (L : L
           rewrite ! 0 (λ (m : ℕ). ‵ (all_told_or_untold R sharing m cs)) next refl $ move ! (2 ∷ 0 ∷ []) $
           fjoin ! $ move ! (1 ∷ 0 ∷ []) $
           now ! $ show ! (AllRedeemed (suc n) i) (v ∷ cs) $ check ! (ap suc so.0, told_more ns i v cs is so.1) $ done !))))
+
+      redeems_slots : (n i : ℕ) → ⟦ slots_rest R sharing k n i b o ns ⟧ ⊢ H.⇛ (ex 𝓤 (AllRedeemed n i))
+      redeems_slots zero i =
+          qed 𝓛 (‵ ftrue ∷ []) ∵ updating ! $ now ! $ show ! (AllRedeemed 0 i) [] $
+          check ! (refl, λ j near. absurd (omega arith)) $ nothing ! $ done !
+      redeems_slots (suc n) i = redeems_next n i (redeems_slots n (suc i))
 
       rests_slot : (i : ℕ) (v : C) → is_set_in ns i ≡ is_some v
           → ⟦ slot R b o v i ⟧ ∗ ⟦ told_or_untold R sharing (i + k) v ⟧
@@ -149,11 +154,11 @@ module _ {M : Type 1} {𝓤 : Ura M} (𝓛 : Logic 𝓤) (R : RattleType) (L : L
           move ! (1 ∷ 0 ∷ []) $ nothing ! $ fpack ! (set ≡ is_some v) (λ _. ftrue) is $ fjoin3 ! $
           fpack ! (C × Bool) (slot_rests_as R sharing (i + k) set b e) (v, false) $ done !
 
-      rests_slots : (cs : List C) (i : ℕ) → Told ns i cs
-          → ⟦ each (slot R b o) cs i ⟧ ∗ ⟦ all_told_or_untold R sharing (i + k) cs ⟧
-          ⊢ ⟦ slots_rest R sharing k (length cs) i b o ns ⟧
-      rests_slots [] i told = qed 𝓛 (‵ ftrue ∷ ‵ ftrue ∷ []) ∵ drop ! $ done !
-      rests_slots (c ∷ cs) i told =
+      rests_next : (c : C) (cs : List C) (i : ℕ) → Told ns i (c ∷ cs)
+          → ⟦ each (slot R b o) cs (suc i) ⟧ ∗ ⟦ all_told_or_untold R sharing (suc i + k) cs ⟧ ⊢ ⟦ slots_rest R sharing k (length cs) (suc i) b o ns ⟧
+          → ⟦ each (slot R b o) (c ∷ cs) i ⟧ ∗ ⟦ all_told_or_untold R sharing (i + k) (c ∷ cs) ⟧
+          ⊢ ⟦ slots_rest R sharing k (suc (length cs)) i b o ns ⟧
+      rests_next c cs i told others =
           let next : suc (i + k) ≡ suc i + k = omega arith in
           qed 𝓛
           (‵ (each (slot R b o) (c ∷ cs) i) ∷ ‵ (all_told_or_untold R sharing (i + k) (c ∷ cs)) ∷ []) ∵
@@ -164,9 +169,14 @@ module _ {M : Type 1} {𝓤 : Ura M} (𝓛 : Logic 𝓤) (R : RattleType) (L : L
           (rests_slot i c (told_first ns i c cs told)) $
           move ! (1 ∷ []) $
           rewrite ! 0 (λ (m : ℕ). ‵ (all_told_or_untold R sharing m cs)) next refl $ move ! (2 ∷ 0 ∷ []) $
-          use2 𝓛 (‵ (slots_rest R sharing k (length cs) (suc i) b o ns))
-          (rests_slots cs (suc i) (told_rest ns i c cs told)) $
+          use2 𝓛 (‵ (slots_rest R sharing k (length cs) (suc i) b o ns)) others $
           move ! (1 ∷ 0 ∷ []) $ fjoin ! $ done !
+
+      rests_slots : (cs : List C) (i : ℕ) → Told ns i cs
+          → ⟦ each (slot R b o) cs i ⟧ ∗ ⟦ all_told_or_untold R sharing (i + k) cs ⟧
+          ⊢ ⟦ slots_rest R sharing k (length cs) i b o ns ⟧
+      rests_slots [] i told = qed 𝓛 (‵ ftrue ∷ ‵ ftrue ∷ []) ∵ drop ! $ done !
+      rests_slots (c ∷ cs) i told = rests_next c cs i told (rests_slots cs (suc i) (told_rest ns i c cs told))
 
   -- ---- the pointer
   -- whoever may free a block may compare its address with null
@@ -241,11 +251,10 @@ module _ {M : Type 1} {𝓤 : Ura M} (𝓛 : Logic 𝓤) (R : RattleType) (L : L
         fjoin3 ! $ fpack ! (List ℕ) (slots_under R n b o (slots_rest R d.sharing k n 0 b o)) ns $
         done !))
 
-    plain_block : (b o : ℕ) (cs : List C) → length cs ≡ n → Sized R n (block_ptr b o)
-        → ⟦ Slots b o cs ⟧ ∗ ⟦ back R b o n ⟧ ∗ ⟦ heap_token (block_ty R n) (block_ptr b o) ⟧
-        ⊢ ⟦ pointer_owns R heap_token (block_ptr b o) cs ⟧
-    plain_block b o [] long so = let some_slots : 0 < 2 ^ d.bucket = pow_pos d.bucket in absurd (omega arith)
-    plain_block b o (c ∷ cs) long so =
+    plain_slots : (b o : ℕ) (c : C) (cs : List C) → length (c ∷ cs) ≡ n → Sized R n (block_ptr b o)
+        → ⟦ Slots b o (c ∷ cs) ⟧ ∗ ⟦ back R b o n ⟧ ∗ ⟦ heap_token (block_ty R n) (block_ptr b o) ⟧
+        ⊢ ⟦ pointer_owns R heap_token (block_ptr b o) (c ∷ cs) ⟧
+    plain_slots b o c cs long so =
         let p : Ptr = block_ptr b o in
         let all : List C = c ∷ cs in
         let same : n ≡ length all = sym long in
@@ -254,6 +263,12 @@ module _ {M : Type 1} {𝓤 : Ura M} (𝓛 : Logic 𝓤) (R : RattleType) (L : L
         rewrite ! 2 (λ (m : ℕ). ‵ (heap_token (block_ty R m) p)) same refl $
         move ! (1 ∷ 2 ∷ []) $ fjoin ! $ move ! (1 ∷ []) $ fsplit ! $ move ! (0 ∷ 1 ∷ 2 ∷ []) $ fjoin3 ! $
         nothing ! $ fpack ! (InBlock p × Fits R (length all)) (λ _. ftrue) (tt, subst (Fits R) same so.2) $ fjoin ! $ done !
+
+    plain_block : (b o : ℕ) (cs : List C) → length cs ≡ n → Sized R n (block_ptr b o)
+        → ⟦ Slots b o cs ⟧ ∗ ⟦ back R b o n ⟧ ∗ ⟦ heap_token (block_ty R n) (block_ptr b o) ⟧
+        ⊢ ⟦ pointer_owns R heap_token (block_ptr b o) cs ⟧
+    plain_block b o [] long so = let some_slots : 0 < 2 ^ d.bucket = pow_pos d.bucket in absurd (omega arith)
+    plain_block b o (c ∷ cs) long so = plain_slots b o c cs long so
 
     abbrev pub Plain : Ptr → List C → SProp 𝓤
     Plain p cs = guard 𝓤 (Fit d cs) (⟦ pointer_owns R heap_token p cs ⟧ ∗ ⟦ Tells cs ⟧)
@@ -266,14 +281,8 @@ module _ {M : Type 1} {𝓤 : Ura M} (𝓛 : Logic 𝓤) (R : RattleType) (L : L
     tells_whole [] long = let some_slots : 0 < 2 ^ d.bucket = pow_pos d.bucket in absurd (omega arith)
     tells_whole (c ∷ cs) long = id⊢ 𝓤 _
 
-    -- what is due from a sharing comes back
-    pub redeems_bucket : (p : Ptr) → ⟦ at_rest R d p ⟧ ⊢ H.⇛ (ex 𝓤 (Plain p))
-    redeems_bucket null_ptr =
-        qed 𝓛 (‵ (at_rest R d null_ptr) ∷ []) ∵ updating ! $ fsplit ! $ fpick ! (λ free. drop ! $
-        use0 𝓛 (‵ (reached_owns d.table 0)) (reached_none 𝓛 d.table) $ nothing ! $ move ! (2 ∷ 1 ∷ 0 ∷ []) $ fjoin3 ! $
-        now ! $ show ! (Plain null_ptr) [] $ check ! (inl (refl, free)) $
-        nothing ! $ fpack ! (null_ptr ≡ null_ptr) (λ _. ftrue) refl $ done !)
-    redeems_bucket (block_ptr b o) =
+    redeems_standing : (b o : ℕ) → ⟦ at_rest R d (block_ptr b o) ⟧ ⊢ H.⇛ (ex 𝓤 (Plain (block_ptr b o)))
+    redeems_standing b o =
         let p : Ptr = block_ptr b o in
         qed 𝓛 (‵ (at_rest R d p) ∷ []) ∵ updating ! $ fsplit3 ! $ fpick ! (λ so. drop ! $ fsplit ! $
         move ! (2 ∷ []) $ fsplit ! $ move ! (2 ∷ 3 ∷ 0 ∷ 1 ∷ []) $
@@ -288,6 +297,34 @@ module _ {M : Type 1} {𝓤 : Ura M} (𝓛 : Logic 𝓤) (R : RattleType) (L : L
         use1 𝓛 (‵ (fsep (row_grown R d cs) (row_announced R d.word d.bucket cs))) (whole_grown 𝓛 R d cs (has_slots cs long)) $
         move ! (1 ∷ 0 ∷ []) $ fjoin ! $ move ! (1 ∷ 0 ∷ []) $
         now ! $ show ! (Plain p) cs $ check ! (inr long) $ done !)))
+
+    redeems_missing : ⟦ at_rest R d null_ptr ⟧ ⊢ H.⇛ (ex 𝓤 (Plain null_ptr))
+    redeems_missing =
+        qed 𝓛 (‵ (at_rest R d null_ptr) ∷ []) ∵ updating ! $ fsplit ! $ fpick ! (λ free. drop ! $
+        use0 𝓛 (‵ (reached_owns d.table 0)) (reached_none 𝓛 d.table) $ nothing ! $ move ! (2 ∷ 1 ∷ 0 ∷ []) $ fjoin3 ! $
+        now ! $ show ! (Plain null_ptr) [] $ check ! (inl (refl, free)) $
+        nothing ! $ fpack ! (null_ptr ≡ null_ptr) (λ _. ftrue) refl $ done !)
+
+    -- what is due from a sharing comes back
+    pub redeems_bucket : (p : Ptr) → ⟦ at_rest R d p ⟧ ⊢ H.⇛ (ex 𝓤 (Plain p))
+    redeems_bucket null_ptr = redeems_missing
+    redeems_bucket (block_ptr b o) = redeems_standing b o
+
+    rests_standing : (b o : ℕ) (c : C) (cs : List C) → length (c ∷ cs) ≡ n
+        → ⟦ pointer_owns R heap_token (block_ptr b o) (c ∷ cs) ⟧ ∗ ⟦ Tells (c ∷ cs) ⟧ ⊢ ⟦ at_rest R d (block_ptr b o) ⟧
+    rests_standing b o c cs fit = let p : Ptr = block_ptr b o in let all : List C = c ∷ cs in
+        qed 𝓛 (‵ (pointer_owns R heap_token p all) ∷ ‵ (Tells all) ∷ []) ∵ fsplit3 ! $
+        fpick ! (λ so. drop ! $ move ! (1 ∷ []) $ fsplit3 ! $
+        -- [the slots; the way back; the right to free; the words; what is told]
+        move ! (1 ∷ []) $ rewrite ! 0 (λ (m : ℕ). ‵ (back R b o m)) fit refl $ move ! (2 ∷ []) $
+        rewrite ! 0 (λ (m : ℕ). ‵ (heap_token (block_ty R m) p)) fit refl $
+        use1 𝓛 (given (Testable p) (‵ (heap_token (block_ty R n) p))) (tested (block_ty R n) p) $
+        learn ! (λ test. move ! (3 ∷ 2 ∷ []) $ fjoin ! $ move ! (3 ∷ []) $ fsplit ! $ move ! (2 ∷ 0 ∷ []) $
+        -- [the words and the slots; what is told; what the row shows; the right to free; the way
+        -- back]
+        use2 𝓛 (‵ (Slotted b o)) (rests_block b o all fit) $ move ! (0 ∷ 3 ∷ []) $ fjoin ! $
+        move ! (2 ∷ 1 ∷ []) $ fjoin ! $ move ! (1 ∷ 0 ∷ []) $
+        nothing ! $ fpack ! (Sized R n p) (λ _. ftrue) (tt, test, subst (Fits R) fit so.1) $ fjoin3 ! $ done !))
 
     -- an owner's pointer is a bucket at rest
     pub rests_bucket : (p : Ptr) (cs : List C) → Fit d cs
@@ -304,16 +341,4 @@ module _ {M : Type 1} {𝓤 : Ura M} (𝓛 : Logic 𝓤) (R : RattleType) (L : L
     rests_bucket null_ptr (c ∷ cs) (inr fit) =
         qed 𝓛 (‵ (pointer_owns R heap_token null_ptr (c ∷ cs)) ∷ ‵ (Tells (c ∷ cs)) ∷ []) ∵
         fsplit ! $ fpick ! (λ so. absurd so.0)
-    rests_bucket (block_ptr b o) (c ∷ cs) (inr fit) = let p : Ptr = block_ptr b o in let all : List C = c ∷ cs in
-        qed 𝓛 (‵ (pointer_owns R heap_token p all) ∷ ‵ (Tells all) ∷ []) ∵ fsplit3 ! $
-        fpick ! (λ so. drop ! $ move ! (1 ∷ []) $ fsplit3 ! $
-        -- [the slots; the way back; the right to free; the words; what is told]
-        move ! (1 ∷ []) $ rewrite ! 0 (λ (m : ℕ). ‵ (back R b o m)) fit refl $ move ! (2 ∷ []) $
-        rewrite ! 0 (λ (m : ℕ). ‵ (heap_token (block_ty R m) p)) fit refl $
-        use1 𝓛 (given (Testable p) (‵ (heap_token (block_ty R n) p))) (tested (block_ty R n) p) $
-        learn ! (λ test. move ! (3 ∷ 2 ∷ []) $ fjoin ! $ move ! (3 ∷ []) $ fsplit ! $ move ! (2 ∷ 0 ∷ []) $
-        -- [the words and the slots; what is told; what the row shows; the right to free; the way
-        -- back]
-        use2 𝓛 (‵ (Slotted b o)) (rests_block b o all fit) $ move ! (0 ∷ 3 ∷ []) $ fjoin ! $
-        move ! (2 ∷ 1 ∷ []) $ fjoin ! $ move ! (1 ∷ 0 ∷ []) $
-        nothing ! $ fpack ! (Sized R n p) (λ _. ftrue) (tt, test, subst (Fits R) fit so.1) $ fjoin3 ! $ done !))
+    rests_bucket (block_ptr b o) (c ∷ cs) (inr fit) = rests_standing b o c cs fit

@@ -1,6 +1,6 @@
 -- What a walk does about the tokens that it was made with.
 use Rattle.std.proofs.Common.{◌≡◌, ◌≢◌, ℕ, suc, ◌+◌, ◌-◌, ◌*◌, ◌/◌, ◌^◌, ◌<◌, ◌≤◌, true, false, List, Option, None, Some, IfSome}
-use Rattle.std.proofs.Common.{refl, ap, sym, ◌∙◌, subst, arith, ⊎_elim, inl, inr, pow_mono}
+use Rattle.std.proofs.Common.{refl, ap, sym, ◌∙◌, subst, arith, ⊎_elim, inl, inr, pow_mono, All}
 use Rattle.std.specs.Prelude.{MatchOption, slice_index_or}
 use Rattle.std.proofs.lemmas.Bool.{cases_lt, cases_eq}
 use Rattle.thread_local_base.specs.Place.{id_at, bucket_of, index_of}
@@ -204,6 +204,18 @@ module _ {V : Type 0} where
       λ named k d near same.
       meet_some from met to x (slice_index_or tokens k d) (skip named k d near same) (stop named k d near same) told.id told.value
       (here named k d near same)
+
+  meet_none : (from to : RawIter) (p : TokenView V) → Skips from to p.id → 63 ≤ to.bucket → p.id < 2 ^ 63 - 1
+      → Meets (resting from) None (resting to) p
+  meet_none from to p (inl low) far small = let start = resting-id from in omega arith
+  meet_none from to p (inr high) far small = let most : 2 ^ 63 ≤ 2 ^ to.bucket = pow_mono far in absurd (omega arith)
+
+  -- a call that gave nothing went past the last bucket, and skipped no token's id
+  pub meets_none : (sharing : Option ℕ) (tokens : List (TokenView V)) (from to : RawIter)
+      → AllOf sharing (λ p. Skips from to p.id) tokens → 63 ≤ to.bucket → All (λ p. p.id < 2 ^ 63 - 1) tokens
+      → AllOf sharing (Meets (resting from) None (resting to)) tokens
+  meets_none sharing tokens from to skip far small = λ named k d near same.
+      meet_none from to (slice_index_or tokens k d) (skip named k d near same) far (small k d near)
 
   -- 6. Looks at the chunks of a row, one after another.
 

@@ -138,14 +138,10 @@ module _ {M : Type 1} {𝓤 : Ura M} (𝓛 : Logic 𝓤) (R : RattleType) (L : L
     abbrev All : ℕ → List BucketView → List Val → List W.Denot → SProp 𝓤
     All b ds us ws = guard 𝓤 (Fits slots ds ws) (⟦ each W.Denot W.own_val ws us ⟧ ∗ ⟦ RowsTell b ws ⟧)
 
-    each_redeems : (b : ℕ) (ds : List BucketView) (us : List Val) → AreOf s m b ds
-        → ⟦ each BucketView S.own_val ds us ⟧ ⊢ H.⇛ (ex 𝓤 (All b ds us))
-    each_redeems b [] [] are =
-        qed 𝓛 (‵ ftrue ∷ []) ∵ updating ! $ now ! $ show ! (All b [] []) [] $ check ! tt $
-        nothing ! $ done !
-    each_redeems b [] (u ∷ us) are = never_e 𝓤 _
-    each_redeems b (d ∷ ds) [] are = never_e 𝓤 _
-    each_redeems b (d ∷ ds) (u ∷ us) are =
+    redeems_next : (b : ℕ) (d : BucketView) (ds : List BucketView) (u : Val) (us : List Val) → AreOf s m b (d ∷ ds)
+        → ⟦ each BucketView S.own_val ds us ⟧ ⊢ H.⇛ (ex 𝓤 (All (suc b) ds us))
+        → ⟦ each BucketView S.own_val (d ∷ ds) (u ∷ us) ⟧ ⊢ H.⇛ (ex 𝓤 (All b (d ∷ ds) (u ∷ us)))
+    redeems_next b d ds u us are others =
         qed 𝓛 (‵ (each BucketView S.own_val (d ∷ ds) (u ∷ us)) ∷ []) ∵ updating ! $ fsplit ! $
         use1 𝓛 (later (some (λ (w : W.Denot).
         given (Fit d w.slots) (‵ (W.own_val w (u ∷ [])) ⊛ ‵ (Tells d w.slots)))))
@@ -153,12 +149,35 @@ module _ {M : Type 1} {𝓤 : Ura M} (𝓛 : Logic 𝓤) (R : RattleType) (L : L
         await ! tt $ pick ! (λ w. learn ! (λ fit. split ! $ move ! (2 ∷ []) $
         use1 𝓛 (later (some (λ (ws : List W.Denot).
         given (Fits slots ds ws) (‵ (each W.Denot W.own_val ws us) ⊛ ‵ (RowsTell (suc b) ws)))))
-        (each_redeems (suc b) ds us are.1) $
+        others $
         await ! tt $ pick ! (λ ws. learn ! (λ fits. split ! $
         -- [the other pointers; what is told of them; the pointer; what is told of it]
         move ! (3 ∷ []) $ rewrite ! 0 (λ (z : BucketView). ‵ (Tells z w.slots)) are.0 refl $
         move ! (0 ∷ 2 ∷ []) $ fjoin ! $ move ! (2 ∷ 1 ∷ []) $ fjoin ! $
         now ! $ show ! (All b (d ∷ ds) (u ∷ us)) (w ∷ ws) $ check ! (fit, fits) $ done !))))
+
+    each_redeems : (b : ℕ) (ds : List BucketView) (us : List Val) → AreOf s m b ds
+        → ⟦ each BucketView S.own_val ds us ⟧ ⊢ H.⇛ (ex 𝓤 (All b ds us))
+    each_redeems b [] [] are =
+        qed 𝓛 (‵ ftrue ∷ []) ∵ updating ! $ now ! $ show ! (All b [] []) [] $ check ! tt $
+        nothing ! $ done !
+    each_redeems b [] (u ∷ us) are = never_e 𝓤 _
+    each_redeems b (d ∷ ds) [] are = never_e 𝓤 _
+    each_redeems b (d ∷ ds) (u ∷ us) are = redeems_next b d ds u us are (each_redeems (suc b) ds us are.1)
+
+    rests_next : Judged R → (b : ℕ) (d : BucketView) (ds : List BucketView) (w : W.Denot) (ws : List W.Denot) (u : Val) (us : List Val)
+        → AreOf s m b (d ∷ ds) → Fits slots (d ∷ ds) (w ∷ ws)
+        → ⟦ each W.Denot W.own_val ws us ⟧ ∗ ⟦ RowsTell (suc b) ws ⟧ ⊢ ⟦ each BucketView S.own_val ds us ⟧
+        → ⟦ each W.Denot W.own_val (w ∷ ws) (u ∷ us) ⟧ ∗ ⟦ RowsTell b (w ∷ ws) ⟧ ⊢ ⟦ each BucketView S.own_val (d ∷ ds) (u ∷ us) ⟧
+    rests_next j b d ds w ws u us are f others =
+        qed 𝓛 (‵ (each W.Denot W.own_val (w ∷ ws) (u ∷ us)) ∷ ‵ (RowsTell b (w ∷ ws)) ∷ []) ∵
+        fsplit ! $ move ! (2 ∷ []) $ fsplit ! $
+        -- [what is told of the slots, and of the others; the pointer; the others]
+        rewrite ! 0 (λ (z : BucketView). ‵ (Tells z w.slots)) (sym are.0) refl $
+        move ! (2 ∷ 0 ∷ []) $ use2 𝓛 (‵ (S.own_val d (u ∷ []))) (rests_one j d w (u ∷ []) f.0) $
+        move ! (2 ∷ 1 ∷ []) $
+        use2 𝓛 (‵ (each BucketView S.own_val ds us)) others $
+        move ! (1 ∷ 0 ∷ []) $ fjoin ! $ done !
 
     each_rests : Judged R → (b : ℕ) (ds : List BucketView) (ws : List W.Denot) (us : List Val)
         → AreOf s m b ds → Fits slots ds ws
@@ -169,15 +188,7 @@ module _ {M : Type 1} {𝓤 : Ura M} (𝓛 : Logic 𝓤) (R : RattleType) (L : L
     each_rests j b (d ∷ ds) [] us are f = absurd f
     each_rests j b (d ∷ ds) (w ∷ ws) [] are f =
         qed 𝓛 (‵ ffalse ∷ ‵ (RowsTell b (w ∷ ws)) ∷ []) ∵ keep ! (0 ∷ []) $ by ! (never_e 𝓤 _)
-    each_rests j b (d ∷ ds) (w ∷ ws) (u ∷ us) are f =
-        qed 𝓛 (‵ (each W.Denot W.own_val (w ∷ ws) (u ∷ us)) ∷ ‵ (RowsTell b (w ∷ ws)) ∷ []) ∵
-        fsplit ! $ move ! (2 ∷ []) $ fsplit ! $
-        -- [what is told of the slots, and of the others; the pointer; the others]
-        rewrite ! 0 (λ (z : BucketView). ‵ (Tells z w.slots)) (sym are.0) refl $
-        move ! (2 ∷ 0 ∷ []) $ use2 𝓛 (‵ (S.own_val d (u ∷ []))) (rests_one j d w (u ∷ []) f.0) $
-        move ! (2 ∷ 1 ∷ []) $
-        use2 𝓛 (‵ (each BucketView S.own_val ds us)) (each_rests j (suc b) ds ws us are.1 f.1) $
-        move ! (1 ∷ 0 ∷ []) $ fjoin ! $ done !
+    each_rests j b (d ∷ ds) (w ∷ ws) (u ∷ us) are f = rests_next j b d ds w ws u us are f (each_rests j (suc b) ds ws us are.1 f.1)
 
   each_judged : (ds : List BucketView) (us : List Val) → length ds ≡ 63
       → ⟦ each BucketView S.own_val ds us ⟧ ⊢ guard 𝓤 (Judged R) ⟦ each BucketView S.own_val ds us ⟧

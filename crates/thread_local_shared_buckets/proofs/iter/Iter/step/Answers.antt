@@ -1,7 +1,9 @@
-use Rattle.std.proofs.Common.{◌≡◌, ◌∙◌, ◌<◌, ◌≤◌, ℕ, Bool, true, false, List, Option, Some, IfSome, is_some, option_map, refl, ap, sym, subst, arith}
-use Rattle.std.specs.Prelude.{MatchBool}
+use Rattle.std.proofs.Common.{◌≡◌, ◌∙◌, ◌<◌, ◌≤◌, ◌^◌, ◌-◌, ℕ, Bool, true, false, List, All, Option, None, Some, IfSome, ⊎_elim, is_some, option_map, refl, ap, sym, subst, arith}
+use Rattle.std.specs.Prelude.{MatchBool, IsTrue}
 use Rattle.thread_local_base.specs.Bits.{IsLowestSet}
 use Rattle.std.proofs.lemmas.Bool.{ne_eqb}
+use Rattle.thread_local_base.specs.Cursor.{Cursor, is_complete}
+use Rattle.thread_local_buckets.specs.declared.cursor.RawIter.{RawIter}
 use Rattle.thread_local_ids.specs.TokenLists.{AllOf}
 use Rattle.thread_local_ids.specs.Views.{TokenView}
 use Rattle.thread_local_shared_buckets.specs.TableView.{TableView}
@@ -10,20 +12,21 @@ use Rattle.thread_local_shared_buckets.specs.declared.seen.Seen.{Seen}
 use Rattle.thread_local_shared_buckets.specs.declared.steps.Own.{Own}
 use Rattle.thread_local_shared_buckets.specs.declared.steps.Walk.{Walk}
 use Rattle.thread_local_shared_buckets.specs.AtHand.{IsWalk, Comes, slot_of}
-use Rattle.thread_local_shared_buckets.specs.Positions.{resting, owed, is_at}
+use Rattle.thread_local_shared_buckets.specs.Positions.{resting, owed, is_at, IsAhead, IsSharedWalk}
 use Rattle.thread_local_shared_buckets.specs.Walks.{WalkView, Goes}
 use Rattle.thread_local_shared_buckets.proofs.Findings.{Item, IsSetIn, IsGivenBy, IsToldAt, Stops, YieldsFrom}
 use Rattle.thread_local_shared_buckets.proofs.AtHandLaws.{comes_nowhere}
+use Rattle.thread_local_shared_buckets.proofs.MoveLaws.{resting-first}
 use Rattle.thread_local_shared_buckets.proofs.OwnLaws.{at_if, not_at}
 use Rattle.thread_local_shared_buckets.proofs.PassLaws.{near, set_lowest, after_pass, Passed, passed_own, passed_seen}
-use Rattle.thread_local_shared_buckets.proofs.ToldLaws.{moved, meets_some, stops}
+use Rattle.thread_local_shared_buckets.proofs.ToldLaws.{moved, meets_some, meets_none, stops}
 use Rattle.thread_local_shared_buckets.proofs.WalkLaws.{gives_later, fits}
 use Rattle.thread_local_shared_buckets.proofs.iter.Iter.step.Goals as goal
 use Rattle.thread_local_shared_buckets.proofs.iter.Iter.step.Goals.{Joined-else-self-eq0, Joined-self-2, Joined-here}
 use Rattle.thread_local_shared_buckets.proofs.iter.Iter.step.Goals.{else-self-eq0-via-then-self-eq0+else-not-reach}
 use Rattle.thread_local_shared_buckets.proofs.iter.Iter.step.Goals.{else-self-eq0-via-else-self-eq0}
 use Rattle.thread_local_shared_buckets.proofs.iter.Iter.step.Goals.{in-Some-own+then-own-self, in-Some-own+else-own-self, in-None}
-use Rattle.thread_local_shared_buckets.proofs.iter.Iter.step.Goals.{then-here+in-Some-take, else-here+in-Some-seen}
+use Rattle.thread_local_shared_buckets.proofs.iter.Iter.step.Goals.{then-here+in-Some-take, else-here+in-Some-seen, in-Some, in_default}
 
 module _ {V : Type 0} where
   -- what contracts see of a walk, which was shown that threads may share the values, or wasn't
@@ -62,6 +65,37 @@ module _ {V : Type 0} where
             (subst (λ (o : Option ℕ). IsToldAt o to.raw x) named told) (subst (Agrees x) (kept ∙ comes.told) agrees);
       }
 
+  -- past the last bucket no own value is ahead, and the walk is complete
+  none_ahead : (raw : RawIter) (own : Option (Own V)) → IfSome own (IsAhead raw) → 63 ≤ raw.bucket → own ≡ None
+  none_ahead raw None ahead far = refl
+  none_ahead raw (Some own) ahead far = let up = ahead.bucket in let low = own.thread.in_table in absurd (omega arith)
+
+  complete : (raw : RawIter) (own : Option (Own V)) → IsSharedWalk raw own → 63 ≤ raw.bucket → IsTrue (is_complete (resting raw))
+  complete raw own walk far =
+      let last : raw.bucket ≡ 63 = (let most = walk.in_table in omega arith) in
+      subst (λ (at : Cursor). IsTrue (is_complete at)) (sym (resting-first raw (walk.complete last)))
+      (subst (λ (b : ℕ). IsTrue (is_complete (record { bucket = b; index = raw.index; looks = false }))) (sym last) refl)
+
+  -- the walk looked on and found no flag
+  ended : (w to : Walk V) (shown : Bool) → Comes w to → IsWalk to → 63 ≤ to.raw.bucket → All (λ p. p.id < 2 ^ 63 - 1) to.told
+      → Goes (seen w shown) None (seen to shown)
+  ended w to shown comes walk far small =
+      let none : to.own ≡ None = none_ahead to.raw to.own walk.walk.own_ahead far in
+      record {
+        gives = record {
+          leads = comes.leads;
+          complete = complete to.raw to.own walk.walk far;
+          none_owed = ap (option_map owed) (sym comes.own ∙ none);
+          none_left = ap (option_map owed) none;
+        };
+        shown = refl;
+        sharing = ap (λ (t : TableView). t.sharing) comes.buckets;
+        told = comes.told;
+        meets =
+            meets_none w.buckets.now.sharing w.told w.raw to.raw comes.skips far
+            (subst (λ (ts : List (TokenView V)). All (λ p. p.id < 2 ^ 63 - 1) ts) comes.told small);
+      }
+
   -- the walk looked on, or a flag was at hand: one is now
   record HasCome (from met : Inside V) : Type 0 where
     pub walk : IsWalk met.walk
@@ -89,6 +123,40 @@ module _ {V : Type 0} where
     stops = stops met.walk low walk lowest;
   }
 
+pub reach-requires-clause-shareable : goal.reach-requires-clause-shareable
+reach-requires-clause-shareable g c =
+    elim c.match-self.branch [
+      | in-Some x ↦ x.tell.ensures.shareable
+      | in_default x ↦
+          ⊎_elim
+          (λ shown.
+          let never : true ≡ false = sym shown ∙ sym (ap (λ (view : WalkView _). view.shown) c.self.view_is) ∙ ap is_some x.in_default.is in
+          absurd cc)
+          (λ said. said) c.requires.can_go
+    ]
+
+pub reach-requires-clause-walk : goal.reach-requires-clause-walk
+reach-requires-clause-walk g c = c.self.invariant
+
+pub reach-requires-clause-passed : goal.reach-requires-clause-passed
+reach-requires-clause-passed g c = c.if-self-eq0.true
+
+pub invariant_of-self : goal.invariant_of-self
+invariant_of-self g c = c.reach.ensures.walk
+
+pub returns-then-not-reach-clause-goes : goal.returns-then-not-reach-clause-goes
+returns-then-not-reach-clause-goes g c =
+    let from = c.self.inside in
+    let reached = c.reach.ensures in
+    let shown = is_some from.shown in
+    let far =
+    subst (λ (b : Bool). MatchBool b (0 < c.reach.new.self.rest) (63 ≤ c.reach.new.self.raw.bucket)) c.if-not-reach.true reached.by in
+    subst (λ (view : WalkView _). Goes view None (seen c.reach.new.self shown)) c.self.view_is
+    (ended from.walk c.reach.new.self shown reached.comes reached.walk far c.in_range.ensures)
+
+pub returns-then-not-reach-clause-told : goal.returns-then-not-reach-clause-told
+returns-then-not-reach-clause-told g c = tt
+
 come_to : (g : _) (c : Joined-else-self-eq0 g) → HasCome c.self.inside c.else-self-eq0.self-inside
 come_to g c =
     let from = c.self.inside in
@@ -109,6 +177,9 @@ come_to g c =
             shown = refl;
           })
     ]
+
+pub take_first-bit-requires : goal.take_first-bit-requires
+take_first-bit-requires g c = (come_to g (goal.at.take_first-bit-requires g c).Joined-else-self-eq0).some
 
 pub overflow_sub-index : goal.overflow_sub-index
 overflow_sub-index g c =
@@ -149,11 +220,23 @@ tested g c =
       | in-None x ↦ x.here-is ∙ sym (ap (λ (own : Option (Own _)). is_at own w.raw.bucket index) x.in-None.is)
     ]
 
+pub unreachable-requires : goal.unreachable-requires
+unreachable-requires g c =
+    let w = c.else-self-eq0.self-inside.walk in
+    let none : w.own ≡ None = sym c.take.ensures.value ∙ c.in-None-take.is in
+    let never : false ≡ true =
+    sym (ap (λ (own : Option (Own _)). is_at own w.raw.bucket (slot_of w c.take_first-bit.result)) none)
+    ∙ sym (tested g (goal.at.unreachable-requires g c).Joined-self-2) ∙ c.if-here.true in
+    absurd cc
+
 -- where it doesn't, the walk saw that flag set
 set_there : (g : _) (c : Joined-self-2 g) → HasCome c.self.inside c.else-self-eq0.self-inside → c.match-self-2.here ≡ false
     → let w = c.else-self-eq0.self-inside.walk in IsSetIn w.seen c.take_first-bit.result
 set_there g c come apart =
     set_lowest c.else-self-eq0.self-inside.walk c.take_first-bit.result come.walk c.take_first-bit.ensures.first (sym (tested g c) ∙ apart)
+
+pub give-requires-clause-within : goal.give-requires-clause-within
+give-requires-clause-within g c = c.take_first-bit.ensures.first.within
 
 pub give-requires-clause-set : goal.give-requires-clause-set
 give-requires-clause-set g c =

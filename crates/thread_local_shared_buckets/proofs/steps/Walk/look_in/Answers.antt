@@ -9,14 +9,16 @@ use Rattle.thread_local_shared_buckets.specs.declared.row.Row.{Row}
 use Rattle.thread_local_shared_buckets.specs.declared.seen.Seen.{Seen}
 use Rattle.thread_local_shared_buckets.specs.declared.steps.Own.{Own}
 use Rattle.thread_local_shared_buckets.specs.declared.steps.Walk.{Walk}
-use Rattle.thread_local_shared_buckets.proofs.Findings.{FindsTokens, HasLookedOn, IsAlone, own_index}
-use Rattle.std.proofs.Common.{◌≡◌, ◌∙◌, ◌<◌, ◌*◌, ◌^◌, ◌+◌, ◌/◌, ◌%◌, ℕ, true, false, List, Option, None, Some, IfSome, is_some, not}
-use Rattle.std.proofs.Common.{subst, sym, ap, refl, arith, bit_or, get_or}
+use Rattle.thread_local_shared_buckets.proofs.Findings.{FindsTokens, HasLookedOn, IsAlone, LiesOutside, own_index}
+use Rattle.std.proofs.Common.{◌≡◌, ◌∙◌, ◌<◌, ◌≤◌, ◌*◌, ◌^◌, ◌+◌, ◌/◌, ◌%◌, ℕ, true, false, List, Option, None, Some, IfSome, is_some, not}
+use Rattle.std.proofs.Common.{subst, sym, ap, refl, arith, bit_or, get_or, lit<, w64, Fits, pow_mono}
+use denote.Param.{param}
+use Rattle.thread_local_buckets.specs.Slots.{flag_word_at}
 use Rattle.thread_local_shared_buckets.proofs.Lists.{listed_bucket}
 use Rattle.thread_local_shared_buckets.proofs.BitLaws.{none_in_chunk, none_further, keeps_set, Counts, counts_own, counts_apart, counts_none, alone_set}
 use Rattle.thread_local_shared_buckets.proofs.LookLaws.{looked_on, read_at}
 use Rattle.thread_local_shared_buckets.proofs.OwnLaws.{index_of_own, index_outside}
-use Rattle.thread_local_shared_buckets.proofs.ToldLaws.{none_next, found_at, none_found, none_there}
+use Rattle.thread_local_shared_buckets.proofs.ToldLaws.{NoneBefore, none_next, found_at, none_found, none_there}
 use Rattle.thread_local_shared_buckets.proofs.steps.Walk.look_in.Goals as goal
 use Rattle.thread_local_shared_buckets.proofs.steps.Walk.look_in.Goals.{Joined-self, Joined-self-2, Joined-own}
 use Rattle.thread_local_shared_buckets.proofs.steps.Walk.look_in.Goals.{then-is_none, else-is_none, in-Some, in_default-2, in_default}
@@ -50,14 +52,40 @@ module _ {V : Type 0} where
       → LooksIn w (record t { seen = x.0; chunks = x.1; rest = x.2 })) (sym loaded.is)
       (λ at looks finds. looked_on w loaded.row own x walk none low loaded.of at looks finds loaded.absent)
 
+  -- the row that is at hand is that of the walk's bucket
+  row_of : (w met : Walk V) (r : Row V) → Loaded w met → met.row ≡ Some r → IsRowOf w.buckets.now.sharing w.raw.bucket r
+  row_of w met r loaded is =
+      subst (λ (row : Option (Row V)). IfSome row (IsRowOf w.buckets.now.sharing w.raw.bucket))
+      (ap (λ (t : Walk V). t.row) (sym loaded.is) ∙ is) loaded.of
+
   -- the bucket's size is that of the row that is at hand
   sized : (w met : Walk V) (r : Row V) → Loaded w met → w.raw.bucket_size ≡ 2 ^ w.raw.bucket → met.row ≡ Some r
       → met.raw.bucket_size ≡ 2 ^ r.of.bucket
   sized w met r loaded size is =
-      let of : IsRowOf w.buckets.now.sharing w.raw.bucket r =
-      subst (λ (row : Option (Row V)). IfSome row (IsRowOf w.buckets.now.sharing w.raw.bucket))
-      (ap (λ (t : Walk V). t.row) (sym loaded.is) ∙ is) loaded.of in
-      ap (λ (t : Walk V). t.raw.bucket_size) loaded.is ∙ size ∙ ap (λ (k : ℕ). 2 ^ k) (sym of.0)
+      ap (λ (t : Walk V). t.raw.bucket_size) loaded.is ∙ size ∙ ap (λ (k : ℕ). 2 ^ k) (sym (row_of w met r loaded is).0)
+
+-- a bucket's index, and its size with the 63 that round up to whole chunks, fit a word
+small_offset : (b : ℕ) → b < 63 → Fits w64 (b * 8)
+small_offset b low = omega arith
+
+rounds_up : (size b : ℕ) → b < 63 → size ≡ 2 ^ b → Fits w64 (size + 63)
+rounds_up size b low is = let few : 2 ^ b ≤ 2 ^ 62 = pow_mono {j = 62} (omega arith) in omega arith
+
+-- a chunk before the end lies in the bucket, and its number fits
+chunk_inside : (chunk size b : ℕ) → size ≡ 2 ^ b → chunk < (size + 63) / 64 → chunk * 64 < 2 ^ b
+chunk_inside chunk size b is low = omega arith
+
+next_fits : (chunk size b : ℕ) → b < 63 → size ≡ 2 ^ b → chunk < (size + 63) / 64 → Fits w64 (chunk + 1)
+next_fits chunk size b small is low = let few : 2 ^ b ≤ 2 ^ 62 = pow_mono {j = 62} (omega arith) in omega arith
+
+-- a bit's place in its word
+in_word : (i : ℕ) → i % 64 < 64
+in_word i = omega arith
+
+-- before the first look no chunk was seen
+none_between : {V : Type 0} (own : Option ℕ) (r : Row V) (from : ℕ) (tokens : List (TokenView V))
+    → (from ≤ from) × ((k : ℕ) → from ≤ k → k < from → LiesOutside own k) × NoneBefore r from from tokens
+none_between own r from tokens = (omega arith, (λ k low high. absurd (omega arith)), λ named k d near same i under at later. later)
 
 -- what the walk has at hand of the bucket's pointer
 loaded : (g : _) (c : Joined-self g) → Loaded c.args.self.now c.if-is_none.self
@@ -112,6 +140,65 @@ met g c =
       subst (Loaded c.args.self.now) (sym at.0) (loaded g c),
       at.1 ∙ ap (λ (m : Walk _). own_index m.own m.raw.bucket) (sym at.0),
     )
+
+-- the row at hand is that of the walk's bucket, whose size the walk keeps
+at_row : (g : _) (c : Joined-self g) (r : Row _) → c.match-self.self.row ≡ Some r
+    → (r.of.bucket < 63) × (c.match-self.self.raw.bucket_size ≡ 2 ^ r.of.bucket)
+at_row g c r is =
+    let at = (met g c).0 in (
+      subst (λ (b : ℕ). b < 63) (sym (row_of c.args.self.now c.match-self.self r at is).0) c.requires.in_table,
+      sized c.args.self.now c.match-self.self r at c.requires.walk.walk.size is,
+    )
+
+pub parts-requires : goal.parts-requires
+parts-requires g c = (lit< tt, lit< tt)
+
+pub offset_bounds-pointers-self : goal.offset_bounds-pointers-self
+offset_bounds-pointers-self g c = small_offset c.args.self.now.raw.bucket c.requires.in_table
+
+pub listed : goal.listed
+listed g c = subst (λ (n : ℕ). c.args.self.now.raw.bucket < n) (sym c.type_inv.pointers) c.requires.in_table
+
+pub bounds-pointers-self : goal.bounds-pointers-self
+bounds-pointers-self g c = c.requires.in_table
+
+pub overflow_add-chunk-end : goal.overflow_add-chunk-end
+overflow_add-chunk-end g c =
+    let row = at_row g (goal.at.overflow_add-chunk-end g c).Joined-self c.in-Some-row.row c.in-Some-row.is in
+    rounds_up c.match-self.self.raw.bucket_size c.in-Some-row.row.of.bucket row.0 row.1
+
+pub loop-chunk-init : goal.loop-chunk-init
+loop-chunk-init g c =
+    let none = none_between c.match-self.own c.in-Some-row.row c.match-self.self.chunks c.list-told.result.now.tokens in
+    record { later = none.0; none_before = none.1; none_told = none.2 }
+
+pub look-seen-requires-clause-shareable : goal.look-seen-requires-clause-shareable
+look-seen-requires-clause-shareable g c = c.requires.shareable
+
+pub look-seen-requires-clause-in_table : goal.look-seen-requires-clause-in_table
+look-seen-requires-clause-in_table g c =
+    (at_row g (goal.at.look-seen-requires-clause-in_table g c).Joined-self c.in-Some-row.row c.in-Some-row.is).0
+
+pub look-seen-requires-clause-inside : goal.look-seen-requires-clause-inside
+look-seen-requires-clause-inside g c =
+    let row = at_row g (goal.at.look-seen-requires-clause-inside g c).Joined-self c.in-Some-row.row c.in-Some-row.is in
+    chunk_inside c.loop-chunk.chunk c.match-self.self.raw.bucket_size c.in-Some-row.row.of.bucket row.1 c.loop-chunk-test.true
+
+pub look-seen-requires-clause-flag_word : goal.look-seen-requires-clause-flag_word
+look-seen-requires-clause-flag_word g c =
+    let row = at_row g (goal.at.look-seen-requires-clause-flag_word g c).Joined-self c.in-Some-row.row c.in-Some-row.is in
+    subst (λ (n : ℕ). c.flag_word_at.result ≡ flag_word_at (param 0 g.row.T) n c.loop-chunk.chunk) row.1 c.flag_word_at.ensures
+
+pub overflow_shl-flags : goal.overflow_shl-flags
+overflow_shl-flags g c = in_word c.in-Some-own.index
+
+pub overflow_add-self : goal.overflow_add-self
+overflow_add-self g c =
+    let row = at_row g (goal.at.overflow_add-self g c).Joined-self c.in-Some-row.row c.in-Some-row.is in
+    next_fits c.loop-chunk.chunk c.match-self.self.raw.bucket_size c.in-Some-row.row.of.bucket row.0 row.1 c.loop-chunk-test.true
+
+pub overflow_shl-self : goal.overflow_shl-self
+overflow_shl-self g c = in_word c.in-Some-own-2.index
 
 -- the flags that the walk takes are those that the look saw, and that of the own slot if it lies in the chunk
 counted : (g : _) (c : Joined-own g) → Counts c.match-self.own c.loop-chunk.chunk c.look-seen.result.flags c.match-own.flags
