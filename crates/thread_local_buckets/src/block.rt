@@ -78,23 +78,10 @@ impl<T, A: Allocator> Block<T, A> {
             block.push(0, flag_word_at::<T>(len, 0));
             return Ok(block);
         }
-        block.push_all(len, count);
-        Ok(block)
-    }
-
-    /// Makes the flags of all chunks, none of them set. It is never inlined, so that a block of one
-    /// chunk is made in a short way.
-    #[cold]
-    #[inline(never)]
-    fn push_all(&mut self, len: usize, count: usize)
-        requires len { length self.old.slots ≡ len }
-        requires left { self.old.left ≡ chunks len }
-        requires count { count ≡ chunks len }
-        ensures { (self.new.heap ≡ self.old.heap) × (self.new.slots ≡ self.old.slots) × (self.new.left ≡ 0) }
-    {
         'chunks: for chunk in 0..count {
-            self.push(chunk, flag_word_at::<T>(len, chunk));
+            block.push(chunk, flag_word_at::<T>(len, chunk));
         }
+        Ok(block)
     }
 
     /// Frees a block whose slots are all empty.

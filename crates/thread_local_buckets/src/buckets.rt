@@ -333,5 +333,5 @@ fn digits(number: usize) -> usize
     if number == 0 {
         return 0;
     }
-    Thread::new(number - 1).bucket + 1
+    number.ilog2() as usize + 1
 }

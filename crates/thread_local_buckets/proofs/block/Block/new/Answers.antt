@@ -18,20 +18,31 @@ allocate-requires-clause-fits g c =
 pub allocate-requires-clause-size : goal.allocate-requires-clause-size
 allocate-requires-clause-size g c = c.bytes_of_block.ensures (allocate-requires-clause-fits g c)
 
-pub push_all-requires-clause-len : goal.push_all-requires-clause-len
-push_all-requires-clause-len g c = ap length c.in_ok-block.ensures.1 ∙ length-replicate c.args.len None
+pub push-requires-in-chunks-clause-next : goal.push-requires-in-chunks-clause-next
+push-requires-in-chunks-clause-next g c =
+    let kept = c.chunks.invariant in
+    let long : length c.chunks.block.slots ≡ c.args.len = ap length kept.1 ∙ length-replicate c.args.len None in (
+      subst (λ (n : ℕ). c.chunks.chunk + c.chunks.block.left ≡ chunks n) (sym long) (let all = kept.2 in omega arith),
+      (let all = kept.2 in let test = c.chunks-test.true in let count = c.div_ceil-count.ensures in omega arith),
+    )
 
-pub push_all-requires-clause-left : goal.push_all-requires-clause-left
-push_all-requires-clause-left g c = c.in_ok-block.ensures.2
+pub push-requires-in-chunks-clause-flag_word : goal.push-requires-in-chunks-clause-flag_word
+push-requires-in-chunks-clause-flag_word g c =
+    let long : length c.chunks.block.slots ≡ c.args.len = ap length c.chunks.invariant.1 ∙ length-replicate c.args.len None in
+    c.flag_word_at-in-chunks.ensures ∙ ap (λ (n : ℕ). flag_word_at g.row.T n c.chunks.chunk) (sym long)
 
-pub push_all-requires-clause-count : goal.push_all-requires-clause-count
-push_all-requires-clause-count g c = c.div_ceil-count.ensures ∙ chunks_counted c.args.len
+pub chunks-preserved : goal.chunks-preserved
+chunks-preserved g c =
+    let kept = c.chunks.invariant in
+    let after = c.push-in-chunks.ensures in
+    (after.0 ∙ kept.0, after.1 ∙ kept.1, (let one = after.2 in let all = kept.2 in omega arith))
 
 pub returns : goal.returns
 returns g c =
-    let made = c.in_ok-block.ensures in
-    let after = c.push_all.ensures in
-    (after.0 ∙ made.0, after.1 ∙ made.1, after.2)
+    let kept = c.chunks.invariant in
+    let count = c.div_ceil-count.ensures in
+    let test = c.chunks-test.false in
+    (kept.0, kept.1, (let all = kept.2 in omega arith))
 
 -- a block of one chunk has room for it
 one_left : {X : Type 0} (slots : List X) (x : X) (n left count : ℕ) → slots ≡ replicate n x
