@@ -1,6 +1,7 @@
 -- What a claim does that fills its slot, by what it has learnt.
-use Rattle.std.proofs.Common.{◌≡◌, ◌≢◌, ◌∙◌, ℕ, Option, None, Some, refl, sym, subst, inl, inr}
-use Rattle.thread_local_base.specs.Learnt.{Learnt, Unknown, Missing, Standing, Vacant, Holding}
+use Rattle.std.proofs.Common.{◌≡◌, ◌≢◌, ◌∙◌, ℕ, Bool, false, Option, None, Some, refl, sym, ap, subst, inl, inr}
+use Rattle.std.specs.Prelude.{MatchBool}
+use Rattle.thread_local_base.specs.Learnt.{Learnt, Unknown, Missing, Standing, Vacant, Holding, learnt_by_publish}
 use Rattle.thread_local_buckets.specs.declared.block.Block.{Block}
 use Rattle.thread_local_shared_buckets.specs.Known.{HasLooked, state_of}
 use Rattle.thread_local_shared_buckets.specs.Room.{HasRoom, IsEmpty, IsFilledBy, StaysEmpty}
@@ -67,3 +68,15 @@ module _ {V : Type 0} where
 
   pub found_still : (old new : Learnt V) → StaysEmpty old new → new ≡ Missing → old ≡ Missing
   found_still old new stays none = missing_before old new stays.was stays.vacant none
+
+  -- a publish into a slot that is empty and whose bucket stands fills it
+  pub vacant_else : (learnt : Learnt V) (missing : Bool) → IsEmpty learnt → MatchBool missing (learnt ≡ Missing) (learnt ≢ Missing)
+      → missing ≡ false
+      → learnt ≡ Vacant
+  vacant_else learnt missing (inl none) by found =
+      let apart : learnt ≢ Missing = subst (λ (b : Bool). MatchBool b (learnt ≡ Missing) (learnt ≢ Missing)) found by in absurd (apart none)
+  vacant_else learnt missing (inr vacant) by found = vacant
+
+  pub published_in : (old new : Learnt V) (x : V) → old ≡ Vacant → learnt_by_publish old x ≡ Some new → new ≡ Holding x
+  published_in old new x vacant is =
+      let here : Some (Holding x) ≡ Some new = sym (ap (λ (l : Learnt V). learnt_by_publish l x) vacant) ∙ is in cc
