@@ -45,3 +45,4 @@ pub mod Rested
 pub mod BucketSent
 pub mod SlotSteps
 pub mod ClaimTokens
+mod Fills
