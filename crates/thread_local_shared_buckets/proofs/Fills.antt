@@ -1,6 +1,7 @@
 -- What a claim does that fills its slot, by what it has learnt.
-use Rattle.std.proofs.Common.{◌≡◌, ◌≢◌, ◌∙◌, ℕ, Bool, false, Option, None, Some, refl, sym, ap, subst, inl, inr}
-use Rattle.std.specs.Prelude.{MatchBool}
+use Rattle.std.proofs.Common.{◌≡◌, ◌≢◌, ◌∙◌, ◌^◌, ℕ, Bool, false, List, IsSome, Option, None, Some, refl, sym, ap, subst, inl, inr}
+use Rattle.std.specs.Prelude.{MatchBool, slice_set}
+use Rattle.thread_local_buckets.specs.Slots.{empty_slots, slot_value}
 use Rattle.thread_local_base.specs.Learnt.{Learnt, Unknown, Missing, Standing, Vacant, Holding, learnt_by_publish}
 use Rattle.thread_local_buckets.specs.declared.block.Block.{Block}
 use Rattle.thread_local_shared_buckets.specs.Known.{HasLooked, state_of}
@@ -80,3 +81,13 @@ module _ {V : Type 0} where
   pub published_in : (old new : Learnt V) (x : V) → old ≡ Vacant → learnt_by_publish old x ≡ Some new → new ≡ Holding x
   published_in old new x vacant is =
       let here : Some (Holding x) ≡ Some new = sym (ap (λ (l : Learnt V). learnt_by_publish l x) vacant) ∙ is in cc
+
+  -- a block with a value in one slot, by the slot's place
+  pub made_for : (slots : List (Option V)) (x : V) (i j b k : ℕ) → i ≡ j → b ≡ k → slice_set slots i None ≡ empty_slots (2 ^ b)
+      → slot_value slots i ≡ Some x
+      → (slice_set slots j None ≡ empty_slots (2 ^ k)) × IsSome (slot_value slots j)
+  made_for slots x i j b k same bucket others here = (
+    subst (λ (n : ℕ). slice_set slots n None ≡ empty_slots (2 ^ k)) same
+        (subst (λ (m : ℕ). slice_set slots i None ≡ empty_slots (2 ^ m)) bucket others),
+    subst (λ (n : ℕ). IsSome (slot_value slots n)) same (subst IsSome (sym here) refl),
+  )

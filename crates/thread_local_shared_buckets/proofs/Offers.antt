@@ -655,6 +655,7 @@ module _ {M : Type 1} {𝓤 : Ura M} (𝓛 : Logic 𝓤) (R : RattleType) (t : T
           fpack ! (StandingBlock × Share) (standing R d t new) (s, left full_share) $
           -- [beside the pointer; the part; what the claim gets; the pointer]
           move ! (1 ∷ 2 ∷ []) $ fjoin ! $ move ! (2 ∷ 1 ∷ []) $ fjoin ! $ fpack ! Ptr Held new $ done !
+
       -- another one was installed first
       found_other : (pb po : ℕ) → Finds (block_ptr pb po)
       found_other pb po =

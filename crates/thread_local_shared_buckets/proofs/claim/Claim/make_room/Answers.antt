@@ -1,6 +1,28 @@
--- The search for this takes half a second.
-use Rattle.std.proofs.Common.{◌∙◌, sym}
+-- The search for these takes a second.
+use Rattle.std.proofs.Common.{◌∙◌, ◌^◌, ◌/◌, ℕ, sym, ap, subst}
+use denote.Param.{param}
+use Rattle.thread_local_base.specs.Place.{bucket_of, index_of}
+use Rattle.thread_local_buckets.specs.Slots.{flag_word_at}
+use Rattle.thread_local_shared_buckets.specs.Known.{MayLook}
+use Rattle.thread_local_shared_buckets.specs.Views.{ClaimView}
 use Rattle.thread_local_shared_buckets.proofs.claim.Claim.make_room.Goals as goal
+
+pub find-requires-clause-missing : goal.find-requires-clause-missing
+find-requires-clause-missing g c =
+    subst MayLook (sym (ap (λ (view : ClaimView _). view.learnt) c.self.view_is ∙ c.requires.missing)) tt
+
+pub find-requires-clause-index : goal.find-requires-clause-index
+find-requires-clause-index g c =
+    c.requires.place.1 ∙ sym (c.self.invariant.1 ∙ ap (λ (view : ClaimView _). index_of view.id) c.self.view_is)
+
+pub find-requires-clause-flag_word : goal.find-requires-clause-flag_word
+find-requires-clause-flag_word g c =
+    let kept = c.self.invariant in
+    let is = ap (λ (view : ClaimView _). view.id) c.self.view_is in
+    let id = sym (kept.0 ∙ is) in
+    c.flag_word_of.ensures
+    ∙ ap (λ (b : ℕ). flag_word_at (param 0 g.row.T) (2 ^ b) (c.args.thread.index / 64)) (c.requires.place.0 ∙ ap bucket_of id)
+    ∙ ap (λ (i : ℕ). flag_word_at (param 0 g.row.T) (2 ^ bucket_of c.self.inside.slot.id) (i / 64)) (c.requires.place.1 ∙ ap index_of id)
 
 pub invariant_of-self : goal.invariant_of-self
 invariant_of-self g c =

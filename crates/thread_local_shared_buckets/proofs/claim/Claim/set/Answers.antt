@@ -1,5 +1,5 @@
 -- The search for these takes a second.
-use Rattle.std.proofs.Common.{◌∙◌, refl}
+use Rattle.std.proofs.Common.{◌∙◌}
 use Rattle.thread_local_shared_buckets.proofs.Fills.{looked_now, found_now}
 use Rattle.thread_local_shared_buckets.proofs.claim.Claim.set.Goals as goal
 
