@@ -27,7 +27,8 @@ use types.Kit.{check, done}
 use types.Run.{bin, size_word}
 use types.Part.{store_in}
 use types.SemTy.{Body as Owner}
-use Rattle.thread_local_base.proofs.Names.{opens, closes, peeks, Is, shows, cell_at, stay_ref, Goes-ref, load, look_in, assigns, feq_i, mut_vals, mut_Tells, named}
+use Rattle.thread_local_base.proofs.Names.{opens, closes, peeks, Is, shows, cell_at, stay_ref, Goes-ref, load}
+use Rattle.thread_local_base.proofs.Names.{look_in, assigns, feq_i, mut_vals, mut_Tells, named}
 use Rattle.thread_local_base.proofs.Names.{full_share, fjoin3, fobs, fauth, GName, mem, id⊢}
 use base.Fml.{fobor}
 use types.Kit.{Item}

@@ -1,4 +1,5 @@
-use Rattle.std.proofs.Common.{◌≡◌, ◌∙◌, ◌<◌, ◌≤◌, ◌^◌, ◌-◌, ℕ, Bool, true, false, List, All, Option, None, Some, IfSome, ⊎_elim, is_some, option_map, refl, ap, sym, subst, arith}
+use Rattle.std.proofs.Common.{◌≡◌, ◌∙◌, ◌<◌, ◌≤◌, ◌^◌, ◌-◌, ℕ, Bool, true, false, List, All, Option, None, Some, IfSome}
+use Rattle.std.proofs.Common.{⊎_elim, is_some, option_map, refl, ap, sym, subst, arith}
 use Rattle.std.specs.Prelude.{MatchBool, IsTrue}
 use Rattle.thread_local_base.specs.Bits.{IsLowestSet}
 use Rattle.std.proofs.lemmas.Bool.{ne_eqb}

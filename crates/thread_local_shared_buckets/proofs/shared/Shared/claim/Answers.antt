@@ -17,7 +17,8 @@ pub look-requires-clause-word : goal.look-requires-clause-word
 look-requires-clause-word g c =
     let parts = c.behind-self.inside in
     let here =
-    listed_bucket parts.pointers.pointers.pointers parts.pointers.announced parts.reserved c.new-thread.result.bucket c.index-pointers-thread.result c.args.self.now
+    listed_bucket parts.pointers.pointers.pointers parts.pointers.announced parts.reserved
+    c.new-thread.result.bucket c.index-pointers-thread.result c.args.self.now
     c.behind-self.told c.new-thread.result.in_table c.behind-self.invariant.0 (c.behind-self.view_is ∙ c.parts.ensures) in
     (ap (λ (d : BucketView). d.word) here, c.behind-self.invariant.1)
 
@@ -25,7 +26,8 @@ pub look-requires-clause-table : goal.look-requires-clause-table
 look-requires-clause-table g c =
     let parts = c.behind-self.inside in
     let here =
-    listed_bucket parts.pointers.pointers.pointers parts.pointers.announced parts.reserved c.new-thread.result.bucket c.index-pointers-thread.result c.args.self.now
+    listed_bucket parts.pointers.pointers.pointers parts.pointers.announced parts.reserved
+    c.new-thread.result.bucket c.index-pointers-thread.result c.args.self.now
     c.behind-self.told c.new-thread.result.in_table c.behind-self.invariant.0 (c.behind-self.view_is ∙ c.parts.ensures) in
     let table = sym (ap (λ (d : BucketView). d.table) here) in
     (c.requires.table.0 ∙ table, c.requires.table.1 ∙ table)
@@ -34,7 +36,8 @@ pub look-requires-clause-bucket : goal.look-requires-clause-bucket
 look-requires-clause-bucket g c =
     let parts = c.behind-self.inside in
     let here =
-    listed_bucket parts.pointers.pointers.pointers parts.pointers.announced parts.reserved c.new-thread.result.bucket c.index-pointers-thread.result c.args.self.now
+    listed_bucket parts.pointers.pointers.pointers parts.pointers.announced parts.reserved
+    c.new-thread.result.bucket c.index-pointers-thread.result c.args.self.now
     c.behind-self.told c.new-thread.result.in_table c.behind-self.invariant.0 (c.behind-self.view_is ∙ c.parts.ensures) in
     ap (λ (d : BucketView). d.bucket) here
 
@@ -42,7 +45,8 @@ pub returns-clause-same_slot : goal.returns-clause-same_slot
 returns-clause-same_slot g c =
     let parts = c.behind-self.inside in
     let here =
-    listed_bucket parts.pointers.pointers.pointers parts.pointers.announced parts.reserved c.new-thread.result.bucket c.index-pointers-thread.result c.args.self.now
+    listed_bucket parts.pointers.pointers.pointers parts.pointers.announced parts.reserved
+    c.new-thread.result.bucket c.index-pointers-thread.result c.args.self.now
     c.behind-self.told c.new-thread.result.in_table c.behind-self.invariant.0 (c.behind-self.view_is ∙ c.parts.ensures) in
     let slot = c.look.ensures.same_slot in
     (slot.0 ∙ c.requires.table.0, slot.1 ∙ ap (λ (d : BucketView). d.sharing) here, slot.2)
@@ -58,7 +62,8 @@ returns-clause-reserved g c =
     let parts = c.behind-self.inside in
     let reserved = c.args.self.now.reserved in
     let here =
-    listed_bucket parts.pointers.pointers.pointers parts.pointers.announced parts.reserved c.new-thread.result.bucket c.index-pointers-thread.result c.args.self.now
+    listed_bucket parts.pointers.pointers.pointers parts.pointers.announced parts.reserved
+    c.new-thread.result.bucket c.index-pointers-thread.result c.args.self.now
     c.behind-self.told c.new-thread.result.in_table c.behind-self.invariant.0 (c.behind-self.view_is ∙ c.parts.ensures) in
     λ below. c.look.ensures.reserved.1 (c.look.ensures.reserved.0 ∙ ap (λ (d : BucketView). d.reserved) here
     ∙ ap (λ (n : ℕ). nat_lt (id_at n 0) reserved) c.new-thread.ensures.bucket

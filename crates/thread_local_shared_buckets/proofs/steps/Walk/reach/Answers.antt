@@ -80,7 +80,8 @@ returns-then-bucket-eq-BUCKETS g c =
     let w = c.args.self.now in
     let at = c.loop-self.self in
     let kept = c.loop-self.invariant in
-    let on = moves_to at c.if-self-eq0.self c.if-self-eq0.bucket c.bucket_size-self.result (taken g (goal.at.returns-then-bucket-eq-BUCKETS g c).Joined-self-eq0) kept.walk c.loop-self-test.true kept.in_table
+    let on = moves_to at c.if-self-eq0.self c.if-self-eq0.bucket c.bucket_size-self.result
+    (taken g (goal.at.returns-then-bucket-eq-BUCKETS g c).Joined-self-eq0) kept.walk c.loop-self-test.true kept.in_table
     (kept.elsewhere c.loop-self-test.true) c.bucket_size-self.ensures (kept.behind c.loop-self-test.true) in
     let come = comes_then w c.look_in.new.self at (comes_by_look w c.look_in.new.self c.look_in.ensures) kept.comes in
     record { walk = on.walk; comes = comes_then w at _ come on.comes; by = omega (arith, c.if-bucket-eq-BUCKETS.true) }
@@ -89,7 +90,8 @@ pub look_in-requires-in-loop-self-clause-walk : goal.look_in-requires-in-loop-se
 look_in-requires-in-loop-self-clause-walk g c =
     let at = c.loop-self.self in
     let kept = c.loop-self.invariant in
-    let on = moves_to at c.if-self-eq0.self c.if-self-eq0.bucket c.bucket_size-self.result (taken g (goal.at.look_in-requires-in-loop-self-clause-walk g c).Joined-self-eq0) kept.walk c.loop-self-test.true kept.in_table
+    let on = moves_to at c.if-self-eq0.self c.if-self-eq0.bucket c.bucket_size-self.result
+    (taken g (goal.at.look_in-requires-in-loop-self-clause-walk g c).Joined-self-eq0) kept.walk c.loop-self-test.true kept.in_table
     (kept.elsewhere c.loop-self-test.true) c.bucket_size-self.ensures (kept.behind c.loop-self-test.true) in
     on.walk
 
@@ -97,7 +99,8 @@ pub loop-self-preserved : goal.loop-self-preserved
 loop-self-preserved g c =
     let at = c.loop-self.self in
     let kept = c.loop-self.invariant in
-    let on = moves_to at c.if-self-eq0.self c.if-self-eq0.bucket c.bucket_size-self.result (taken g (goal.at.loop-self-preserved g c).Joined-self-eq0) kept.walk c.loop-self-test.true kept.in_table
+    let on = moves_to at c.if-self-eq0.self c.if-self-eq0.bucket c.bucket_size-self.result
+    (taken g (goal.at.loop-self-preserved g c).Joined-self-eq0) kept.walk c.loop-self-test.true kept.in_table
     (kept.elsewhere c.loop-self-test.true) c.bucket_size-self.ensures (kept.behind c.loop-self-test.true) in
     let look = c.look_in-in-loop-self.ensures in
     let to = c.look_in-in-loop-self.new.self in
@@ -124,7 +127,8 @@ pub loop-self-smaller : goal.loop-self-smaller
 loop-self-smaller g c =
     let at = c.loop-self.self in
     let kept = c.loop-self.invariant in
-    let on = moves_to at c.if-self-eq0.self c.if-self-eq0.bucket c.bucket_size-self.result (taken g (goal.at.loop-self-smaller g c).Joined-self-eq0) kept.walk c.loop-self-test.true kept.in_table
+    let on = moves_to at c.if-self-eq0.self c.if-self-eq0.bucket c.bucket_size-self.result
+    (taken g (goal.at.loop-self-smaller g c).Joined-self-eq0) kept.walk c.loop-self-test.true kept.in_table
     (kept.elsewhere c.loop-self-test.true) c.bucket_size-self.ensures (kept.behind c.loop-self-test.true) in
     fewer at.raw.bucket c.if-self-eq0.bucket c.look_in-in-loop-self.new.self.raw.bucket on.further kept.in_table
     (ap (λ (r : RawIter). r.bucket) c.look_in-in-loop-self.ensures.raw)
