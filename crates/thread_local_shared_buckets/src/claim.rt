@@ -125,21 +125,24 @@ impl<'a, T> Claim<'a, T> {
         }
         let thread = Thread::new(self.held.id);
         if self.is_missing() {
-            return self.fill_missing(alloc, create);
+            return self.fill_missing(alloc, thread, create);
         }
         self.publish(thread, create());
         Ok(())
     }
 
-    /// `fill` where the bucket was missing. The place of the first id is known here, so the compiler
-    /// makes a short way of its own for it. It is never inlined, so that other calls are short.
+    /// `fill` where the bucket was missing: finds it or makes a block for it, then calls the closure
+    /// and publishes its value. The place of the first id is known here, so the compiler makes a
+    /// short way of its own for it. It is never inlined, so that other calls are short.
     #[inline(never)]
     fn fill_missing<F: FnOnce() -> T + Drop>(
         &mut self,
         alloc: Global,
+        thread: Thread,
         create: F,
     ) -> Result<(), AllocError>
         requires missing { self.old.learnt ≡ Missing }
+        requires place { IsPlaceOf thread.bucket thread.index self.old.id }
         requires callable { F.pre create }
         ensures same_slot { (self.new.table ≡ self.old.table)
             × (self.new.sharing ≡ self.old.sharing)
@@ -148,35 +151,18 @@ impl<'a, T> Claim<'a, T> {
         ensures err { OnErr result (self.new.learnt ≡ Missing) }
         ensures reserved { self.new.reserved ≡ self.old.reserved }
     {
-        if self.held.id == 0 {
-            return self.fill_at(alloc, Thread::new(0), create);
+        if self.held.id != 0 {
+            return self.fill_further(alloc, thread, create);
         }
-        self.fill_further(alloc, create)
+        let first = Thread::new(0);
+        let block = self.make_room(&alloc, first)?;
+        self.publish_in(&alloc, first, block, create());
+        Ok(())
     }
 
-    /// `fill_missing` for any id.
+    /// `fill_missing` for the ids behind the first.
     #[inline(never)]
     fn fill_further<F: FnOnce() -> T + Drop>(
-        &mut self,
-        alloc: Global,
-        create: F,
-    ) -> Result<(), AllocError>
-        requires missing { self.old.learnt ≡ Missing }
-        requires callable { F.pre create }
-        ensures same_slot { (self.new.table ≡ self.old.table)
-            × (self.new.sharing ≡ self.old.sharing)
-            × (self.new.id ≡ self.old.id) }
-        ensures ok { OnOk result (IsFilledBy (F.post create) self.old.learnt self.new.learnt) }
-        ensures err { OnErr result (self.new.learnt ≡ Missing) }
-        ensures reserved { self.new.reserved ≡ self.old.reserved }
-    {
-        self.fill_at(alloc, Thread::new(self.held.id), create)
-    }
-
-    /// Finds the missing bucket or makes a block for it, then calls the closure and publishes its
-    /// value.
-    #[inline(always)]
-    fn fill_at<F: FnOnce() -> T + Drop>(
         &mut self,
         alloc: Global,
         thread: Thread,
