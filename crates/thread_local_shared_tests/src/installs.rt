@@ -36,8 +36,7 @@ impl<'a, T: Drop> Kept<'a, T> {
 
     /// Makes a block, offers it with a value and gives the claim up. Answers whether it did.
     fn offer(self, alloc: &Global, value: T) -> bool {
-        let Ok(block) = Block::new(alloc, bucket_size(Thread::new(self.claim.id()).bucket))
-        else {
+        let Ok(block) = Block::new(alloc, bucket_size(Thread::new(self.claim.id()).bucket)) else {
             return false;
         };
         match self.offered(block, alloc, value) {
@@ -155,10 +154,7 @@ fn offer_two(
 ) -> Option<[[Option<u32>; 3]; 2]> {
     let size = bucket_size(Thread::new(one.claim.id()).bucket);
     let first = Block::new(alloc, size).ok()?;
-    let second = match Block::new(
-        alloc,
-        bucket_size(Thread::new(other.claim.id()).bucket),
-    ) {
+    let second = match Block::new(alloc, bucket_size(Thread::new(other.claim.id()).bucket)) {
         Ok(block) => block,
         Err(_) => {
             first.release(alloc, size);

@@ -96,12 +96,7 @@ fn number_seen<'a>(claim: Claim<'a, u32>) -> ((HeldId, Right), Option<(Token<u32
 }
 
 /// Installs a block for the bucket that was missing, which publishes the value.
-fn settled<T: Send>(
-    claim: &mut Claim<'_, T>,
-    block: Block<T, Global>,
-    alloc: &Global,
-    value: T,
-)
+fn settled<T: Send>(claim: &mut Claim<'_, T>, block: Block<T, Global>, alloc: &Global, value: T)
     requires missing { claim.old.learnt ≡ Missing }
     requires heap { (block.heap ≡ alloc.now) × (block.left ≡ 0) }
     requires slots { block.slots ≡ empty_slots (2 ^ bucket_of claim.old.id) }
@@ -111,11 +106,7 @@ fn settled<T: Send>(
     claim.publish_in(alloc, thread, Some(block), value);
 }
 
-fn settled_number(
-    claim: &mut Claim<'_, u32>,
-    block: Block<u32, Global>,
-    alloc: &Global,
-)
+fn settled_number(claim: &mut Claim<'_, u32>, block: Block<u32, Global>, alloc: &Global)
     requires missing { claim.old.learnt ≡ Missing }
     requires heap { (block.heap ≡ alloc.now) × (block.left ≡ 0) }
     requires slots { block.slots ≡ empty_slots (2 ^ bucket_of claim.old.id) }
@@ -126,11 +117,7 @@ fn settled_number(
 
 /// Publishes a value in an empty slot, with a block for its bucket where that is missing. Answers
 /// whether there was memory.
-fn filled<T: Send + Drop>(
-    claim: &mut Claim<'_, T>,
-    alloc: &Global,
-    value: T,
-) -> bool
+fn filled<T: Send + Drop>(claim: &mut Claim<'_, T>, alloc: &Global, value: T) -> bool
     requires empty { (claim.old.learnt ≡ Missing) ⊎ (claim.old.learnt ≡ Vacant) }
     ensures { MatchBool result (claim.new.learnt ≡ Holding value) (claim.new.learnt ≡ Missing) }
 {
