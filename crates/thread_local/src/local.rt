@@ -266,7 +266,7 @@ impl<'a, T, R: Wait> Local<'a, T, R> {
         ensures failed { IfErr result (λ error. IfCreate error (λ e. F.post create (Err e))) }
     {
         self.try_fill(create)?;
-        Ok(self.claim.value())
+        Ok(self.get().unwrap())
     }
 }
 

@@ -19,8 +19,8 @@ use std::alloc::Global;
 use std::default::MadeWith;
 use std::marker::Model;
 use std::sync::Wait;
-use thread_local_base::LocalError;
 use thread_local_base::walk::walk_lists_the_map;
+use thread_local_base::{LocalError, Thread};
 pub use thread_local_base::{Judge, judge_sync, judge_value};
 pub use thread_local_buckets::CapacityError;
 use thread_local_buckets::{Buckets, EntriesMut, IntoEntries, IntoIter, IterMut};
@@ -173,14 +173,7 @@ impl<T> ThreadLocal<T> {
         ensures in_range { IfOk result (λ local. local.id < 2 ^ 63 - 1) }
         ensures least { IfOk result (λ local. local.id ≡ least (held_after local.before)) }
     {
-        let mut page = self.page();
-        let (held, right, tenure) = self.ids.take(rt, &mut page, &self.room)?;
-        Ok(Local {
-            rt,
-            table: self,
-            claim: self.buckets.claim(held, right, tenure.reached()),
-            tenure,
-        })
+        self.local_after(rt, &mut self.page())
     }
 
     /// The page of the table's ids from before any was taken, for a first `local_after`. At run
@@ -417,7 +410,10 @@ impl<T: Sync> ThreadLocal<T> {
         requires named { IsSome self.now.sharing }
         ensures { result.now ≡ token.now.value }
     {
-        self.buckets.value(token)
+        let place = Thread::new(token.id());
+        self.buckets
+            .bucket(place.bucket)
+            .value(place.index, token.witness())
     }
 }
 
@@ -465,7 +461,7 @@ impl<'a, T> IntoIterator for &'a mut ThreadLocal<T> {
 
     /// The values by ascending id, each lent as `&mut`, as `iter_mut`.
     fn into_iter(self) -> IterMut<'a, T> {
-        self.buckets.owner().iter_mut()
+        self.iter_mut()
     }
 }
 

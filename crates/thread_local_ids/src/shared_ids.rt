@@ -68,7 +68,7 @@ impl SharedIds {
         Ok(SharedIds::of(ThreadIdManager::with_room(alloc, ids)?))
     }
 
-    /// The ids of a new table, which the manager gives out from the 58th on.
+    /// The ids of a new table, which the manager gives out from 58 on.
     fn of(manager: ThreadIdManager) -> (SharedIds, Right, Page, Room)
         requires { manager.held ≡ [] }
         ensures new { AreNew result }

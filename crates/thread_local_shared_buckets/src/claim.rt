@@ -1,12 +1,12 @@
 //! A claim of a slot, in three states: its bucket was missing, the slot is vacant, the slot holds a
 //! value. It begins in any of them, and goes on from one to the next.
-ghost use Rattle.std.specs.Prelude.{◌≡◌, ◌≢◌, ◌/◌, ◌-◌, ◌^◌, ◌<◌, ◌⊎◌, true, Some, None, Ok, Err, IsSome, is_some};
+ghost use Rattle.std.specs.Prelude.{◌≡◌, ◌≢◌, ◌/◌, ◌-◌, ◌^◌, ◌<◌, ◌⊎◌, true, Some, None, Ok, Err, IsSome};
 ghost use Rattle.std.specs.Prelude.{IfOk, OnOk, IfSome, IfErr, OnErr, MatchBool, MatchOption, MatchResult, slice_set};
 ghost use Rattle.thread_local_base.specs.Learnt.{Unknown, Missing, Vacant, Holding, Finds, learnt_by_publish};
 ghost use Rattle.thread_local_base.specs.Place.{IsPlaceOf};
 ghost use Rattle.thread_local_buckets.specs.Slots.{empty_slots, slot_value, flag_word_at};
 ghost use Rattle.thread_local_shared_buckets.specs.Announcing.{BeginsWithFirst};
-ghost use Rattle.thread_local_shared_buckets.specs.Known.{HasLooked, value_held};
+ghost use Rattle.thread_local_shared_buckets.specs.Known.{HasLooked};
 ghost use Rattle.thread_local_shared_buckets.specs.Room.{IsEmpty, HasRoom, IsFilledBy, StaysEmpty};
 
 use crate::claimed::{ClaimedSlot, HOLDING, MISSING};
@@ -408,14 +408,6 @@ impl<'a, T> Claim<'a, T> {
         } else {
             None
         }
-    }
-
-    /// The value of a slot that holds one, without a test, for as long as the claim is borrowed.
-    pub fn value(&self) -> &T
-        requires { is_some (value_held self.now.learnt) ≡ true }
-        ensures { self.now.learnt ≡ Holding result.now }
-    {
-        self.slot.value()
     }
 
     /// A token of what the slot was published with, where it holds a value. At run time it reads

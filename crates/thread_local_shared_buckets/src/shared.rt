@@ -16,7 +16,7 @@ use crate::{Claim, SharedBucket};
 use std::marker::{Move, Owns, PhantomData};
 use thread_local_base::{Thread, bucket_size};
 use thread_local_buckets::{BucketPointers, take_first};
-use thread_local_ids::{Book, HeldId, Reached, Right, Token, Told};
+use thread_local_ids::{Book, HeldId, Reached, Right, Told};
 
 mod lends;
 
@@ -186,20 +186,6 @@ impl<T> Shared<T> {
             }
         }
         (slots, reached)
-    }
-}
-
-impl<T: Sync> Shared<T> {
-    /// The value that a token's slot was published with, for as long as the buckets are borrowed.
-    /// It is one atomic load.
-    pub fn value<'a>(&'a self, token: &Token<T>) -> &'a T
-        requires sharing { token.now.sharing ≡ self.now.sharing }
-        requires named { IsSome self.now.sharing }
-        ensures { result.now ≡ token.now.value }
-    {
-        let place = Thread::new(token.id());
-        self.bucket(place.bucket)
-            .value(place.index, token.witness())
     }
 }
 

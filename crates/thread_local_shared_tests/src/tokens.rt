@@ -80,11 +80,14 @@ fn are_one(one: &Token<u32>, other: &Token<u32>)
 }
 
 /// What any thread reads, whatever was published meanwhile.
-fn read<'a>(shared: &'a Shared<String>, token: &Token<String>) -> &'a String
+fn read<'a, T: Sync>(shared: &'a Shared<T>, token: &Token<T>) -> &'a T
     requires { (shared.now.sharing ≡ token.now.sharing) × IsSome shared.now.sharing }
     ensures { result.now ≡ token.now.value }
 {
-    shared.value(token)
+    let place = Thread::new(token.id());
+    shared
+        .bucket(place.bucket)
+        .value(place.index, token.witness())
 }
 
 /// Another sharing has a name, which isn't that of the one before.
@@ -137,7 +140,7 @@ fn a_token_says_what_was_published(rt: HostRuntime) -> Result<(), Fail> {
     let (_, other) = told(&shared, (second, right), &tenure, rt.alloc(), 8);
     let other = other.expect(&rt, "a token");
     are_one(&token, &token.again());
-    let read = (*shared.value(&token.again()), *shared.value(&other));
+    let read = (*read(&shared, &token.again()), *read(&shared, &other));
     let ids = (token.id(), other.id());
     let found = found_by_two(owned(shared, &token, &other), &token, &other);
     assert_same(
@@ -160,7 +163,7 @@ fn a_vacant_slot_has_no_token(rt: HostRuntime) -> Result<(), Fail> {
     } else {
         settled(&mut claim, 5)
     };
-    let after = after.map(|token| *shared.value(&token));
+    let after = after.map(|token| *read(&shared, &token));
     claim.give_up();
     assert_same(&rt, (before, after), (true, Some(5)));
     Ok(())

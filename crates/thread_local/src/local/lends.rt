@@ -38,7 +38,7 @@ impl<'a, T, R: Wait> Local<'a, T, R> {
         ensures has_value { IsSome self.old.value → IsOk result }
     {
         self.fill(create)?;
-        Ok(self.claim.value())
+        Ok(self.get().unwrap())
     }
 
     /// The value. Where the slot is empty, `T::made_with` makes it and it is published as by
@@ -64,6 +64,6 @@ impl<'a, T, R: Wait> Local<'a, T, R> {
         let table = self.table;
         let alloc = table.alloc;
         self.fill(|| T::made_with(alloc))?;
-        Ok(self.claim.value())
+        Ok(self.get().unwrap())
     }
 }

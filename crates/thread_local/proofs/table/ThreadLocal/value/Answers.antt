@@ -2,9 +2,9 @@
 use Rattle.std.proofs.Common.{◌≡◌, ℕ, ap, sym, ◌∙◌}
 use Rattle.thread_local_base.specs.Place.{index_of, id_at}
 use Rattle.thread_local_base.proofs.PlaceLaws.{id_at-place}
-use Rattle.thread_local_shared_buckets.proofs.shared.Shared.value.Goals as goal
+use Rattle.thread_local.proofs.table.ThreadLocal.value.Goals as goal
 
--- src/shared.rt
+-- src/table.rt
 pub value-requires-clause-id : goal.value-requires-clause-id
 value-requires-clause-id g c κs within =
     let place = c.new-place in
