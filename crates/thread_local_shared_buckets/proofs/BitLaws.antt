@@ -1,9 +1,9 @@
 -- Tests, bits and chunks.
-use Rattle.thread_local_shared_buckets.proofs.Findings.{LiesOutside}
+use Rattle.thread_local_shared_buckets.proofs.Findings.{LiesOutside, MarksOwn, IsAlone}
 use Rattle.std.proofs.Common.{◌≡◌, ◌≢◌, ℕ, ◌+◌, ◌/◌, ◌%◌, ◌<◌, ◌≤◌, ◌⊎◌, Bool, true, false, cond, eqb}
 use Rattle.std.proofs.Common.{◌*◌, ◌^◌, bit_or, refl, ap, sym, ◌∙◌, subst, arith, ⊎_elim, inl, inr}
 use Rattle.std.proofs.Common.{Option, None, Some, IfSome}
-use Rattle.std.specs.Int.Bits.{or_zero_l}
+use Rattle.std.specs.Int.Bits.{or_zero_l, or_zero_r}
 use Rattle.std.proofs.lemmas.Bool.{cond_both, eqb-true, eqb-false, eq-eqb, ne_eqb, cases_lt, cases_eq}
 use Rattle.thread_local_base.specs.Bits.{is_set, IsLowestSet, IsWordBut}
 use Rattle.thread_local_base.proofs.Word.{is_set-zero, set_bit}
@@ -110,33 +110,39 @@ pub record Counts (own : Option ℕ) (chunk flags word : ℕ) : Type 0 where
   pub adds : IfSome own (λ index. index / 64 ≡ chunk → IsWordBut word flags (index % 64) true)
   pub other : LiesOutside own chunk → word ≡ flags
 
-pub counts_own : (own : Option ℕ) (index chunk flags word : ℕ) → own ≡ Some index → index / 64 ≡ chunk
-    → word ≡ bit_or flags (1 * 2 ^ (index % 64) % 2 ^ 64) → Counts own chunk flags word
-counts_own own index chunk flags word is here so =
-    subst (λ (o : Option ℕ). Counts o chunk flags word) (sym is) record {
-      adds = λ _.
-          subst (λ (n : ℕ). IsWordBut n flags (index % 64) true) (sym so)
-          (let small : index % 64 < 64 = omega arith in set_bit flags (index % 64) small);
-      other = λ apart. absurd (apart here);
-    }
+-- the own slot's chunk, and another one
+pub counts_here : (own : Option ℕ) (own_chunk own_flag chunk flags word : ℕ) → MarksOwn own own_chunk own_flag → chunk ≡ own_chunk
+    → word ≡ bit_or flags own_flag → Counts own chunk flags word
+counts_here None own_chunk own_flag chunk flags word marks here so =
+    record { adds = tt; other = λ _. so ∙ ap (bit_or flags) marks ∙ or_zero_r flags }
+counts_here (Some index) own_chunk own_flag chunk flags word marks here so = record {
+  adds = λ _.
+      subst (λ (n : ℕ). IsWordBut n flags (index % 64) true) (sym (so ∙ ap (bit_or flags) marks.1))
+      (let small : index % 64 < 64 = omega arith in set_bit flags (index % 64) small);
+  other = λ apart. absurd (apart (sym (here ∙ marks.0)));
+}
 
-pub counts_apart : (own : Option ℕ) (index chunk flags word : ℕ) → own ≡ Some index → index / 64 ≢ chunk → word ≡ flags
-    → Counts own chunk flags word
-counts_apart own index chunk flags word is apart so =
-    subst (λ (o : Option ℕ). Counts o chunk flags word) (sym is) record {
-      adds = λ here. absurd (apart here);
-      other = λ _. so;
-    }
-
-pub counts_none : (own : Option ℕ) (chunk flags word : ℕ) → own ≡ None → word ≡ flags → Counts own chunk flags word
-counts_none own chunk flags word is so =
-    subst (λ (o : Option ℕ). Counts o chunk flags word) (sym is) record {
-      adds = tt;
-      other = λ _. so;
-    }
+pub counts_there : (own : Option ℕ) (own_chunk own_flag chunk flags word : ℕ) → MarksOwn own own_chunk own_flag → chunk ≢ own_chunk
+    → word ≡ flags → Counts own chunk flags word
+counts_there None own_chunk own_flag chunk flags word marks apart so = record { adds = tt; other = λ _. so }
+counts_there (Some index) own_chunk own_flag chunk flags word marks apart so =
+    record { adds = λ here. absurd (apart (sym here ∙ sym marks.0)); other = λ _. so }
 
 -- the own slot's flag alone
 pub alone_set : (index : ℕ) → IsWordBut (1 * 2 ^ (index % 64) % 2 ^ 64) 0 (index % 64) true
 alone_set index =
     subst (λ (n : ℕ). IsWordBut n 0 (index % 64) true) (or_zero_l (1 * 2 ^ (index % 64) % 2 ^ 64))
     (let small : index % 64 < 64 = omega arith in set_bit 0 (index % 64) small)
+
+-- where no look finds a flag, it is the one at hand, if it lies in the bucket
+pub alone_own : (own : Option ℕ) (from chunk flag : ℕ) → MarksOwn own chunk flag → flag ≢ 0 → IsAlone own from (chunk + 1) flag
+alone_own None from chunk flag marks some = absurd (some marks)
+alone_own (Some index) from chunk flag marks some =
+    (ap (λ (n : ℕ). n + 1) marks.0, subst (λ (n : ℕ). IsWordBut n 0 (index % 64) true) (sym marks.1) (alone_set index))
+
+pub alone_none : (own : Option ℕ) (from chunk flag rest : ℕ) → MarksOwn own chunk flag → flag ≡ 0 → rest ≡ 0 → IsAlone own from from rest
+alone_none None from chunk flag rest marks none nothing = (refl, nothing)
+alone_none (Some index) from chunk flag rest marks none nothing =
+    let small : index % 64 < 64 = omega arith in
+    let but : IsWordBut flag 0 (index % 64) true = subst (λ (n : ℕ). IsWordBut n 0 (index % 64) true) (sym marks.1) (alone_set index) in
+    none_set flag (index % 64) none (added_set flag 0 (index % 64) but small)

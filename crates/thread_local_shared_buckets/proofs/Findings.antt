@@ -20,6 +20,10 @@ use Rattle.thread_local_shared_buckets.specs.Walks.{Yields}
 abbrev pub LiesOutside : Option ℕ → ℕ → Type 0
 LiesOutside own chunk = IfSome own (λ index. index / 64 ≢ chunk)
 
+-- the chunk and the flag of the own slot, if it has an index in the bucket, and else no flag
+abbrev pub MarksOwn : Option ℕ → ℕ → ℕ → Type 0
+MarksOwn own chunk flag = MatchOption own (flag ≡ 0) (λ index. (chunk ≡ index / 64) × (flag ≡ 1 * 2 ^ (index % 64) % 2 ^ 64))
+
 -- no look found a flag: the own slot's flag is at hand, or nothing is
 abbrev pub IsAlone : Option ℕ → ℕ → ℕ → ℕ → Type 0
 IsAlone own from chunks flags =

@@ -58,23 +58,30 @@ impl<'a, T> Walk<'a, T> {
         requires in_table { self.old.raw.bucket < 63 }
         ensures { LooksIn self.old self.new }
     {
-        if self.row.is_none() {
-            let pointers = &self.buckets.parts().pointers.pointers.pointers;
-            self.row = pointers[self.raw.bucket].load(self.told.list());
+        if let None = self.row {
+            let walk = &*self;
+            self.row = walk.buckets.bucket(walk.raw.bucket).load(walk.told.list());
         }
-        // The index of the own slot, if it lies in the bucket.
-        let own = match &self.own {
-            Some(own) if own.thread.bucket == self.raw.bucket => Some(own.thread.index),
-            _ => None,
-        };
-        if let Some(row) = &self.row {
-            let (size, from, told) = (self.raw.bucket_size, self.chunks, self.told.list());
-            for chunk in from..(size + 63) / 64 {
+        let walk = &*self;
+        // The chunk and the flag of the own slot, if it lies in the bucket.
+        let mut own_chunk = 0;
+        let mut own_flag = 0;
+        if let Some(own) = &walk.own {
+            if own.thread.bucket == walk.raw.bucket {
+                own_chunk = own.thread.index / 64;
+                own_flag = 1 << (own.thread.index % 64);
+            }
+        }
+        if let Some(row) = &walk.row {
+            let size = walk.raw.bucket_size;
+            let told = walk.told.list();
+            for chunk in walk.chunks..(size + 63) / 64 {
                 let seen = row.look(chunk, flag_word_at::<T>(size, chunk), told);
                 let set = seen.flags();
-                let flags = match &own {
-                    Some(index) if *index / 64 == chunk => set | 1 << (*index % 64),
-                    _ => set,
+                let flags = if chunk == own_chunk {
+                    set | own_flag
+                } else {
+                    set
                 };
                 if flags != 0 {
                     self.seen = Some(seen);
@@ -85,9 +92,9 @@ impl<'a, T> Walk<'a, T> {
             }
         }
         self.seen = None;
-        if let Some(index) = own {
-            self.chunks = index / 64 + 1;
-            self.rest = 1 << (index % 64);
+        if own_flag != 0 {
+            self.chunks = own_chunk + 1;
+            self.rest = own_flag;
         }
     }
 

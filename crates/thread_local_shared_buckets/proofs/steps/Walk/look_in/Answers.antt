@@ -3,26 +3,26 @@ use Rattle.thread_local_ids.specs.Views.{TokenView}
 use Rattle.thread_local_ids.specs.TokenLists.{NoneIn}
 use Rattle.thread_local_shared_buckets.specs.AtHand.{IsRowOf, IsWalk, LooksIn}
 use Rattle.thread_local_shared_buckets.specs.Shared.{BucketView}
-use Rattle.thread_local_shared_buckets.specs.Announcing.{Announcing}
-use Rattle.thread_local_shared_buckets.specs.TableView.{TableView, bucket_view}
+use Rattle.thread_local_shared_buckets.specs.TableView.{TableView, IsBucketOf}
 use Rattle.thread_local_shared_buckets.specs.declared.row.Row.{Row}
 use Rattle.thread_local_shared_buckets.specs.declared.seen.Seen.{Seen}
 use Rattle.thread_local_shared_buckets.specs.declared.steps.Own.{Own}
 use Rattle.thread_local_shared_buckets.specs.declared.steps.Walk.{Walk}
-use Rattle.thread_local_shared_buckets.proofs.Findings.{FindsTokens, HasLookedOn, IsAlone, LiesOutside, own_index}
-use Rattle.std.proofs.Common.{◌≡◌, ◌∙◌, ◌<◌, ◌≤◌, ◌*◌, ◌^◌, ◌+◌, ◌/◌, ◌%◌, ℕ, true, false, List, Option, None, Some, IfSome, is_some, not}
-use Rattle.std.proofs.Common.{subst, sym, ap, refl, arith, bit_or, get_or, lit<, w64, Fits, pow_mono}
+use Rattle.thread_local_shared_buckets.proofs.Findings.{FindsTokens, HasLookedOn, LiesOutside, MarksOwn, own_index}
+use Rattle.std.proofs.Common.{◌≡◌, ◌∙◌, ◌<◌, ◌≤◌, ◌*◌, ◌^◌, ◌+◌, ◌/◌, ◌%◌, ℕ, List, Option, None, Some, IfSome}
+use Rattle.std.proofs.Common.{subst, sym, ap, refl, arith, bit_or, w64, Fits, pow_mono}
 use denote.Param.{param}
 use Rattle.thread_local_buckets.specs.Slots.{flag_word_at}
-use Rattle.thread_local_shared_buckets.proofs.Lists.{listed_bucket}
-use Rattle.thread_local_shared_buckets.proofs.BitLaws.{none_in_chunk, none_further, keeps_set, Counts, counts_own, counts_apart, counts_none, alone_set}
+use Rattle.thread_local_shared_buckets.proofs.BitLaws.{none_in_chunk, none_further, keeps_set, Counts, counts_here, counts_there}
+use Rattle.thread_local_shared_buckets.proofs.BitLaws.{alone_own, alone_none}
 use Rattle.thread_local_shared_buckets.proofs.LookLaws.{looked_on, read_at}
 use Rattle.thread_local_shared_buckets.proofs.OwnLaws.{index_of_own, index_outside}
 use Rattle.thread_local_shared_buckets.proofs.ToldLaws.{NoneBefore, none_next, found_at, none_found, none_there}
 use Rattle.thread_local_shared_buckets.proofs.steps.Walk.look_in.Goals as goal
-use Rattle.thread_local_shared_buckets.proofs.steps.Walk.look_in.Goals.{Joined-self, Joined-self-2, Joined-own}
-use Rattle.thread_local_shared_buckets.proofs.steps.Walk.look_in.Goals.{then-is_none, else-is_none, in-Some, in_default-2, in_default}
-use Rattle.thread_local_shared_buckets.proofs.steps.Walk.look_in.Goals.{in-Some-own, in_default-own, in_default-own-2}
+use Rattle.thread_local_shared_buckets.proofs.steps.Walk.look_in.Goals.{Joined-walk, Joined-walk-2, Joined-chunk-own_chunk}
+use Rattle.thread_local_shared_buckets.proofs.steps.Walk.look_in.Goals.{in-None, in_default}
+use Rattle.thread_local_shared_buckets.proofs.steps.Walk.look_in.Goals.{in-Some+then-own-walk, in-Some+else-own-walk, in_default-own}
+use Rattle.thread_local_shared_buckets.proofs.steps.Walk.look_in.Goals.{then-chunk-own_chunk, else-chunk-own_chunk}
 use Rattle.thread_local_shared_buckets.proofs.steps.Walk.look_in.Goals.{in-Some-row+else-loop-chunk-test, in_default-row}
 
 module _ {V : Type 0} where
@@ -33,24 +33,32 @@ module _ {V : Type 0} where
     pub of : IfSome row (IsRowOf w.buckets.now.sharing w.raw.bucket)
     pub absent : row ≡ None → NoneIn w.buckets.now.sharing w.raw.bucket w.told
 
-  of_bucket : (s : TableView) (w : Announcing) (bucket : ℕ) (d : BucketView) (row : Option (Row V)) → d ≡ bucket_view s w bucket
-      → IfSome row (λ r. r.of ≡ d) → IfSome row (IsRowOf s.sharing bucket)
-  of_bucket s w bucket d None is of = tt
-  of_bucket s w bucket d (Some r) is of =
-      (ap (λ (b : BucketView). b.bucket) (of ∙ is), ap (λ (b : BucketView). b.sharing) (of ∙ is))
+  of_bucket : (s : TableView) (bucket : ℕ) (d : BucketView) (row : Option (Row V)) → IsBucketOf s bucket d → IfSome row (λ r. r.of ≡ d)
+      → IfSome row (IsRowOf s.sharing bucket)
+  of_bucket s bucket d None is of = tt
+  of_bucket s bucket d (Some r) is of =
+      (ap (λ (b : BucketView). b.bucket) of ∙ is.number, ap (λ (b : BucketView). b.sharing) of ∙ is.sharing)
 
-  looked : (w met : Walk V) → Loaded w met → (own : Option ℕ) (x : Option (Seen V) × ℕ × ℕ) → IsWalk w → w.rest ≡ 0
-      → w.raw.bucket < 63 → own ≡ own_index met.own met.raw.bucket
-      → HasLookedOn met.row own met.chunks x
+  none_of : (s : TableView) (bucket : ℕ) (d : BucketView) (xs ys : List (TokenView V)) → IsBucketOf s bucket d → xs ≡ ys
+      → NoneIn d.sharing d.bucket xs → NoneIn s.sharing bucket ys
+  none_of s bucket d xs ys is same none =
+      subst (λ (ts : List (TokenView V)). NoneIn s.sharing bucket ts) same
+      (subst (λ (o : Option ℕ). NoneIn o bucket xs) is.sharing (subst (λ (b : ℕ). NoneIn d.sharing b xs) is.number none))
+
+  -- the index of the own slot, if it lies in the walk's bucket
+  abbrev own_here : Walk V → Option ℕ
+  own_here w = own_index w.own w.raw.bucket
+
+  looked : (w met : Walk V) → Loaded w met → (x : Option (Seen V) × ℕ × ℕ) → IsWalk w → w.rest ≡ 0 → w.raw.bucket < 63
+      → HasLookedOn met.row (own_here w) met.chunks x
       → FindsTokens met.row met.chunks met.told x
       → LooksIn w (record met { seen = x.0; chunks = x.1; rest = x.2 })
-  looked w met loaded own x walk none low =
+  looked w met loaded x walk none low =
       subst (λ (t : Walk V).
-      own ≡ own_index t.own t.raw.bucket
-      → HasLookedOn t.row own t.chunks x
+      HasLookedOn t.row (own_here w) t.chunks x
       → FindsTokens t.row t.chunks t.told x
       → LooksIn w (record t { seen = x.0; chunks = x.1; rest = x.2 })) (sym loaded.is)
-      (λ at looks finds. looked_on w loaded.row own x walk none low loaded.of at looks finds loaded.absent)
+      (λ looks finds. looked_on w loaded.row (own_here w) x walk none low loaded.of refl looks finds loaded.absent)
 
   -- the row that is at hand is that of the walk's bucket
   row_of : (w met : Walk V) (r : Row V) → Loaded w met → met.row ≡ Some r → IsRowOf w.buckets.now.sharing w.raw.bucket r
@@ -64,10 +72,7 @@ module _ {V : Type 0} where
   sized w met r loaded size is =
       ap (λ (t : Walk V). t.raw.bucket_size) loaded.is ∙ size ∙ ap (λ (k : ℕ). 2 ^ k) (sym (row_of w met r loaded is).0)
 
--- a bucket's index, and its size with the 63 that round up to whole chunks, fit a word
-small_offset : (b : ℕ) → b < 63 → Fits w64 (b * 8)
-small_offset b low = omega arith
-
+-- a bucket's size with the 63 that round up to whole chunks fits a word
 rounds_up : (size b : ℕ) → b < 63 → size ≡ 2 ^ b → Fits w64 (size + 63)
 rounds_up size b low is = let few : 2 ^ b ≤ 2 ^ 62 = pow_mono {j = 62} (omega arith) in omega arith
 
@@ -88,88 +93,63 @@ none_between : {V : Type 0} (own : Option ℕ) (r : Row V) (from : ℕ) (tokens 
 none_between own r from tokens = (omega arith, (λ k low high. absurd (omega arith)), λ named k d near same i under at later. later)
 
 -- what the walk has at hand of the bucket's pointer
-loaded : (g : _) (c : Joined-self g) → Loaded c.args.self.now c.if-is_none.self
+loaded : (g : _) (c : Joined-walk g) → Loaded c.args.self.now c.match-self.self
 loaded g c =
     let w = c.args.self.now in
-    elim c.if-is_none.branch [
-      | then-is_none x ↦
-          let parts = x.behind-self.inside in
-          let here =
-          listed_bucket parts.pointers.pointers.pointers parts.pointers.announced parts.reserved w.raw.bucket x.index-pointers-self.result
-          w.buckets.now x.behind-self.told c.requires.in_table x.behind-self.invariant.0 (x.behind-self.view_is ∙ x.parts.ensures) in
+    elim c.match-self.branch [
+      | in-None x ↦
           (record {
             row = x.load-self.result;
             is = x.self-is;
-            of =
-                of_bucket w.buckets.now parts.pointers.announced w.raw.bucket
-                (get_or parts.pointers.pointers.pointers w.raw.bucket x.index-pointers-self.result) x.load-self.result here
-                x.load-self.ensures.of;
+            of = of_bucket w.buckets.now w.raw.bucket x.bucket.result.now x.load-self.result x.bucket.ensures x.load-self.ensures.of;
             absent = λ none.
-                subst (λ (ts : List (TokenView _)). NoneIn w.buckets.now.sharing w.raw.bucket ts) x.list.ensures
-                (subst (λ (b : BucketView). NoneIn b.sharing b.bucket x.list.result.now.tokens) here (x.load-self.ensures.told none));
+                none_of w.buckets.now w.raw.bucket x.bucket.result.now x.list.result.now.tokens w.told x.bucket.ensures x.list.ensures
+                (x.load-self.ensures.told none);
           })
-      | else-is_none x ↦
-          (record {
-            row = w.row;
-            is = x.self-is;
-            of = c.requires.walk.row;
-            absent = λ none.
-                let never : false ≡ true =
-                ap (λ (row : Option (Row _)). is_some row) (sym none) ∙ c.is_none.ensures ∙ ap not x.if-is_none.false in
-                absurd cc;
-          })
+      | in_default x ↦
+          (record { row = w.row; is = x.self-is; of = c.requires.walk.row; absent = λ none. absurd (x.in_default.not-None none) })
     ]
 
--- the index of the own slot, if it lies in the bucket
-indexed : (g : _) (c : Joined-self g)
-    → (c.match-self.self ≡ c.if-is_none.self) × (c.match-self.own ≡ own_index c.if-is_none.self.own c.if-is_none.self.raw.bucket)
-indexed g c =
-    let bucket = c.if-is_none.self.raw.bucket in
-    let at : Option (Own _) → Option ℕ = λ own. own_index own bucket in
-    elim c.match-self.branch [
-      | in-Some x ↦ (x.self-is, x.own-is ∙ sym (ap at x.in-Some.is ∙ index_of_own x.in-Some.own bucket x.if-own-self.true))
-      | in_default-2 x ↦ (x.self-is, x.own-is ∙ sym (ap at x.in-Some.is ∙ index_outside x.in-Some.own bucket x.if-own-self.false))
-      | in_default x ↦ (x.self-is, x.own-is ∙ sym (ap at x.in_default.is))
-    ]
-
--- the walk has the row at hand, and the own slot's index
-met : (g : _) (c : Joined-self g)
-    → Loaded c.args.self.now c.match-self.self × (c.match-self.own ≡ own_index c.match-self.self.own c.match-self.self.raw.bucket)
-met g c =
-    let at = indexed g c in (
-      subst (Loaded c.args.self.now) (sym at.0) (loaded g c),
-      at.1 ∙ ap (λ (m : Walk _). own_index m.own m.raw.bucket) (sym at.0),
-    )
+-- the chunk and the flag of the own slot, if it lies in the bucket
+marks : (g : _) (c : Joined-walk g) → MarksOwn (own_here c.args.self.now) c.match-walk.own_chunk c.match-walk.own_flag
+marks g c =
+    let w = c.match-self.self in
+    let chunk = c.match-walk.own_chunk in
+    let flag = c.match-walk.own_flag in
+    subst (λ (o : Option ℕ). MarksOwn o chunk flag) (ap own_here (loaded g c).is)
+    (elim c.match-walk.branch [
+      | in-Some+then-own-walk x ↦
+          subst (λ (o : Option ℕ). MarksOwn o chunk flag)
+          (sym (ap (λ (own : Option (Own _)). own_index own w.raw.bucket) x.in-Some.is ∙ index_of_own x.in-Some.own w.raw.bucket x.if-own-walk.true))
+          (x.own_chunk-is, x.own_flag-is)
+      | in-Some+else-own-walk x ↦
+          subst (λ (o : Option ℕ). MarksOwn o chunk flag)
+          (sym (ap (λ (own : Option (Own _)). own_index own w.raw.bucket) x.in-Some.is ∙ index_outside x.in-Some.own w.raw.bucket x.if-own-walk.false))
+          x.own_flag-is
+      | in_default-own x ↦
+          subst (λ (own : Option (Own _)). MarksOwn (own_index own w.raw.bucket) chunk flag) (sym x.in_default-own.is) x.own_flag-is
+    ])
 
 -- the row at hand is that of the walk's bucket, whose size the walk keeps
-at_row : (g : _) (c : Joined-self g) (r : Row _) → c.match-self.self.row ≡ Some r
+at_row : (g : _) (c : Joined-walk g) (r : Row _) → c.match-self.self.row ≡ Some r
     → (r.of.bucket < 63) × (c.match-self.self.raw.bucket_size ≡ 2 ^ r.of.bucket)
 at_row g c r is =
-    let at = (met g c).0 in (
+    let at = loaded g c in (
       subst (λ (b : ℕ). b < 63) (sym (row_of c.args.self.now c.match-self.self r at is).0) c.requires.in_table,
       sized c.args.self.now c.match-self.self r at c.requires.walk.walk.size is,
     )
 
-pub parts-requires : goal.parts-requires
-parts-requires g c = (lit< tt, lit< tt)
-
-pub offset_bounds-pointers-self : goal.offset_bounds-pointers-self
-offset_bounds-pointers-self g c = small_offset c.args.self.now.raw.bucket c.requires.in_table
-
-pub listed : goal.listed
-listed g c = subst (λ (n : ℕ). c.args.self.now.raw.bucket < n) (sym c.type_inv.pointers) c.requires.in_table
-
-pub bounds-pointers-self : goal.bounds-pointers-self
-bounds-pointers-self g c = c.requires.in_table
+pub overflow_shl-own_flag : goal.overflow_shl-own_flag
+overflow_shl-own_flag g c = in_word c.in-Some.own.thread.index
 
 pub overflow_add-chunk-end : goal.overflow_add-chunk-end
 overflow_add-chunk-end g c =
-    let row = at_row g (goal.at.overflow_add-chunk-end g c).Joined-self c.in-Some-row.row c.in-Some-row.is in
+    let row = at_row g (goal.at.overflow_add-chunk-end g c).Joined-walk c.in-Some-row.row c.in-Some-row.is in
     rounds_up c.match-self.self.raw.bucket_size c.in-Some-row.row.of.bucket row.0 row.1
 
 pub loop-chunk-init : goal.loop-chunk-init
 loop-chunk-init g c =
-    let none = none_between c.match-self.own c.in-Some-row.row c.match-self.self.chunks c.list-told.result.now.tokens in
+    let none = none_between (own_here c.args.self.now) c.in-Some-row.row c.match-self.self.chunks c.list-told.result.now.tokens in
     record { later = none.0; none_before = none.1; none_told = none.2 }
 
 pub look-seen-requires-clause-shareable : goal.look-seen-requires-clause-shareable
@@ -177,58 +157,53 @@ look-seen-requires-clause-shareable g c = c.requires.shareable
 
 pub look-seen-requires-clause-in_table : goal.look-seen-requires-clause-in_table
 look-seen-requires-clause-in_table g c =
-    (at_row g (goal.at.look-seen-requires-clause-in_table g c).Joined-self c.in-Some-row.row c.in-Some-row.is).0
+    (at_row g (goal.at.look-seen-requires-clause-in_table g c).Joined-walk c.in-Some-row.row c.in-Some-row.is).0
 
 pub look-seen-requires-clause-inside : goal.look-seen-requires-clause-inside
 look-seen-requires-clause-inside g c =
-    let row = at_row g (goal.at.look-seen-requires-clause-inside g c).Joined-self c.in-Some-row.row c.in-Some-row.is in
+    let row = at_row g (goal.at.look-seen-requires-clause-inside g c).Joined-walk c.in-Some-row.row c.in-Some-row.is in
     chunk_inside c.loop-chunk.chunk c.match-self.self.raw.bucket_size c.in-Some-row.row.of.bucket row.1 c.loop-chunk-test.true
 
 pub look-seen-requires-clause-flag_word : goal.look-seen-requires-clause-flag_word
 look-seen-requires-clause-flag_word g c =
-    let row = at_row g (goal.at.look-seen-requires-clause-flag_word g c).Joined-self c.in-Some-row.row c.in-Some-row.is in
+    let row = at_row g (goal.at.look-seen-requires-clause-flag_word g c).Joined-walk c.in-Some-row.row c.in-Some-row.is in
     subst (λ (n : ℕ). c.flag_word_at.result ≡ flag_word_at (param 0 g.row.T) n c.loop-chunk.chunk) row.1 c.flag_word_at.ensures
-
-pub overflow_shl-flags : goal.overflow_shl-flags
-overflow_shl-flags g c = in_word c.in-Some-own.index
 
 pub overflow_add-self : goal.overflow_add-self
 overflow_add-self g c =
-    let row = at_row g (goal.at.overflow_add-self g c).Joined-self c.in-Some-row.row c.in-Some-row.is in
+    let row = at_row g (goal.at.overflow_add-self g c).Joined-walk c.in-Some-row.row c.in-Some-row.is in
     next_fits c.loop-chunk.chunk c.match-self.self.raw.bucket_size c.in-Some-row.row.of.bucket row.0 row.1 c.loop-chunk-test.true
 
-pub overflow_shl-self : goal.overflow_shl-self
-overflow_shl-self g c = in_word c.in-Some-own-2.index
-
 -- the flags that the walk takes are those that the look saw, and that of the own slot if it lies in the chunk
-counted : (g : _) (c : Joined-own g) → Counts c.match-self.own c.loop-chunk.chunk c.look-seen.result.flags c.match-own.flags
-counted g c =
-    let own = c.match-self.own in
+counted : (g : _) (c : Joined-chunk-own_chunk g) → MarksOwn (own_here c.args.self.now) c.match-walk.own_chunk c.match-walk.own_flag
+    → Counts (own_here c.args.self.now) c.loop-chunk.chunk c.look-seen.result.flags c.if-chunk-own_chunk.flags
+counted g c marks =
+    let own = own_here c.args.self.now in
+    let at = c.match-walk in
     let chunk = c.loop-chunk.chunk in
     let set = c.look-seen.result.flags in
-    elim c.match-own.branch [
-      | in-Some-own w ↦
-          counts_own own w.in-Some-own.index chunk set c.match-own.flags w.in-Some-own.is w.if-index-chunk.true
-          (w.flags-is ∙ ap (λ (n : ℕ). bit_or n (1 * 2 ^ (w.in-Some-own.index % 64) % 2 ^ 64)) c.flags-set.ensures)
-      | in_default-own-2 w ↦
-          counts_apart own w.in-Some-own.index chunk set c.match-own.flags w.in-Some-own.is w.if-index-chunk.false
-          (w.flags-is ∙ c.flags-set.ensures)
-      | in_default-own w ↦
-          counts_none own chunk set c.match-own.flags w.in_default-own.is (w.flags-is ∙ c.flags-set.ensures)
+    let flags = c.if-chunk-own_chunk.flags in
+    elim c.if-chunk-own_chunk.branch [
+      | then-chunk-own_chunk w ↦
+          counts_here own at.own_chunk at.own_flag chunk set flags marks w.if-chunk-own_chunk.true
+          (w.flags-is ∙ ap (λ (n : ℕ). bit_or n at.own_flag) c.flags-set.ensures)
+      | else-chunk-own_chunk w ↦
+          counts_there own at.own_chunk at.own_flag chunk set flags marks w.if-chunk-own_chunk.false (w.flags-is ∙ c.flags-set.ensures)
     ]
 
 pub returns-then-flags-ne0 : goal.returns-then-flags-ne0
 returns-then-flags-ne0 g c =
-    let at = met g (goal.at.returns-then-flags-ne0 g c).Joined-self in
-    let taken = counted g (goal.at.returns-then-flags-ne0 g c).Joined-own in
+    let here = goal.at.returns-then-flags-ne0 g c in
+    let taken = counted g here.Joined-chunk-own_chunk (marks g here.Joined-walk) in
     let kept = c.loop-chunk.invariant in
     let look = c.look-seen.ensures in
     let w = c.match-self.self in
-    let own = c.match-self.own in
+    let own = own_here c.args.self.now in
     let chunk = c.loop-chunk.chunk in
     let set = c.look-seen.result.flags in
-    let flags = c.match-own.flags in
-    looked c.args.self.now w at.0 own (Some c.look-seen.result, chunk + 1, flags) c.requires.walk c.requires.passed c.requires.in_table at.1
+    let flags = c.if-chunk-own_chunk.flags in
+    looked c.args.self.now w (loaded g here.Joined-walk) (Some c.look-seen.result, chunk + 1, flags) c.requires.walk c.requires.passed
+    c.requires.in_table
     (read_at w.row c.in-Some-row.row own w.chunks chunk set flags c.look-seen.result c.in-Some-row.is look.of.0 look.of.2 refl
     kept.later look.inside kept.none_before taken.adds taken.other c.if-flags-ne0.true)
     (subst (λ (ts : List (TokenView _)). FindsTokens w.row w.chunks ts (Some c.look-seen.result, chunk + 1, flags)) c.list-told.ensures
@@ -237,13 +212,14 @@ returns-then-flags-ne0 g c =
 
 pub loop-chunk-preserved : goal.loop-chunk-preserved
 loop-chunk-preserved g c =
-    let taken = counted g (goal.at.loop-chunk-preserved g c).Joined-own in
+    let here = goal.at.loop-chunk-preserved g c in
+    let taken = counted g here.Joined-chunk-own_chunk (marks g here.Joined-walk) in
     let kept = c.loop-chunk.invariant in
-    let own = c.match-self.own in
+    let own = own_here c.args.self.now in
     let from = c.match-self.self.chunks in
     let chunk = c.loop-chunk.chunk in
     let set = c.look-seen.result.flags in
-    let flags = c.match-own.flags in
+    let flags = c.if-chunk-own_chunk.flags in
     record {
       later = omega (arith, kept.later);
       none_before =
@@ -254,46 +230,37 @@ loop-chunk-preserved g c =
     }
 
 -- no look found a flag
-none_at_hand : (g : _) (c : Joined-self-2 g) → Loaded c.args.self.now c.match-self.self
-    → (c.match-self-2.self ≡ c.match-self.self)
-    × ((chunks flags : ℕ) → FindsTokens c.match-self.self.row c.match-self.self.chunks c.match-self.self.told (None, chunks, flags))
-none_at_hand g c loaded =
+none_at_hand : (g : _) (c : Joined-walk-2 g) → Loaded c.args.self.now c.match-self.self → (chunks flags : ℕ)
+    → FindsTokens c.match-self.self.row c.match-self.self.chunks c.match-self.self.told (None, chunks, flags)
+none_at_hand g c loaded chunks flags =
     let w = c.match-self.self in
-    elim c.match-self-2.branch [
-      | in-Some-row+else-loop-chunk-test x ↦ (
-        x.self-is,
-        λ chunks flags.
-            subst (λ (ts : List (TokenView _)). FindsTokens w.row w.chunks ts (None, chunks, flags)) x.list-told.ensures
-            (none_found w.row x.in-Some-row.row w.chunks x.loop-chunk.chunk w.raw.bucket_size chunks flags x.list-told.result.now.tokens
-            x.in-Some-row.is x.loop-chunk.invariant.none_told
-            (sized c.args.self.now w x.in-Some-row.row loaded c.requires.walk.walk.size x.in-Some-row.is)
-            (omega (arith, x.loop-chunk-test.false))),
-      )
-      | in_default-row x ↦ (x.self-is, λ chunks flags. none_there w.row w.chunks w.told (None, chunks, flags) x.in_default-row.is)
+    elim c.match-walk-2.branch [
+      | in-Some-row+else-loop-chunk-test x ↦
+          subst (λ (ts : List (TokenView _)). FindsTokens w.row w.chunks ts (None, chunks, flags)) x.list-told.ensures
+          (none_found w.row x.in-Some-row.row w.chunks x.loop-chunk.chunk w.raw.bucket_size chunks flags x.list-told.result.now.tokens
+          x.in-Some-row.is x.loop-chunk.invariant.none_told
+          (sized c.args.self.now w x.in-Some-row.row loaded c.requires.walk.walk.size x.in-Some-row.is)
+          (omega (arith, x.loop-chunk-test.false)))
+      | in_default-row x ↦ none_there w.row w.chunks w.told (None, chunks, flags) x.in_default-row.is
     ]
 
-pub returns-in-Some-own-2 : goal.returns-in-Some-own-2
-returns-in-Some-own-2 g c =
-    let at = met g (goal.at.returns-in-Some-own-2 g c).Joined-self in
-    let none = none_at_hand g (goal.at.returns-in-Some-own-2 g c).Joined-self-2 at.0 in
+pub returns-then-own_flag-ne0 : goal.returns-then-own_flag-ne0
+returns-then-own_flag-ne0 g c =
+    let here = goal.at.returns-then-own_flag-ne0 g c in
+    let at = loaded g here.Joined-walk in
     let w = c.match-self.self in
-    let own = c.match-self.own in
-    let index = c.in-Some-own-2.index in
-    let chunks = index / 64 + 1 in
-    let flags = 1 * 2 ^ (index % 64) % 2 ^ 64 in
-    subst (λ (t : Walk _). LooksIn c.args.self.now (record t { seen = None; chunks = chunks; rest = flags })) (sym none.0)
-    (looked c.args.self.now w at.0 own (None, chunks, flags) c.requires.walk c.requires.passed c.requires.in_table at.1
-    (subst (λ (o : Option ℕ). IsAlone o w.chunks chunks flags) (sym c.in-Some-own-2.is) (refl, alone_set index))
-    (none.1 chunks flags))
+    let own = c.match-walk in
+    looked c.args.self.now w at (None, own.own_chunk + 1, own.own_flag) c.requires.walk c.requires.passed c.requires.in_table
+    (alone_own (own_here c.args.self.now) w.chunks own.own_chunk own.own_flag (marks g here.Joined-walk) c.if-own_flag-ne0.true)
+    (none_at_hand g here.Joined-walk-2 at (own.own_chunk + 1) own.own_flag)
 
-pub returns-in_default-own-2 : goal.returns-in_default-own-2
-returns-in_default-own-2 g c =
-    let at = met g (goal.at.returns-in_default-own-2 g c).Joined-self in
-    let none = none_at_hand g (goal.at.returns-in_default-own-2 g c).Joined-self-2 at.0 in
+pub returns-else-own_flag-ne0 : goal.returns-else-own_flag-ne0
+returns-else-own_flag-ne0 g c =
+    let here = goal.at.returns-else-own_flag-ne0 g c in
+    let at = loaded g here.Joined-walk in
     let w = c.match-self.self in
-    let own = c.match-self.own in
-    let nothing : w.rest ≡ 0 = ap (λ (t : Walk _). t.rest) at.0.is ∙ c.requires.passed in
-    subst (λ (t : Walk _). LooksIn c.args.self.now (record t { seen = None })) (sym none.0)
-    (looked c.args.self.now w at.0 own (None, w.chunks, w.rest) c.requires.walk c.requires.passed c.requires.in_table at.1
-    (subst (λ (o : Option ℕ). IsAlone o w.chunks w.chunks w.rest) (sym c.in_default-own-2.is) (refl, nothing))
-    (none.1 w.chunks w.rest))
+    let own = c.match-walk in
+    let nothing : w.rest ≡ 0 = ap (λ (t : Walk _). t.rest) at.is ∙ c.requires.passed in
+    looked c.args.self.now w at (None, w.chunks, w.rest) c.requires.walk c.requires.passed c.requires.in_table
+    (alone_none (own_here c.args.self.now) w.chunks own.own_chunk own.own_flag w.rest (marks g here.Joined-walk) c.if-own_flag-ne0.false nothing)
+    (none_at_hand g here.Joined-walk-2 at w.chunks w.rest)
