@@ -1,4 +1,4 @@
-use Rattle.std.proofs.Common.{◌≤◌, ◌<◌, ◌^◌, ◌+◌, arith, ◌-◌, ◌*◌, ℕ, Bool, sym, ap, ◌∙◌, subst, bit_and}
+use Rattle.std.proofs.Common.{◌≤◌, ◌<◌, ◌^◌, ◌+◌, arith, lit<, ◌-◌, ◌*◌, ℕ, Bool, sym, ap, ◌∙◌, subst, bit_and}
 use Rattle.std.specs.Prelude.{max, nat_lt}
 use Rattle.std.specs.Int.{w64, bit_not}
 use Rattle.std.proofs.Math.Nat.{le-max_left}
@@ -72,3 +72,19 @@ returns-clause-table g c = c.buckets.invariant.table
 
 pub returns-clause-grown : goal.returns-clause-grown
 returns-clause-grown g c = c.buckets.invariant.grown
+
+pub load_announced-announced-requires : goal.load_announced-announced-requires
+load_announced-announced-requires g c =
+    let parts = c.behind-self in
+    (lit< tt, (record { reserved = parts.inside.reserved; are = parts.invariant.0 }, parts.invariant.1))
+
+pub take_first-bucket-requires : goal.take_first-bucket-requires
+take_first-bucket-requires g c = omega (arith, c.buckets-test.true)
+
+pub bucket-requires-in-buckets : goal.bucket-requires-in-buckets
+bucket-requires-in-buckets g c =
+    let lowest = c.take_first-bucket.ensures.first in
+    (lit< tt, (c.buckets.invariant.counted.ahead.inside c.take_first-bucket.result lowest.within lowest.set).1)
+
+pub bucket_size-slots-requires : goal.bucket_size-slots-requires
+bucket_size-slots-requires g c = c.take_first-bucket.ensures.first.within
