@@ -8,7 +8,7 @@ use Rattle.thread_local_base.proofs.Names.{later, mean, at_ret, any_q, ◌$◌, 
 use Rattle.thread_local_base.proofs.Names.{join, fsplit, fsplit3, fjoin, fpick, pick, learn, rewrite, use0, use1}
 use types.Kit.{split3}
 use Rattle.thread_local_base.proofs.Names.{use3, await, group, stop, fld, addr, lit, of_opd, no_more, and_then}
-use Rattle.thread_local_base.proofs.Names.{first, blocks, exec, switches_on, returns, enter, alloc_all, pass_all}
+use Rattle.thread_local_base.proofs.Names.{first, blocks, exec, switches_on, returns, enter, alloc_all, pass_all, mean, show, updating, now}
 use Rattle.thread_local_base.proofs.Names.{free_all, look_at, get, get_in, get_tag, through, sets, sets_last}
 use Rattle.thread_local_base.proofs.Names.{lands_last, env, is, agg, sub, whole, live, vrt, in_variant, tables, fact}
 use Rattle.thread_local_base.proofs.Names.{fact_i, no, RattleType, owns, types_at, plain, Ptr, block_ptr, null_ptr}
@@ -23,7 +23,8 @@ use seplogic.Ra.Ura.{Ura}
 use mir.Syntax.{Ty}
 use base.Logic.{ent, guard}
 use types.Logic.{Logic}
-use types.Kit.{check, done}
+use types.Kit.{check, done, runs, Goal}
+use types.Kit.{Post as Post'}
 use types.Run.{bin, size_word}
 use types.Part.{store_in}
 use types.SemTy.{Body as Owner}
@@ -50,6 +51,11 @@ use prog.Model.{Model}
 use prog.Wp.{Env}
 use mir.Syntax.{Fn, Local}
 use denote.Triple.Clauses.{Ended, Clauses}
+use denote.Triple.Entry.{Args, on_entry}
+use contract.Lifetimes.{Lfts, Shares, AllOutlive}
+use base.Logic.{sep, wand}
+use prog.Wp.{WpFn}
+use prog.Wired.{Wired}
 use denote.Ref.{NamedLft}
 use denote.Struct.Tuple.{Tuple}
 use Rattle.std.proofs.ResultValues.{and_tt}
@@ -79,7 +85,8 @@ use Rattle.thread_local_ids.proofs.Markers.{told as token_told}
 use Rattle.thread_local_shared_buckets.specs.Announcing.{Announcing, announced}
 use Rattle.thread_local_shared_buckets.specs.contracts.announcements.Announced as Announced
 use Rattle.thread_local_shared_buckets.proofs.GrownLaws.{shown_reached}
-use Rattle.thread_local_shared_buckets.specs.Shared.{name_at, BucketView, Turn, len, bucket_invariant, shown_by}
+use Rattle.thread_local_shared_buckets.specs.Shared.{name_at, BucketView, Turn, len, bucket_invariant, shown_by, grown}
+use Rattle.thread_local_shared_buckets.specs.Shared.{first as first_id}
 use Rattle.thread_local_shared_buckets.specs.Known.{found_as}
 use Rattle.thread_local_shared_buckets.proofs.Loads.{glimpse}
 use Rattle.thread_local_shared_buckets.proofs.Offers as offers
@@ -110,6 +117,10 @@ fits_so 𝓛 R token p cs n long =
     check ! (subst (Fits R) long so.1) $
     nothing ! $ fpack ! (InBlock p × Fits R (length cs)) (λ _. ftrue) so $ fjoin ! $ done !)
 
+-- goes on with a name for a value, so that no formula repeats the value
+abbrev called : (A : Type 0) {B : Type 1} → A → (A → B) → B
+called A a goes = goes a
+
 -- the value of an option that has one
 some_in : {X : Type 0} (v : Option X) → IsSome v → (x : X) × (v ≡ Some x)
 some_in None has = cc
@@ -132,11 +143,17 @@ module _ {M : Type 1} {𝓤 : Ura M} (𝓛 : Logic 𝓤) (𝓜 : Model 𝓤 𝓛
   abbrev R : RattleType
   R = param 0 X
 
+  abbrev Z : RattleType
+  Z = heap.the_row
+
   abbrev Bl : RattleType
-  Bl = block.the_row R heap.the_row ghosts
+  Bl = block.the_row R Z ghosts
 
   abbrev Back : RattleType
   Back = Opt.the_row Bl
+
+  abbrev Triple : RattleType
+  Triple = Tuple (RawPtr ∷ u64 ∷ Back ∷ [])
 
   abbrev En : Ended
   En = ended X
@@ -154,413 +171,490 @@ module _ {M : Type 1} {𝓤 : Ura M} (𝓛 : Logic 𝓤) (𝓜 : Model 𝓤 𝓛
   abbrev fn : Fn
   fn = inst_fn (bounded (a_type ∷ []) (X, tt) dnil) code.function
 
-  module _ (y : (walk_of 𝓛 En stayed c).Ghost) (l : ℕ → ℕ) where
+  module _ (κs : Lfts 4) (qs : Shares 4) (bounds : AllOutlive 4 En.signature.outlives κs) (a : Args En.signature κs) (gh : (c κs a).ghost) where
+    abbrev h : (claim.the_row (named_lft 4 1 tt κs) R).Denot
+    h = a.0.now
+
+    abbrev rb : ℕ
+    rb = a.0.ref_ptr.0
+
+    abbrev ro : ℕ
+    ro = a.0.ref_ptr.1
+
     abbrev β : Lft
-    β = y.0.0.1.0
+    β = κs.1.0
 
     abbrev q : Share
-    q = y.0.1.1.0
+    q = qs.1.0
+
+    abbrev υ : Lft
+    υ = κs.1.1.1.0
+
+    abbrev r : Share
+    r = qs.1.1.1.0
 
     abbrev others : Fml
-    others = fsep (flft y.0.0.1.1.0 y.0.1.1.1.0) (fsep (flft y.0.0.1.1.1.0 y.0.1.1.1.1.0) ftrue)
+    others = fsep (flft κs.1.1.0 qs.1.1.0) (fsep (flft υ r) ftrue)
 
     abbrev ℓ : NamedLft
-    ℓ = named_lft 4 1 tt y.0.0
+    ℓ = named_lft 4 1 tt κs
 
     abbrev G : RattleType
     G = claim.the_row ℓ R
 
-    abbrev h : G.Denot
-    h = y.0.3.0.now
-
-    abbrev rb : ℕ
-    rb = y.0.3.0.ref_ptr.0
-
-    abbrev ro : ℕ
-    ro = y.0.3.0.ref_ptr.1
-
-    -- the claim's cell, and its open borrow
-    abbrev opened : Kept → List (Item 𝓤)
-    opened kept =
-        let γ : GName = y.0.3.0.ghost_name in
-        ‵ (cell_at full_share G.mir (value_of kept ∷ []) rb ro) ∷ ‵ (fobor y.0.0.0 y.0.1.0 (Owner (mem G) rb ro γ))
-        ∷ ‵ (fobs γ (G.coded.code h)) ∷ ‵ (fauth γ (G.coded.code h)) ∷ []
+    abbrev D : RattleType
+    D = FieldsType ℓ R
 
     abbrev ix : ℕ
-    ix = y.0.3.1.0
+    ix = a.1.0
 
     abbrev x : Bl.Denot
-    x = y.0.3.1.1.0
+    x = a.1.1.0
+
+    abbrev p : Ptr
+    p = x.at
+
+    abbrev nb : ℕ
+    nb = block_of p
+
+    abbrev no' : ℕ
+    no' = count_of p
+
+    abbrev new : Ptr
+    new = block_ptr nb no'
+
+    abbrev bv : Val
+    bv = fields.block_val p
+
+    abbrev had : Reached.the_row.Denot
+    had = a.1.1.1.0.now
+
+    abbrev seen : Val
+    seen = vptr a.1.1.1.0.ref_ptr.0 a.1.1.1.0.ref_ptr.1
+
+    abbrev Had : Type 0
+    Had = (had.table ≡ h.table) × (h.id < had.ids)
+
+    abbrev says : Announced.the_row.Denot
+    says = a.1.1.1.1.0
+
+    abbrev Says : Type 0
+    Says = (says.by ≡ h.word) × (says.bucket ≡ bucket_of h.id)
+
+    abbrev Made : Type 0
+    Made = (x.left ≡ 0) × (slice_set x.slots h.index None ≡ empty_slots (2 ^ bucket_of h.id)) × IsSome (slot_value x.slots h.index)
 
     abbrev w : Ptr
-    w = block_ptr (block_of h.bucket) (count_of h.bucket)
+    w = h.bucket
 
-    abbrev Owned : Learnt X.Denot → ℕ → ℕ → ℕ → Fml
-    Owned knows state pb o =
-        claim_owns R β h.table
-        (claim_fields h.id h.index w (value_at R (block_ptr pb o) h.index) h.sharing h.word h.reserved)
-        knows state
+    abbrev wb : ℕ
+    wb = block_of w
 
-    abbrev Ev : Env 𝓤 H
-    Ev = env fn.locals l
+    abbrev wo : ℕ
+    wo = count_of w
+
+    abbrev i : ℕ
+    i = h.index
+
+    abbrev y : (walk_of 𝓛 En stayed c).Ghost
+    y = ((κs, qs, bounds, a, (vptr rb ro ∷ [], (vint w64 ix ∷ [], (bv ∷ [], (seen ∷ [], (token ∷ [], tt)))))), gh)
 
     abbrev Post : Val → SProp 𝓤
     Post = (walk_of 𝓛 En stayed c).post y
 
+    -- the claim's cell, and its open borrow
+    abbrev opened : Kept → List (Item 𝓤)
+    opened kept =
+        let γ : GName = a.0.ghost_name in
+        ‵ (cell_at full_share G.mir (value_of kept ∷ []) rb ro) ∷ ‵ (fobor κs.0 qs.0 (Owner (mem G) rb ro γ))
+        ∷ ‵ (fobs γ (G.coded.code h)) ∷ ‵ (fauth γ (G.coded.code h)) ∷ []
+
+    abbrev Owned : Learnt X.Denot → ℕ → ℕ → ℕ → Fml
+    Owned knows state pb o =
+        claim_owns R β h.table
+        (claim_fields h.id h.index (block_ptr wb wo) (value_at R (block_ptr pb o) h.index) h.sharing h.word h.reserved)
+        knows state
+
     abbrev answer : ℕ → ℕ → ℕ → Val → Val
     answer pb o k back = vstruct (vcons (vptr pb o) (vcons (vint w64 k) (vcons back vnil)))
 
-    ends : (pb o k : ℕ) → k < 2 ^ 64 → (back : Val) → Good (layout Back) back → (opt : Back.Denot) (knows : Learnt X.Denot)
-        → y.0.4.0 ≡ vptr rb ro ∷ [] → ix ≡ h.index → h.index * stride R < 2 ^ 64
-        → IfSome opt (λ was. (was.heap ≡ x.heap) × (was.slots ≡ x.slots) × (was.left ≡ 0))
-        → MatchOption opt (knows ≡ found_as (slot_value x.slots h.index)) (λ _. knows ≡ Vacant)
-        → Seq (Go {0}) 𝓛 (‵ (flft β q) ∷ ‵ (Owned knows k pb o) ∷ ‵ (Back.own_val opt (back ∷ [])) ∷ ‵ others
-        ∷ (opened (kept_of h) ++ holding 𝓛 Ev ((21, answer pb o k back) ∷ (1, vptr rb ro) ∷ (2, vint w64 ix) ∷ [])))
-        (prop (Wp 𝓤 H 𝓣.C 𝓣.Λ Ev (after 6 fn.body) (at_return 𝓤 H Ev Post)))
-    ends pb o k low back held opt knows refers is_index close same_back learns =
-        let i : ℕ = h.index in
-        let Triple : RattleType = Tuple (RawPtr ∷ u64 ∷ Back ∷ []) in
-        let F₁ : G.Denot → Type 0 = λ r.
-        (r.table ≡ h.table) × (◌≡◌ {A = Option ℕ} r.sharing h.sharing) × (r.word ≡ h.word) × (r.id ≡ h.id)
-        × (r.index ≡ h.index) in
-        let F₂ : G.Denot → Type 0 = λ r. r.reserved ≡ h.reserved in
-        let F₄ : G.Denot → Type 0 = λ r.
-        MatchOption opt (r.learnt ≡ found_as (slot_value x.slots h.index)) (λ _. r.learnt ≡ Vacant) in
-        let F₃ : Type 0 = IfSome opt (λ was. (was.heap ≡ x.heap) × (was.slots ≡ x.slots) × (was.left ≡ 0)) in
-        let close_at : ix * stride R < 2 ^ 64 = subst (λ (n : ℕ). n * stride R < 2 ^ 64) (sym is_index) close in
-        let answer_good : Good (layout Triple) (answer pb o k back) = (and_tt _ held.0, (tt, (record { fits = low }, (held.1, tt)))) in
-        exec ! 𝓣.C 𝓣.Λ Ev (after 6 fn.body) (at_ret Ev Post) $
-        sets ! (of_opd ! (get ! refl)) refl answer_good $
-        sets ! (of_opd ! (get_in ! (fld ! refl (stop !)) (sub ! 0 refl (whole !)))) refl (tt, tt) $
-        sets ! (of_opd ! (get_in ! (fld ! refl (stop !)) (sub ! 1 refl (whole !)))) refl (tt, record { fits = low }) $
-        sets ! (of_opd ! (get_in ! (fld ! refl (stop !)) (sub ! 2 refl (whole !)))) refl held $
-        first ! $ blocks ! $ sets ! (of_opd ! (get ! refl)) refl (tt, tt) $
-        sets !
-        (is ! (bin ! (get ! refl) (size_word !) (record { fits = spaced ix (stride R) close_at }))
-        (spaced_is ix (stride R) close_at ∙ ap (λ (n : ℕ). vint w64 (n * stride R)) is_index))
-        refl (tt, record { fits = close }) $
-        sets_last ! (bin ! (get ! refl) (get ! refl) tt) refl (tt, tt) $
-        exec ! 𝓣.C 𝓣.Λ Ev (after 11 fn.body) (at_ret Ev Post) $
-        sets ! (of_opd ! (get ! refl)) refl (tt, tt) $ sets ! (of_opd ! (get ! refl)) refl (tt, tt) $
-        let m : Kept = record { at = value_at R (block_ptr pb o) i; state = k } in
-        assigns ! (of_opd ! (get ! refl)) (through ! refl (fld ! refl (stop !)))
-        (store_in ! 4 (sub ! 0 refl (whole !)) (tt, tt)) $
-        assigns ! (of_opd ! (get ! refl)) (through ! refl (fld ! refl (stop !)))
-        (store_in ! 4 (sub ! 1 refl (whole !)) (tt, record { fits = low })) $
-        sets ! (of_opd ! (get ! refl)) refl held $
-        -- [the token; the claim; what comes back; the other tokens; the claim's cell; the open borrow]
+    module _ (l : ℕ → ℕ) where
+      abbrev Ev : Env 𝓤 H
+      Ev = env fn.locals l
+
+      ends : (pb o k : ℕ) → k < 2 ^ 64 → (back : Val) → Good (layout Back) back → (opt : Back.Denot) (knows : Learnt X.Denot)
+          → ix ≡ h.index → h.index * stride R < 2 ^ 64
+          → IfSome opt (λ was. (was.heap ≡ x.heap) × (was.slots ≡ x.slots) × (was.left ≡ 0))
+          → MatchOption opt (knows ≡ found_as (slot_value x.slots h.index)) (λ _. knows ≡ Vacant)
+          → Seq (Go {0}) 𝓛 (‵ (flft β q) ∷ ‵ (Owned knows k pb o) ∷ ‵ (Back.own_val opt (back ∷ [])) ∷ ‵ others
+          ∷ (opened (kept_of h) ++ holding 𝓛 Ev ((21, answer pb o k back) ∷ (1, vptr rb ro) ∷ (2, vint w64 ix) ∷ [])))
+          (prop (Wp 𝓤 H 𝓣.C 𝓣.Λ Ev (after 6 fn.body) (at_return 𝓤 H Ev Post)))
+      ends pb o k low back held opt knows is_index close same_back learns =
+          let F₁ : G.Denot → Type 0 = λ r.
+          (r.table ≡ h.table) × (◌≡◌ {A = Option ℕ} r.sharing h.sharing) × (r.word ≡ h.word) × (r.id ≡ h.id)
+          × (r.index ≡ h.index) in
+          let F₂ : G.Denot → Type 0 = λ r. r.reserved ≡ h.reserved in
+          let F₄ : G.Denot → Type 0 = λ r.
+          MatchOption opt (r.learnt ≡ found_as (slot_value x.slots h.index)) (λ _. r.learnt ≡ Vacant) in
+          let F₃ : Type 0 = IfSome opt (λ was. (was.heap ≡ x.heap) × (was.slots ≡ x.slots) × (was.left ≡ 0)) in
+          let close_at : ix * stride R < 2 ^ 64 = subst (λ (n : ℕ). n * stride R < 2 ^ 64) (sym is_index) close in
+          let answer_good : Good (layout Triple) (answer pb o k back) = (and_tt _ held.0, (tt, (record { fits = low }, (held.1, tt)))) in
+          exec ! 𝓣.C 𝓣.Λ Ev (after 6 fn.body) (at_ret Ev Post) $
+          sets ! (of_opd ! (get ! refl)) refl answer_good $
+          sets ! (of_opd ! (get_in ! (fld ! refl (stop !)) (sub ! 0 refl (whole !)))) refl (tt, tt) $
+          sets ! (of_opd ! (get_in ! (fld ! refl (stop !)) (sub ! 1 refl (whole !)))) refl (tt, record { fits = low }) $
+          sets ! (of_opd ! (get_in ! (fld ! refl (stop !)) (sub ! 2 refl (whole !)))) refl held $
+          first ! $ blocks ! $ sets ! (of_opd ! (get ! refl)) refl (tt, tt) $
+          sets !
+          (is ! (bin ! (get ! refl) (size_word !) (record { fits = spaced ix (stride R) close_at }))
+          (spaced_is ix (stride R) close_at ∙ ap (λ (n : ℕ). vint w64 (n * stride R)) is_index))
+          refl (tt, record { fits = close }) $
+          sets_last ! (bin ! (get ! refl) (get ! refl) tt) refl (tt, tt) $
+          exec ! 𝓣.C 𝓣.Λ Ev (after 11 fn.body) (at_ret Ev Post) $
+          sets ! (of_opd ! (get ! refl)) refl (tt, tt) $ sets ! (of_opd ! (get ! refl)) refl (tt, tt) $
+          let m : Kept = record { at = value_at R (block_ptr pb o) i; state = k } in
+          assigns ! (of_opd ! (get ! refl)) (through ! refl (fld ! refl (stop !)))
+          (store_in ! 4 (sub ! 0 refl (whole !)) (tt, tt)) $
+          assigns ! (of_opd ! (get ! refl)) (through ! refl (fld ! refl (stop !)))
+          (store_in ! 4 (sub ! 1 refl (whole !)) (tt, record { fits = low })) $
+          sets ! (of_opd ! (get ! refl)) refl held $
+          -- [the token; the claim; what comes back; the other tokens; the claim's cell; the open borrow]
+          move ! (1 ∷ []) $
+          use0 𝓛 (‵ ((FieldsType ℓ R).own_val (fields_of ℓ R m) (value_of m ∷ []))) (made ℓ R 𝓛 m low) $ fjoin ! $
+          let left : G.Denot = record {
+            at = value_at R (block_ptr pb o) i;
+            state = k;
+            marker = record {};
+            bucket = block_ptr wb wo;
+            table = h.table;
+            sharing = h.sharing;
+            word = h.word;
+            id = h.id;
+            index = i;
+            reserved = h.reserved;
+            learnt = knows;
+          } in
+          move ! (4 ∷ 0 ∷ 5 ∷ 6 ∷ 7 ∷ []) $ closes ! tt G left (value_of m ∷ []) rb ro $
+          feq_i ! (List Val) (vptr rb ro ∷ []) (vptr rb ro ∷ []) refl $ fjoin3 ! $
+          nothing ! $ nothing ! $ fjoin ! $ nothing ! $ fjoin ! $ nothing ! $ fjoin ! $ nothing ! $ fjoin ! $
+          move ! (1 ∷ 0 ∷ []) $ fjoin ! $
+          -- [what is left of the parameters; the reference's token; the token; what comes back; the other tokens]
+          move ! (2 ∷ 4 ∷ []) $ fjoin ! $ move ! (2 ∷ 0 ∷ []) $ join ! $
+          use0 𝓛 (raw (fact 𝓤 F₃)) (fact_i 𝓤 F₃ (emp 𝓤) same_back) $
+          use0 𝓛 (raw (fact 𝓤 (F₄ left))) (fact_i 𝓤 (F₄ left) (emp 𝓤) learns) $ join ! $
+          use0 𝓛 (raw (fact 𝓤 (F₂ left))) (fact_i 𝓤 (F₂ left) (emp 𝓤) refl) $ join ! $
+          use0 𝓛 (raw (fact 𝓤 (F₁ left))) (fact_i 𝓤 (F₁ left) (emp 𝓤) (refl, refl, refl, refl, refl)) $ join ! $
+          returns ! (look_at ! 0 refl) $ free_all ! refl $ keep ! (1 ∷ 2 ∷ 3 ∷ 0 ∷ []) $
+          by ! (leaves 𝓛 En stayed c y back opt (left, (tt, (tt, (tt, (tt, tt))))) (tt, (tt, (tt, (tt, (tt, tt))))))
+
+    abbrev pl : ClaimFields
+    pl = claim_fields h.id i w h.at h.sharing h.word h.reserved
+
+    abbrev Block : Ptr → List (Option X.Denot) → ℕ → Fml
+    Block u cs left = block_owns R (ghosts.dealloc_token x.heap) u cs left
+
+    -- the block as it comes back
+    abbrev back_again : Val
+    back_again = live 1 (vcons bv vnil)
+
+    -- What the exchange gives, without the function's locals: the block is lent for ν beside the turn's life, whose token is
+    -- borrowed from β.
+    module _ (LR : Laws R) (d : BucketView) (t : Turn) (of : IsOf R h.table pl d) (xv : X.Denot) (rest : ℕ) (many : len R d ≡ i + suc rest) (s : Share)
+        (ν : ℕ) (names : offers.Names 𝓛 R t) (so : offers.Lies 𝓛 R t LR d x.heap xv i rest many new names) where
+      abbrev won : Ptr → Fml
+      won u = fsep (flft t.life s) (offers.won 𝓛 R t LR d x.heap xv i rest many wb (wo + 0) s nb no' ν names so u)
+
+      abbrev lost : Ptr → Fml
+      lost u = fsep (flft t.life s) (offers.lost 𝓛 R t LR d x.heap xv i rest many wb (wo + 0) s nb no' ν names so u)
+
+      abbrev lasts : Fml
+      lasts = fsep (before β t.life) (finv (fbor t.life (bucket_invariant R d t wb (wo + 0))))
+
+      abbrev way_back : Item 𝓤
+      way_back = raw (wand 𝓤 (𝓛.A.lft t.life s) (𝓛.H.⇛ (𝓛.A.lft β q)))
+
+      abbrev gained : Fml
+      gained = offers.Gained 𝓛 R t LR d x.heap xv i rest many new ν names
+
+      abbrev of_block : (u : Ptr) → IsOf R h.table (claim_fields h.id i (block_ptr wb wo) u h.sharing h.word h.reserved) d
+      of_block u = (tt, of.1, of.2, of.3, of.4, of.5, of.6, of.7)
+
+      -- the block stands: the claim holds its value
+      won_gives : (u : Ptr)
+          → ent 𝓤 (mean 𝓛 (‵ (won u) ⊛ ‵ lasts ⊛ way_back ⊛ ‵ gained)) (mean 𝓛 (later (‵ (flft β q) ⊛ ‵ (Owned (Holding xv) 2 nb no'))))
+      won_gives u =
+          qed 𝓛 (‵ (won u) ∷ ‵ lasts ∷ way_back ∷ ‵ gained ∷ []) ∵ updating ! $ fsplit ! $ move ! (1 ∷ []) $ fsplit ! $ move ! (1 ∷ []) $
+          rewrite ! 0 (λ (k : ℕ). ‵ (fsep (right_owns t.filled k) (tells R d.sharing k (Some xv)))) (sym of.3) refl $
+          -- [what the claim gets; the part; the life's token; the sharing lasts; the way back; what the claim had]
+          move ! (1 ∷ 3 ∷ 0 ∷ 5 ∷ []) $ group ! 4 $
+          use1 𝓛 (later (‵ (Owned (Holding xv) 2 nb no')))
+          (installs_filled 𝓛 R d t β wb wo nb no' h.id i h.sharing h.word h.reserved h.table xv names.here
+          (offers.block_as 𝓛 R t LR d x.heap xv i rest many new ν names, _) (of_block (value_at R new i)) refl
+          (name_behind names.before names.here names.behind i so.before)) $
+          await ! tt $
+          -- [the claim; the life's token; the way back]
+          move ! (1 ∷ 2 ∷ []) $ returns_token ! β t.life q s $ await ! tt $ now ! $ done !
+
+      abbrev Found : Ptr → ℕ × ℕ → Item 𝓤
+      Found u first = given (u ≡ block_ptr first.0 first.1)
+          (‵ (flft β q) ⊛ ‵ (Owned Vacant 1 first.0 first.1) ⊛ ‵ (Back.own_val (Some x) (back_again ∷ [])))
+
+      -- another block stands: the claim finds its slot empty there, and this block is whole again
+      lost_gives : p ≡ new → x.slots ≡ with_first i xv rest → x.left ≡ 0 → (u : Ptr)
+          → ent 𝓤 (mean 𝓛 (‵ (lost u) ⊛ ‵ lasts ⊛ way_back)) (mean 𝓛 (later (some (Found u))))
+      lost_gives here slots_are all_made u =
+          qed 𝓛 (‵ (lost u) ∷ ‵ lasts ∷ way_back ∷ []) ∵ updating ! $ fsplit ! $ move ! (1 ∷ []) $ fsplit ! $ fsplit ! $ move ! (2 ∷ []) $
+          rewrite ! 0 (λ (k : ℕ). ‵ (right_owns t.pass k)) (sym of.3) refl $
+          -- [the pass; the private block; what was seen; the life's token; the sharing lasts; the way back]
+          move ! (1 ∷ 2 ∷ 3 ∷ 4 ∷ 5 ∷ 0 ∷ []) $
+          use1 𝓛 (later (‵ (Block new (with_first i xv rest) 0))) (offers.take_back 𝓛 R t LR d x.heap xv i rest many new ν names so) $
+          await ! tt $ move ! (1 ∷ []) $
+          in_a_block ! u (glimpse 𝓛 R d t ffalse ftrue) (snd∗ 𝓤 (sem 𝓛 (said_fact (d.reserved ≡ false))) (never 𝓤)) (λ pb o found.
+          fsplit ! $ fpick ! (λ zz.
+          -- [the part; nothing; the block; the life's token; the sharing lasts; the way back; the pass]
+          move ! (0 ∷ 4 ∷ 3 ∷ 6 ∷ []) $ group ! 4 $
+          use1 𝓛 (later (‵ (flft t.life s) ⊛ ‵ (Owned Vacant 1 pb o)))
+          (installs 𝓛 R d t β wb wo pb o h.id i h.sharing h.word h.reserved h.table s zz (of_block (value_at R (block_ptr pb o) i))) $
+          await ! tt $ split ! $
+          -- [the life's token; the claim; nothing; the block; the way back]
+          move ! (0 ∷ 4 ∷ []) $ returns_token ! β t.life q s $ await ! tt $
+          -- [the token; the claim; nothing; the block]
+          move ! (3 ∷ []) $ rewrite ! 0 (λ (v : Ptr). ‵ (Block v (with_first i xv rest) 0)) (sym here) refl $
+          rewrite ! 0 (λ (cs : List (Option X.Denot)). ‵ (Block p cs 0)) (sym slots_are) refl $
+          rewrite ! 0 (λ (n : ℕ). ‵ (Block p x.slots n)) (sym all_made) refl $
+          use0 𝓛 (‵ ((fields.FieldsType R Z ghosts).own_val (p, (record {}, tt)) (bv ∷ []))) (fields.made R Z ghosts 𝓛 p) $
+          fjoin ! $ use1 𝓛 (‵ (Back.own_val (Some x) (back_again ∷ []))) (Some-of 𝓛 Bl x bv) $
+          -- [the block; the token; the claim; nothing]
+          move ! (3 ∷ []) $ drop ! $ move ! (1 ∷ 2 ∷ []) $ now ! $ show ! (λ first. mean 𝓛 (Found u first)) (pb, o) $ check ! found $ done !))
+
+      -- the contexts in which the two arms begin, with the answer of the exchange in local 16
+      abbrev In_arm : (ℕ → ℕ) → Fml → Val → List (Item 𝓤)
+      In_arm l given_back answered =
+          ‵ given_back ∷ ‵ lasts ∷ way_back ∷ ‵ others ∷ ‵ gained
+          ∷ (opened (kept_of h) ++ holding 𝓛 (Ev l) ((16, answered) ∷ (1, vptr rb ro) ∷ (2, vint w64 ix) ∷ (3, bv) ∷ (7, vptr nb no') ∷ []))
+
+      abbrev Goes_on : (ℕ → ℕ) → Goal 𝓤 H
+      Goes_on l = prop (Wp 𝓤 H 𝓣.C 𝓣.Λ (Ev l) (after 4 fn.body) (at_return 𝓤 H (Ev l) Post))
+
+      abbrev arms : Body
+      arms = head (after 5 fn.body)
+
+      abbrev Then : (l : ℕ → ℕ) → Post' 𝓤 H
+      Then l = any_q (after_seq 𝓤 H (Wp 𝓤 H 𝓣.C 𝓣.Λ (Ev l) (after 6 fn.body) (at_return 𝓤 H (Ev l) Post)) (at_return 𝓤 H (Ev l) Post))
+
+      won_arm : (l : ℕ → ℕ) → ix ≡ h.index → i * stride R < 2 ^ 64 → slot_value x.slots h.index ≡ Some xv → (u : Ptr)
+          → Seq (Go {0}) 𝓛 (In_arm l (won u) (calls.answer_val (Ok u))) (Goes_on l)
+      won_arm l is_index close is_value u =
+          exec ! 𝓣.C 𝓣.Λ (Ev l) (after 4 fn.body) (at_ret (Ev l) Post) $
+          sets ! (of_opd ! (get ! refl)) refl (calls.answer_good (Ok u)) $
+          -- [what was won; the sharing lasts; the way back; the other tokens; what the claim had]
+          move ! (0 ∷ 1 ∷ 2 ∷ 4 ∷ []) $ group ! 4 $
+          use1 𝓛 (later (‵ (flft β q) ⊛ ‵ (Owned (Holding xv) 2 nb no'))) (won_gives u) $
+          await ! tt $ split ! $ let pb : ℕ = nb in let o : ℕ = no' in
+          first ! $ switches_on ! (get_tag ! (vrt ! refl (fld ! refl (stop !))) (whole !)) $ exec ! 𝓣.C 𝓣.Λ (Ev l) (arm_body 0 arms) (Then l) $
+          let nothing_good : Good (layout Back) (live 0 vnil) = (tt, (record { fits = lit< tt }, tt)) in
+          let three : Val = vstruct (vcons (vptr pb o) (vcons (vint w64 2) (vcons (live 0 vnil) vnil))) in
+          let triple_good : Good (layout Triple) three = (tt, (tt, (record { fits = lit< tt }, (nothing_good.1, tt)))) in
+          sets ! (of_opd ! (get ! refl)) refl (tt, tt) $
+          sets ! (agg ! (and_then ! (lit ! tt) (no_more !))) refl nothing_good $
+          sets_last ! (agg ! (and_then ! (get ! refl) (and_then ! (lit ! tt) (and_then ! (get ! refl) (no_more !))))) refl
+          triple_good $
+          forget_but ! (Ev l) (21 ∷ 1 ∷ 2 ∷ []) refl $
+          -- [the token; the claim; the other tokens]
+          use0 𝓛 (‵ (Back.own_val None (live 0 vnil ∷ []))) (none_of 𝓛 Bl) $ move ! (1 ∷ 2 ∷ []) $
+          ends l pb o 2 (lit< tt) (live 0 vnil) nothing_good None (Holding xv) is_index close tt (sym (ap found_as is_value))
+
+      lost_arm : (l : ℕ → ℕ) → p ≡ new → x.slots ≡ with_first i xv rest → x.left ≡ 0 → ix ≡ h.index → i * stride R < 2 ^ 64 → (u : Ptr)
+          → Seq (Go {0}) 𝓛 (In_arm l (lost u) (calls.answer_val (Err u))) (Goes_on l)
+      lost_arm l e slots_are all_made is_index close u =
+          exec ! 𝓣.C 𝓣.Λ (Ev l) (after 4 fn.body) (at_ret (Ev l) Post) $
+          sets ! (of_opd ! (get ! refl)) refl (calls.answer_good (Err u)) $
+          -- [what came back; the sharing lasts; the way back; the other tokens; what the claim had]
+          move ! (4 ∷ []) $ drop ! $ group ! 3 $
+          use1 𝓛 (later (some (Found u)))
+          (lost_gives e slots_are all_made u) $
+          await ! tt $ pick ! (λ place. learn ! (λ found. split3 ! $ let pb : ℕ = place.0 in let o : ℕ = place.1 in
+          -- [the token; the claim; the block; the other tokens]
+          let back : Val = live 1 (vcons bv vnil) in
+          let block_good = fields.block_good p in
+          let held : Good (layout Back) back =
+          (and_tt _ block_good.0, (record { fits = lit< tt }, (block_good.1, tt))) in
+          first ! $ switches_on ! (get_tag ! (vrt ! refl (fld ! refl (stop !))) (whole !)) $ exec ! 𝓣.C 𝓣.Λ (Ev l) (arm_body 1 arms) (Then l) $
+          sets !
+          (is !
+          (of_opd !
+          (get_in ! (vrt ! refl (fld ! refl (stop !))) (in_variant ! 1 0 refl refl (whole !))))
+          (ap ptr_val found))
+          refl (tt, tt) $
+          let three : Val = vstruct (vcons (vptr pb o) (vcons (vint w64 1) (vcons back vnil))) in
+          let triple_good : Good (layout Triple) three = (and_tt _ held.0, (tt, (record { fits = lit< tt }, (held.1, tt)))) in
+          sets ! (of_opd ! (get ! refl)) refl (tt, tt) $ sets ! (of_opd ! (get ! refl)) refl block_good $
+          sets ! (agg ! (and_then ! (lit ! tt) (and_then ! (get ! refl) (no_more !)))) refl held $
+          sets_last ! (agg ! (and_then ! (get ! refl) (and_then ! (lit ! tt) (and_then ! (get ! refl) (no_more !))))) refl
+          triple_good $
+          forget_but ! (Ev l) (21 ∷ 1 ∷ 2 ∷ []) refl $
+          ends l pb o 1 (lit< tt) back held (Some x) Vacant is_index close (refl, refl, all_made) refl))
+
+      -- the exchange, from the function's first statement on
+      asks : Wired 𝓡.env code.code → (l : ℕ → ℕ) → h.at ≡ block_ptr wb wo → p ≡ new → x.slots ≡ with_first i xv rest → x.left ≡ 0 → ix ≡ h.index
+          → i * stride R < 2 ^ 64 → slot_value x.slots h.index ≡ Some xv
+          → Seq (Go {0}) 𝓛 ((‵ (offers.private 𝓛 R t LR d x.heap xv i rest many new ν names) ⊛ ‵ (grown d) ⊛ ‵ (right_owns t.pass (i + first_id R d)))
+          ∷ ‵ lasts ∷ ‵ (finv (fbor t.life (bucket_invariant R d t wb (wo + 0)))) ∷ ‵ (flft t.life s) ∷ way_back ∷ ‵ others ∷ ‵ gained
+          ∷ (opened (kept_of h) ++ holding 𝓛 (Ev l) ((1, vptr rb ro) ∷ (2, vint w64 ix) ∷ (3, bv) ∷ [])))
+          (runs 𝓣.C 𝓣.Λ (Ev l) fn.body (at_ret (Ev l) Post))
+      asks wired l leads e slots_are all_made is_index close is_value =
+          sets !
+          (is !
+          (of_opd ! (load ! (through ! refl (fld ! refl (stop !))) (look_in ! 7 (sub ! 0 refl (whole !)))))
+          (ap ptr_val leads))
+          refl (tt, tt) $
+          sets ! (of_opd ! (get ! refl)) refl (tt, tt) $
+          sets ! (is ! (of_opd ! (get_in ! (fld ! refl (stop !)) (sub ! 0 refl (whole !)))) (ap ptr_val e)) refl (tt, tt) $
+          first ! $ blocks ! $ sets ! (addr ! (through ! refl (fld ! refl (stop !)))) refl (tt, tt) $
+          sets ! (of_opd ! (get ! refl)) refl (tt, tt) $
+          sets ! (agg ! (and_then ! (lit ! tt) (no_more !))) refl seq_cst_good $
+          sets ! (agg ! (and_then ! (lit ! tt) (no_more !))) refl seq_cst_good $ move ! (2 ∷ 3 ∷ 0 ∷ []) $
+          use3 𝓛
+          (raw (𝓣.C _ (vptr wb (wo + 0) ∷ vnull ∷ vptr nb no' ∷ seq_cst ∷ seq_cst ∷ [])
+          (λ u. mean 𝓛 (calls.answered 𝓛 won lost u))))
+          (via 𝓤 _ (offers.offers 𝓛 R t LR d x.heap xv i rest many wb (wo + 0) s nb no' ν names so)
+          (calls.exchanges 𝓛 𝓜 𝓡 (code.calls-std::sync::atomic::raw::ptr::compare_exchange 𝓡.env wired)
+          u64 word_laws (block_ptr wb (wo + 0)) null_ptr new won lost)) $
+          Calls-last ! (fm 𝓛 𝓜 𝓡) (calls.answered 𝓛 won lost)
+          (and_then ! (get ! refl) (and_then ! (lit ! tt)
+          (and_then ! (get ! refl) (and_then ! (get ! refl) (and_then ! (get ! refl) (no_more !))))))
+          (λ u.
+          calls.hears ! won lost
+          (λ v. lands_last ! refl (calls.answer_good (Ok v)) $ forget_but ! (Ev l) (16 ∷ 1 ∷ 2 ∷ 3 ∷ 7 ∷ []) refl $ won_arm l is_index close is_value v)
+          (λ v. lands_last ! refl (calls.answer_good (Err v)) $ forget_but ! (Ev l) (16 ∷ 1 ∷ 2 ∷ 3 ∷ 7 ∷ []) refl $
+          lost_arm l e slots_are all_made is_index close v))
+
+    walk : Wired 𝓡.env code.code → Laws R → ix < 2 ^ 64
+        → ent 𝓤 (sep 𝓤 (on_entry 𝓛 En.signature κs qs a y.0.4) ((c κs a).requires gh))
+        (WpFn 𝓤 H 𝓣.C 𝓣.Λ fn (vptr rb ro ∷ vint w64 ix ∷ bv ∷ seen ∷ token ∷ []) Post)
+    walk wired LR fits_index =
+        let pl : ClaimFields = claim_fields h.id i w h.at h.sharing h.word h.reserved in
+        qed 𝓛 (((‵ (flft κs.0 qs.0) ⊛ ‵ (fsep (flft β q) others)) ⊛ ‵ (owns (types_at En.signature.params κs) a y.0.4))
+        ∷ raw (fact 𝓤 (Incl υ X.lives)) ∷ raw (fact 𝓤 (h.learnt ≡ Missing)) ∷ raw (fact 𝓤 (ix ≡ i))
+        ∷ raw (fact 𝓤 Made) ∷ raw (fact 𝓤 Had) ∷ raw (fact 𝓤 Says) ∷ []) ∵
+        move ! (1 ∷ 2 ∷ 3 ∷ 4 ∷ 5 ∷ 6 ∷ 0 ∷ []) $ heard ! (Incl υ X.lives) (λ alive. heard ! (h.learnt ≡ Missing) (λ gone.
+        heard ! (ix ≡ i) (λ is_index. heard ! Made (λ blank. heard ! Had (λ evident. heard ! Says (λ told_so. split ! $ split ! $ move ! (2 ∷ []) $
+        fsplit3 ! $ fsplit3 ! $ move ! (4 ∷ []) $ fsplit ! $ fsplit ! $ move ! (2 ∷ []) $ fsplit ! $ fsplit ! $
+        move ! (2 ∷ []) $ fsplit ! $ fsplit ! $
+        keep ! (4 ∷ 8 ∷ 9 ∷ 11 ∷ 12 ∷ 6 ∷ 1 ∷ []) $ unhide ! $ fsplit ! $ drop ! $ move ! (1 ∷ 2 ∷ 3 ∷ 4 ∷ 5 ∷ 0 ∷ []) $
+        enter ! 𝓣.C 𝓣.Λ fn (vptr rb ro ∷ vint w64 ix ∷ bv ∷ seen ∷ token ∷ []) Post $ alloc_all ! (λ l.
+        pass_all ! {E = env (behind_first fn.locals) (λ j. l (suc j))} refl (
+          (tt, tt),
+          ((tt, record { fits = fits_index }), (fields.block_good p, ((tt, tt), ((tt, (tt, tt)), tt)))),
+        ) $
+        opens ! tt G rb ro (λ ts. move ! (1 ∷ []) $ fsplit ! $
+        peeks ! D (Is D) (shows 𝓛 D) (fields_of ℓ R (kept_of h)) ts (λ is_so. drop ! $
+        rewrite ! 1 (λ (ws : List Val). ‵ (cell_at full_share G.mir ws rb ro)) (told ℓ R (kept_of h) ts is_so) refl $
+        move ! (5 ∷ []) $ fsplit ! $ move ! (2 ∷ 0 ∷ 1 ∷ 7 ∷ 8 ∷ 9 ∷ []) $
+        -- [what the claim owns; the token; the other tokens; the block; how many ids were held; the bucket is
+        -- announced; the claim's cell; the open borrow, in three entries]
+        use1 𝓛 (‵ (claim_owns R β h.table pl h.learnt h.state)) (id⊢ 𝓤 _) $
+        fsplit ! $ drop ! $ fpick ! (λ z. fsplit ! $ fpick ! (λ of. drop ! $ fsplit ! $
         move ! (1 ∷ []) $
-        use0 𝓛 (‵ ((FieldsType ℓ R).own_val (fields_of ℓ R m) (value_of m ∷ []))) (made ℓ R 𝓛 m low) $ fjoin ! $
-        let r : G.Denot = record {
-          at = value_at R (block_ptr pb o) i;
-          state = k;
-          marker = record {};
-          bucket = w;
-          table = h.table;
-          sharing = h.sharing;
-          word = h.word;
-          id = h.id;
-          index = i;
-          reserved = h.reserved;
-          learnt = knows;
-        } in
-        move ! (4 ∷ 0 ∷ 5 ∷ 6 ∷ 7 ∷ []) $ closes ! tt G r (value_of m ∷ []) rb ro $
-        feq_i ! (List Val) y.0.4.0 (vptr rb ro ∷ []) refers $ fjoin3 ! $
-        nothing ! $ nothing ! $ fjoin ! $ nothing ! $ fjoin ! $ nothing ! $ fjoin ! $ nothing ! $ fjoin ! $
-        move ! (1 ∷ 0 ∷ []) $ fjoin ! $
-        -- [what is left of the parameters; the reference's token; the token; what comes back; the other tokens]
-        move ! (2 ∷ 4 ∷ []) $ fjoin ! $ move ! (2 ∷ 0 ∷ []) $ join ! $
-        use0 𝓛 (raw (fact 𝓤 F₃)) (fact_i 𝓤 F₃ (emp 𝓤) same_back) $
-        use0 𝓛 (raw (fact 𝓤 (F₄ r))) (fact_i 𝓤 (F₄ r) (emp 𝓤) learns) $ join ! $
-        use0 𝓛 (raw (fact 𝓤 (F₂ r))) (fact_i 𝓤 (F₂ r) (emp 𝓤) refl) $ join ! $
-        use0 𝓛 (raw (fact 𝓤 (F₁ r))) (fact_i 𝓤 (F₁ r) (emp 𝓤) (refl, refl, refl, refl, refl)) $ join ! $
-        returns ! (look_at ! 0 refl) $ free_all ! refl $ keep ! (1 ∷ 2 ∷ 3 ∷ 0 ∷ []) $
-        by ! (leaves 𝓛 En stayed c y back opt (r, (tt, (tt, (tt, (tt, tt))))) (tt, (tt, (tt, (tt, (tt, tt))))))
+        let d : BucketView = z.0 in
+        let t : Turn = z.1 in
+        let at : w ≡ block_ptr wb wo = at_block w of.0 in
+        rewrite ! 0 (λ (k : Learnt X.Denot). ‵ (has R d t β pl k)) gone refl $ fsplit ! $ fpick ! (λ leads. drop ! $
+        let J : Fml = fbor t.life (bucket_invariant R d t wb (wo + 0)) in
+        called ((u : X.Denot) × (slot_value x.slots h.index ≡ Some u)) (some_in (slot_value x.slots h.index) blank.2) (λ found_value.
+        let xv : X.Denot = found_value.0 in
+        let rest : ℕ = len R d - suc i in
+        called (len R d ≡ i + suc rest) (omega (arith, of.4)) (λ many.
+        let cs : List (Option X.Denot) = with_first i xv rest in
+        let Blank : Ptr → Fml = λ u. block_owns R (ghosts.dealloc_token x.heap) u cs 0 in
+        let same : bucket_of h.id ≡ d.bucket = ap bucket_of (lies_at R d h.id i of.3) ∙ (place-id_at d.bucket i of.4).0 in
+        move ! (1 ∷ []) $ fsplit ! $ use1 𝓛 (‵ (before β t.life) ⊛ ‵ (before β t.life)) (before_dup 𝓛 β t.life) $ split ! $
+        -- [before, twice; the invariant; the pass; the token; the other tokens; the block]
+        move ! (0 ∷ 4 ∷ []) $
+        lends_token ! 𝓜 𝓡 β t.life q $ await ! tt $ pick ! (λ s. split ! $
+        -- [the life's token; the way back; before; the invariant; the pass; the other tokens; the
+        -- block]
+        move ! (3 ∷ []) $ use1 𝓛 (‵ (finv J) ⊛ ‵ (finv J)) (𝓛.invs.inv_dup J) $ split ! $ move ! (4 ∷ 1 ∷ []) $ fjoin ! $
+        -- [the sharing lasts; the invariant; the life's token; the way back; the pass; the other
+        -- tokens; the block]
+        let empty_but : slice_set x.slots i None ≡ empty_slots (len R d) =
+        blank.1 ∙ ap (λ (n : ℕ). empty_slots {X = X.Denot} (2 ^ n)) same in
+        let none : Option X.Denot = None in
+        let all_long : length x.slots ≡ len R d =
+        sym (length-set x.slots i none) ∙ ap length empty_but ∙ length-replicate (len R d) none in
+        let slots_are : x.slots ≡ cs =
+        parted_slots xv x.slots i (len R d) rest (omega (arith, of.4, all_long)) many empty_but found_value.1 in
+        move ! (6 ∷ []) $ rewrite ! 0 (λ (m : ℕ). ‵ (block_owns R (ghosts.dealloc_token x.heap) p x.slots m)) blank.0 refl $
+        rewrite ! 0
+        (λ (ys : List (Option X.Denot)). ‵ (block_owns R (ghosts.dealloc_token x.heap) p ys 0))
+        slots_are refl $
+        use1 𝓛 (given (Fits R (len R d)) (‵ (Blank p)))
+        (fits_so 𝓛 R (ghosts.dealloc_token x.heap) p cs (len R d) (sym (ap length slots_are) ∙ all_long)) $
+        learn ! (λ fits.
+        let close : i * stride R < 2 ^ 64 = value_near R (len R d) i fits of.4 in
+        use1 𝓛 (given (InBlock p) (‵ (Blank p))) (offers.placed 𝓛 R t LR d x.heap xv i rest many p) $ learn ! (λ lies.
+        let e : p ≡ new = at_block p lies in
+        rewrite ! 0 (λ (u : Ptr). ‵ (Blank u)) e refl $
+        -- [the block; the sharing lasts; the invariant; the life's token; the way back; the pass; the other tokens; how many ids were
+        -- held; the bucket is announced]
+        move ! (6 ∷ []) $ fsplit ! $ move ! (1 ∷ []) $ fsplit ! $ move ! (2 ∷ 1 ∷ []) $ fjoin ! $ move ! (1 ∷ []) $
+        -- [one of the other tokens; the other; the block; ..]
+        move ! (2 ∷ 5 ∷ 0 ∷ []) $
+        use3 𝓛 (later (some (λ (y : ℕ × offers.Names 𝓛 R t).
+        given (offers.Lies 𝓛 R t LR d x.heap xv i rest many new y.1)
+        (‵ (offers.private 𝓛 R t LR d x.heap xv i rest many new y.0 y.1)
+        ⊛ ‵ (offers.Gained 𝓛 R t LR d x.heap xv i rest many new y.0 y.1) ⊛ ‵ (flft t.life s) ⊛ ‵ (flft υ r)))))
+        (offers.lend_out 𝓛 R t LR d x.heap xv i rest many s υ r alive of.1 new) $
+        await ! tt $ pick ! (λ zn. learn ! (λ so. split3 ! $ move ! (2 ∷ []) $ split ! $
+        -- [the life's token; the other; the private block; what its claim has; nothing; the sharing lasts; the invariant; the way back;
+        -- the pass; how many ids were held; the bucket is announced]
+        move ! (4 ∷ 1 ∷ []) $ fsplit ! $ move ! (2 ∷ 1 ∷ []) $ fjoin ! $ move ! (1 ∷ []) $ fjoin ! $
+        move ! (2 ∷ 4 ∷ 5 ∷ 1 ∷ 6 ∷ 7 ∷ 0 ∷ 8 ∷ 9 ∷ 3 ∷ []) $
+        -- [the private block; the sharing lasts; the invariant; the life's token; the way back; the
+        -- pass; the other tokens; how many ids were held]
+        let enough : shown_by d ≤ had.ids = shown_reached d h.id i had.ids of.3 evident.1 in
+        move ! (7 ∷ []) $
+        rewrite ! 0 (λ (n : ℕ). ‵ (reached_owns n had.ids)) (evident.0 ∙ sym of.2) refl $
+        use1 𝓛 (‵ (reached_owns d.table (shown_by d))) (reached_less 𝓛 d.table had.ids (shown_by d) enough) $
+        move ! (0 ∷ 8 ∷ []) $
+        rewrite ! 1 (λ (m : Announcing). ‵ (announced m says.bucket)) (told_so.0 ∙ sym of.7) refl $
+        rewrite ! 1 (λ (k : ℕ). ‵ (announced d.word k)) (told_so.1 ∙ same) refl $
+        fjoin ! $
+        -- [what the block shows; the private block; the sharing lasts; the invariant; the life's token; the way back; the pass; the other
+        -- tokens; what its claim has]
+        move ! (6 ∷ []) $ rewrite ! 0 (λ (k : ℕ). ‵ (right_owns t.pass k)) of.3 refl $ move ! (2 ∷ 1 ∷ 0 ∷ []) $ group ! 3 $
+        forget_but ! (Ev l) (1 ∷ 2 ∷ 3 ∷ []) refl $
+        asks LR d t of xv rest many s zn.0 zn.1 so wired l (leads ∙ at) e slots_are blank.0 is_index close found_value.1)))))))))))))))))))
 
 pub exchange_spec : {M : Type 1} → statement M
 exchange_spec 𝓤 𝓛 𝓜 𝓡 wired X L =
-    let H = 𝓛.H in
-    let 𝓣 = tables 𝓤 H 𝓜 𝓡 𝓡.env in
-    let R : RattleType = param 0 X in
-    let LR : Laws R = param_laws 0 X L in
-    let En = ended X in
-    let c = clauses X 𝓛 𝓜.mem 𝓡.returns in
-    let inst = bounded (a_type ∷ []) (X, tt) dnil in
-    let fn = inst_fn inst code.function in
-    let closed = code.unfolded 𝓤 H 𝓜 𝓡 wired (X, tt) in
-    let Z : RattleType = heap.the_row in let Bl : RattleType = block.the_row R Z ghosts in let Back : RattleType = Opt.the_row Bl in
-    let self = plain (λ κs. claim.the_row (named_lft 4 1 tt κs) R) in let number = plain (λ _. usize) in let lot = plain (λ _. Bl) in
-    let shown = RefOf (2 ∷ []) tt (plain (λ _. Reached.the_row)) (λ _. tt) in
-    let known = plain (λ _. Announced.the_row) in
-    let hs : Stays En.signature.params En.kept =
-    (stay_ref (0 ∷ []) tt self, (stay_dropped number yes, (stay_dropped lot no, (stay_dropped shown yes, (stay_dropped known yes, tt))))) in
-    proved 𝓛 En hs c 𝓜 𝓡 (
-      Goes-ref 𝓛 4 0 tt self,
+    let number = plain (λ _. usize) in
+    proved 𝓛 (En 𝓛 𝓜 𝓡 X) (stayed 𝓛 𝓜 𝓡 X) (c 𝓛 𝓜 𝓡 X) 𝓜 𝓡 (
+      Goes-ref 𝓛 4 0 tt (plain (λ κs. claim.the_row (named_lft 4 1 tt κs) (param 0 X))),
       (
         Goes-dropped 𝓛 4 number yes (λ κs x f. refl),
         (
-          Goes-dropped 𝓛 4 lot no (λ κs x f. refl),
-          (Goes-dropped 𝓛 4 shown yes (λ κs x f. refl), (Goes-dropped 𝓛 4 known yes (λ κs x f. refl), tt)),
+          Goes-dropped 𝓛 4 (plain (λ _. Bl 𝓛 𝓜 𝓡 X)) no (λ κs x f. refl),
+          (
+            Goes-dropped 𝓛 4 (RefOf (2 ∷ []) tt (plain (λ _. Reached.the_row)) (λ _. tt)) yes (λ κs x f. refl),
+            (Goes-dropped 𝓛 4 (plain (λ _. Announced.the_row)) yes (λ κs x f. refl), tt),
+          ),
         ),
       ),
     )
-    (#self inst) fn closed
+    (#self (bounded (a_type ∷ []) (X, tt) dnil)) (fn 𝓛 𝓜 𝓡 X) (code.unfolded 𝓤 𝓛.H 𝓜 𝓡 wired (X, tt))
     (λ κs. (
       mut_vals,
       (uint_vals w64, ((λ x. fields.block_val x.at ∷ []), (shr_vals, ((λ x. token ∷ []), tt)))),
     ))
     (λ κs. (
-      mut_Tells (named 0) κs.0 (claim.the_row (named_lft 4 1 tt κs) R),
+      mut_Tells (named 0) κs.0 (claim.the_row (named_lft 4 1 tt κs) (param 0 X)),
       (
         uint_Tells w64,
         (
-          (λ x vs so. fields.told R Z ghosts x.at vs so.0),
+          (λ x vs so. fields.told (param 0 X) heap.the_row ghosts x.at vs so.0),
           (shr_Tells (named 2) κs.1.1.0 Reached.the_row, ((λ x vs so. token_told (Announced.the_type).name vs so.0), tt)),
         ),
       ),
     ))
-    (λ κs qs bounds a gh are.
-    let h = a.0.now in
-    let rb : ℕ = a.0.ref_ptr.0 in
-    let ro : ℕ = a.0.ref_ptr.1 in
-    let β : Lft = κs.1.0 in
-    let q : Share = qs.1.0 in
-    let others : Fml = fsep (flft κs.1.1.0 qs.1.1.0) (fsep (flft κs.1.1.1.0 qs.1.1.1.0) ftrue) in
-    let ℓ = named_lft 4 1 tt κs in
-    let G : RattleType = claim.the_row ℓ R in
-    let D : RattleType = FieldsType ℓ R in
-    let ix : ℕ = a.1.0 in
-    let x : Bl.Denot = a.1.1.0 in
-    let p : Ptr = x.at in
-    let nb : ℕ = block_of p in
-    let no' : ℕ = count_of p in
-    let new : Ptr = block_ptr nb no' in
-    let bv : Val = fields.block_val p in
-    let Triple : RattleType = Tuple (RawPtr ∷ u64 ∷ Back ∷ []) in
-    let had = a.1.1.1.0.now in
-    let seen : Val = vptr a.1.1.1.0.ref_ptr.0 a.1.1.1.0.ref_ptr.1 in
-    let Had : Type 0 = (had.table ≡ h.table) × (h.id < had.ids) in
-    let says = a.1.1.1.1.0 in
-    let Says : Type 0 = (says.by ≡ h.word) × (says.bucket ≡ bucket_of h.id) in
-    let υ : Lft = κs.1.1.1.0 in
-    let r : Share = qs.1.1.1.0 in
-    let Made : Type 0 = (x.left ≡ 0) × (slice_set x.slots h.index None ≡ empty_slots (2 ^ bucket_of h.id))
-    × IsSome (slot_value x.slots h.index) in
-    let w : Ptr = h.bucket in
-    let wb : ℕ = block_of w in
-    let wo : ℕ = count_of w in
-    let i : ℕ = h.index in
-    let pl : ClaimFields = claim_fields h.id i w h.at h.sharing h.word h.reserved in
-    let y : (walk_of 𝓛 En hs c).Ghost =
-    ((κs, qs, bounds, a, (vptr rb ro ∷ [], (vint w64 ix ∷ [], (bv ∷ [], (seen ∷ [], (token ∷ [], tt)))))), gh) in
-    let Post : Val → SProp 𝓤 = (walk_of 𝓛 En hs c).post y in
-    qed 𝓛 (((‵ (flft κs.0 qs.0) ⊛ ‵ (fsep (flft β q) others)) ⊛ ‵ (owns (types_at En.signature.params κs) a y.0.4))
-    ∷ raw (fact 𝓤 (Incl υ X.lives)) ∷ raw (fact 𝓤 (h.learnt ≡ Missing)) ∷ raw (fact 𝓤 (ix ≡ i))
-    ∷ raw (fact 𝓤 Made) ∷ raw (fact 𝓤 Had) ∷ raw (fact 𝓤 Says) ∷ []) ∵
-    move ! (1 ∷ 2 ∷ 3 ∷ 4 ∷ 5 ∷ 6 ∷ 0 ∷ []) $ heard ! (Incl υ X.lives) (λ alive. heard ! (h.learnt ≡ Missing) (λ gone.
-    heard ! (ix ≡ i) (λ is_index. heard ! Made (λ blank. heard ! Had (λ evident. heard ! Says (λ told_so. split ! $ split ! $ move ! (2 ∷ []) $
-    fsplit3 ! $ fsplit3 ! $ move ! (4 ∷ []) $ fsplit ! $ fsplit ! $ move ! (2 ∷ []) $ fsplit ! $ fsplit ! $
-    move ! (2 ∷ []) $ fsplit ! $ fsplit ! $
-    keep ! (4 ∷ 8 ∷ 9 ∷ 11 ∷ 12 ∷ 6 ∷ 1 ∷ []) $ unhide ! $ fsplit ! $ drop ! $ move ! (1 ∷ 2 ∷ 3 ∷ 4 ∷ 5 ∷ 0 ∷ []) $
-    enter ! 𝓣.C 𝓣.Λ fn (vptr rb ro ∷ vint w64 ix ∷ bv ∷ seen ∷ token ∷ []) Post $ alloc_all ! (λ l.
-    pass_all ! {E = env (behind_first fn.locals) (λ j. l (suc j))} refl (
-      (tt, tt),
-      ((tt, record { fits = are.1.0.1 }), (fields.block_good p, ((tt, tt), ((tt, (tt, tt)), tt)))),
-    ) $
-    let Ev = env fn.locals l in
-    opens ! tt G rb ro (λ ts. move ! (1 ∷ []) $ fsplit ! $
-    peeks ! D (Is D) (shows 𝓛 D) (fields_of ℓ R (kept_of h)) ts (λ is_so. drop ! $
-    rewrite ! 1 (λ (ws : List Val). ‵ (cell_at full_share G.mir ws rb ro)) (told ℓ R (kept_of h) ts is_so) refl $
-    move ! (5 ∷ []) $ fsplit ! $ move ! (2 ∷ 0 ∷ 1 ∷ 7 ∷ 8 ∷ 9 ∷ []) $
-    -- [what the claim owns; the token; the other tokens; the block; how many ids were held; the bucket is
-    -- announced; the claim's cell; the open borrow, in three entries]
-    use1 𝓛 (‵ (claim_owns R β h.table pl h.learnt h.state)) (id⊢ 𝓤 _) $
-    fsplit ! $ drop ! $ fpick ! (λ z. fsplit ! $ fpick ! (λ of. drop ! $ fsplit ! $
-    move ! (1 ∷ []) $
-    let d : BucketView = z.0 in
-    let t : Turn = z.1 in
-    let at : w ≡ block_ptr wb wo = at_block w of.0 in
-    rewrite ! 0 (λ (k : Learnt X.Denot). ‵ (has R d t β pl k)) gone refl $ fsplit ! $ fpick ! (λ leads. drop ! $
-    let J : Fml = fbor t.life (bucket_invariant R d t wb (wo + 0)) in
-    let found_value = some_in (slot_value x.slots h.index) blank.2 in
-    let xv : X.Denot = found_value.0 in
-    let rest : ℕ = len R d - suc i in
-    let many : len R d ≡ i + suc rest = omega (arith, of.4) in
-    let cs : List (Option X.Denot) = with_first i xv rest in
-    let Blank : Ptr → Fml = λ u. block_owns R (ghosts.dealloc_token x.heap) u cs 0 in
-    let Owned : Learnt X.Denot → ℕ → ℕ → ℕ → Fml = λ knows_of state pb o.
-    claim_owns R β h.table
-    (claim_fields h.id i (block_ptr wb wo) (value_at R (block_ptr pb o) i) h.sharing h.word h.reserved)
-    knows_of state in
-    let is_of : (u : Ptr)
-    → IsOf R h.table (claim_fields h.id i (block_ptr wb wo) u h.sharing h.word h.reserved) d =
-    λ u. (tt, of.1, of.2, of.3, of.4, of.5, of.6, of.7) in
-    let same : bucket_of h.id ≡ d.bucket = ap bucket_of (lies_at R d h.id i of.3) ∙ (place-id_at d.bucket i of.4).0 in
-    move ! (1 ∷ []) $ fsplit ! $ use1 𝓛 (‵ (before β t.life) ⊛ ‵ (before β t.life)) (before_dup 𝓛 β t.life) $ split ! $
-    -- [before, twice; the invariant; the pass; the token; the other tokens; the block]
-    move ! (0 ∷ 4 ∷ []) $
-    lends_token ! 𝓜 𝓡 β t.life q $ await ! tt $ pick ! (λ s. split ! $
-    -- [the life's token; the way back; before; the invariant; the pass; the other tokens; the
-    -- block]
-    move ! (3 ∷ []) $ use1 𝓛 (‵ (finv J) ⊛ ‵ (finv J)) (𝓛.invs.inv_dup J) $ split ! $ move ! (4 ∷ 1 ∷ []) $ fjoin ! $
-    -- [the sharing lasts; the invariant; the life's token; the way back; the pass; the other
-    -- tokens; the block]
-    let empty_but : slice_set x.slots i None ≡ empty_slots (len R d) =
-    blank.1 ∙ ap (λ (n : ℕ). empty_slots {X = X.Denot} (2 ^ n)) same in
-    let none : Option X.Denot = None in
-    let all_long : length x.slots ≡ len R d =
-    sym (length-set x.slots i none) ∙ ap length empty_but ∙ length-replicate (len R d) none in
-    let slots_are : x.slots ≡ cs =
-    parted_slots xv x.slots i (len R d) rest (omega (arith, of.4, all_long)) many empty_but found_value.1 in
-    move ! (6 ∷ []) $ rewrite ! 0 (λ (m : ℕ). ‵ (block_owns R (ghosts.dealloc_token x.heap) p x.slots m)) blank.0 refl $
-    rewrite ! 0
-    (λ (ys : List (Option X.Denot)). ‵ (block_owns R (ghosts.dealloc_token x.heap) p ys 0))
-    slots_are refl $
-    use1 𝓛 (given (Fits R (len R d)) (‵ (Blank p)))
-    (fits_so 𝓛 R (ghosts.dealloc_token x.heap) p cs (len R d) (sym (ap length slots_are) ∙ all_long)) $
-    learn ! (λ fits.
-    let close : i * stride R < 2 ^ 64 = value_near R (len R d) i fits of.4 in
-    use1 𝓛 (given (InBlock p) (‵ (Blank p))) (offers.placed 𝓛 R t LR d x.heap xv i rest many p) $ learn ! (λ lies.
-    let e : p ≡ new = at_block p lies in
-    rewrite ! 0 (λ (u : Ptr). ‵ (Blank u)) e refl $
-    -- [the block; the sharing lasts; the invariant; the life's token; the way back; the pass; the other tokens; how many ids were
-    -- held; the bucket is announced]
-    move ! (6 ∷ []) $ fsplit ! $ move ! (1 ∷ []) $ fsplit ! $ move ! (2 ∷ 1 ∷ []) $ fjoin ! $ move ! (1 ∷ []) $
-    -- [one of the other tokens; the other; the block; ..]
-    move ! (2 ∷ 5 ∷ 0 ∷ []) $
-    use3 𝓛 (later (some (λ (y : ℕ × offers.Names 𝓛 R t).
-    given (offers.Lies 𝓛 R t LR d x.heap xv i rest many new y.1)
-    (‵ (offers.private 𝓛 R t LR d x.heap xv i rest many new y.0 y.1)
-    ⊛ ‵ (offers.Gained 𝓛 R t LR d x.heap xv i rest many new y.0 y.1) ⊛ ‵ (flft t.life s) ⊛ ‵ (flft υ r)))))
-    (offers.lend_out 𝓛 R t LR d x.heap xv i rest many s υ r alive of.1 new) $
-    await ! tt $ pick ! (λ zn. learn ! (λ so. split3 ! $ move ! (2 ∷ []) $ split ! $
-    -- [the life's token; the other; the private block; what its claim has; nothing; the sharing lasts; the invariant; the way back;
-    -- the pass; how many ids were held; the bucket is announced]
-    move ! (4 ∷ 1 ∷ []) $ fsplit ! $ move ! (2 ∷ 1 ∷ []) $ fjoin ! $ move ! (1 ∷ []) $ fjoin ! $
-    move ! (2 ∷ 4 ∷ 5 ∷ 1 ∷ 6 ∷ 7 ∷ 0 ∷ 8 ∷ 9 ∷ 3 ∷ []) $
-    let won₀ : Ptr → Fml = offers.won 𝓛 R t LR d x.heap xv i rest many wb (wo + 0) s nb no' zn.0 zn.1 so in
-    let lost₀ : Ptr → Fml = offers.lost 𝓛 R t LR d x.heap xv i rest many wb (wo + 0) s nb no' zn.0 zn.1 so in
-    let won : Ptr → Fml = λ u. fsep (flft t.life s) (won₀ u) in
-    let lost : Ptr → Fml = λ u. fsep (flft t.life s) (lost₀ u) in
-    -- [the private block; the sharing lasts; the invariant; the life's token; the way back; the
-    -- pass; the other tokens; how many ids were held]
-    let enough : shown_by d ≤ had.ids = shown_reached d h.id i had.ids of.3 evident.1 in
-    move ! (7 ∷ []) $
-    rewrite ! 0 (λ (n : ℕ). ‵ (reached_owns n had.ids)) (evident.0 ∙ sym of.2) refl $
-    use1 𝓛 (‵ (reached_owns d.table (shown_by d))) (reached_less 𝓛 d.table had.ids (shown_by d) enough) $
-    move ! (0 ∷ 8 ∷ []) $
-    rewrite ! 1 (λ (m : Announcing). ‵ (announced m says.bucket)) (told_so.0 ∙ sym of.7) refl $
-    rewrite ! 1 (λ (k : ℕ). ‵ (announced d.word k)) (told_so.1 ∙ same) refl $
-    fjoin ! $
-    -- [what the block shows; the private block; the sharing lasts; the invariant; the life's token; the way back; the pass; the other
-    -- tokens; what its claim has]
-    move ! (6 ∷ []) $ rewrite ! 0 (λ (k : ℕ). ‵ (right_owns t.pass k)) of.3 refl $ move ! (2 ∷ 1 ∷ 0 ∷ []) $ group ! 3 $
-    sets !
-    (is !
-    (of_opd ! (load ! (through ! refl (fld ! refl (stop !))) (look_in ! 7 (sub ! 0 refl (whole !)))))
-    (ap ptr_val (leads ∙ at)))
-    refl (tt, tt) $
-    sets ! (of_opd ! (get ! refl)) refl (tt, tt) $
-    sets ! (is ! (of_opd ! (get_in ! (fld ! refl (stop !)) (sub ! 0 refl (whole !)))) (ap ptr_val e)) refl (tt, tt) $
-    first ! $ blocks ! $ sets ! (addr ! (through ! refl (fld ! refl (stop !)))) refl (tt, tt) $
-    sets ! (of_opd ! (get ! refl)) refl (tt, tt) $
-    sets ! (agg ! (and_then ! (lit ! tt) (no_more !))) refl seq_cst_good $
-    sets ! (agg ! (and_then ! (lit ! tt) (no_more !))) refl seq_cst_good $ move ! (2 ∷ 3 ∷ 0 ∷ []) $
-    use3 𝓛
-    (raw (𝓣.C _ (vptr wb (wo + 0) ∷ vnull ∷ vptr nb no' ∷ seq_cst ∷ seq_cst ∷ [])
-    (λ u. mean 𝓛 (calls.answered 𝓛 won lost u))))
-    (via 𝓤 _ (offers.offers 𝓛 R t LR d x.heap xv i rest many wb (wo + 0) s nb no' zn.0 zn.1 so)
-    (calls.exchanges 𝓛 𝓜 𝓡 (code.calls-std::sync::atomic::raw::ptr::compare_exchange 𝓡.env wired)
-    u64 word_laws (block_ptr wb (wo + 0)) null_ptr new won lost)) $
-    let arms : Body = head (after 5 fn.body) in
-    let Then =
-    any_q (after_seq 𝓤 H (Wp 𝓤 H 𝓣.C 𝓣.Λ Ev (after 6 fn.body) (at_return 𝓤 H Ev Post))
-    (at_return 𝓤 H Ev Post)) in
-    Calls-last ! (fm 𝓛 𝓜 𝓡) (calls.answered 𝓛 won lost)
-    (and_then ! (get ! refl) (and_then ! (lit ! tt)
-    (and_then ! (get ! refl) (and_then ! (get ! refl) (and_then ! (get ! refl) (no_more !))))))
-    (λ u.
-    calls.hears ! won lost
-    (λ u₁. lands_last ! refl (calls.answer_good (Ok u₁)) $
-    exec ! 𝓣.C 𝓣.Λ Ev (after 4 fn.body) (at_ret Ev Post) $
-    sets ! (of_opd ! (get ! refl)) refl (calls.answer_good (Ok u₁)) $ fsplit ! $
-    -- [the life's token; what was won; the sharing lasts; the way back; the other tokens; what the claim had]
-    let pb : ℕ = nb in let o : ℕ = no' in move ! (1 ∷ []) $ fsplit ! $ move ! (1 ∷ []) $
-    rewrite ! 0 (λ (k : ℕ). ‵ (fsep (right_owns t.filled k) (tells R d.sharing k (Some xv)))) (sym of.3) refl $
-    -- [what the claim gets; the part; the life's token; the sharing lasts; the way back; the other tokens; what the claim had]
-    move ! (1 ∷ 3 ∷ 0 ∷ 6 ∷ []) $ group ! 4 $
-    use1 𝓛 (later (‵ (Owned (Holding xv) 2 pb o)))
-    (installs_filled 𝓛 R d t β wb wo pb o h.id i h.sharing h.word h.reserved h.table xv zn.1.here
-    (offers.block_as 𝓛 R t LR d x.heap xv i rest many new zn.0 zn.1, _) (is_of (value_at R new i)) refl
-    (name_behind zn.1.before zn.1.here zn.1.behind i so.before)) $
-    await ! tt $
-    -- [the claim; the life's token; the way back; the other tokens]
-    move ! (1 ∷ 2 ∷ []) $
-    returns_token ! β t.life q s $ await ! tt $
-    first ! $ switches_on ! (get_tag ! (vrt ! refl (fld ! refl (stop !))) (whole !)) $ exec ! 𝓣.C 𝓣.Λ Ev (arm_body 0 arms) Then $
-    let nothing_good : Good (layout Back) (live 0 vnil) = (tt, (record { fits = lit< tt }, tt)) in
-    let three : Val = vstruct (vcons (vptr pb o) (vcons (vint w64 2) (vcons (live 0 vnil) vnil))) in
-    let triple_good : Good (layout Triple) three = (tt, (tt, (record { fits = lit< tt }, (nothing_good.1, tt)))) in
-    sets ! (of_opd ! (get ! refl)) refl (tt, tt) $
-    sets ! (agg ! (and_then ! (lit ! tt) (no_more !))) refl nothing_good $
-    sets_last ! (agg ! (and_then ! (get ! refl) (and_then ! (lit ! tt) (and_then ! (get ! refl) (no_more !))))) refl
-    triple_good $
-    forget_but ! Ev (21 ∷ 1 ∷ 2 ∷ []) refl $
-    -- [the token; the claim; the other tokens]
-    use0 𝓛 (‵ (Back.own_val None (live 0 vnil ∷ []))) (none_of 𝓛 Bl) $ move ! (1 ∷ 2 ∷ []) $
-    ends 𝓛 𝓜 𝓡 X y l pb o 2 (lit< tt) (live 0 vnil) nothing_good None (Holding xv) refl is_index close tt (sym (ap found_as found_value.1)))
-    (λ u₁. lands_last ! refl (calls.answer_good (Err u₁)) $
-    exec ! 𝓣.C 𝓣.Λ Ev (after 4 fn.body) (at_ret Ev Post) $
-    sets ! (of_opd ! (get ! refl)) refl (calls.answer_good (Err u₁)) $ fsplit ! $
-    -- [the life's token; what came back; the sharing lasts; the way back; the other tokens; what the claim had]
-    move ! (1 ∷ []) $ fsplit ! $ fsplit ! $ move ! (2 ∷ []) $
-    rewrite ! 0 (λ (k : ℕ). ‵ (right_owns t.pass k)) (sym of.3) refl $
-    -- [the pass; the private block; what was seen; the life's token; the sharing lasts; the way back; the other tokens; ..]
-    move ! (7 ∷ []) $ drop ! $ move ! (1 ∷ 2 ∷ 3 ∷ 4 ∷ 5 ∷ 0 ∷ []) $
-    use1 𝓛 (later (‵ (Blank new))) (offers.take_back 𝓛 R t LR d x.heap xv i rest many new zn.0 zn.1 so) $ await ! tt $
-    move ! (1 ∷ []) $
-    in_a_block ! u₁ (glimpse 𝓛 R d t ffalse ftrue)
-    (snd∗ 𝓤 (sem 𝓛 (said_fact (d.reserved ≡ false))) (never 𝓤)) (λ pb o found.
-    let first_at : Ptr = block_ptr pb o in
-    fsplit ! $ fpick ! (λ zz.
-    -- [the part; nothing; the block; the life's token; the sharing lasts; the way back; the pass;
-    -- the other tokens]
-    move ! (0 ∷ 4 ∷ 3 ∷ 6 ∷ []) $ group ! 4 $
-    use1 𝓛 (later (‵ (flft t.life s) ⊛ ‵ (Owned Vacant 1 pb o)))
-    (installs 𝓛 R d t β wb wo pb o h.id i h.sharing h.word h.reserved h.table s zz
-    (is_of (value_at R first_at i))) $
-    await ! tt $ split ! $
-    -- [the life's token; the claim; nothing; the block; the way back; the other tokens]
-    move ! (0 ∷ 4 ∷ []) $
-    returns_token ! β t.life q s $ await ! tt $
-    -- [the token; the claim; nothing; the block; the other tokens]
-    let back : Val = live 1 (vcons bv vnil) in
-    let block_good = fields.block_good p in
-    let held : Good (layout Back) back =
-    (and_tt _ block_good.0, (record { fits = lit< tt }, (block_good.1, tt))) in
-    first ! $ switches_on ! (get_tag ! (vrt ! refl (fld ! refl (stop !))) (whole !)) $ exec ! 𝓣.C 𝓣.Λ Ev (arm_body 1 arms) Then $
-    sets !
-    (is !
-    (of_opd !
-    (get_in ! (vrt ! refl (fld ! refl (stop !))) (in_variant ! 1 0 refl refl (whole !))))
-    (ap ptr_val found))
-    refl (tt, tt) $
-    let three : Val = vstruct (vcons (vptr pb o) (vcons (vint w64 1) (vcons back vnil))) in
-    let triple_good : Good (layout Triple) three = (and_tt _ held.0, (tt, (record { fits = lit< tt }, (held.1, tt)))) in
-    sets ! (of_opd ! (get ! refl)) refl (tt, tt) $ sets ! (of_opd ! (get ! refl)) refl block_good $
-    sets ! (agg ! (and_then ! (lit ! tt) (and_then ! (get ! refl) (no_more !)))) refl held $
-    sets_last ! (agg ! (and_then ! (get ! refl) (and_then ! (lit ! tt) (and_then ! (get ! refl) (no_more !))))) refl
-    triple_good $
-    forget_but ! Ev (21 ∷ 1 ∷ 2 ∷ []) refl $
-    -- [the token; the claim; nothing; the block; the other tokens]
-    move ! (3 ∷ []) $ rewrite ! 0 (λ (u₂ : Ptr). ‵ (Blank u₂)) (sym e) refl $
-    rewrite ! 0
-    (λ (ys : List (Option X.Denot)). ‵ (block_owns R (ghosts.dealloc_token x.heap) p ys 0))
-    (sym slots_are) refl $
-    rewrite ! 0 (λ (n : ℕ). ‵ (block_owns R (ghosts.dealloc_token x.heap) p x.slots n)) (sym blank.0) refl $
-    use0 𝓛 (‵ ((fields.FieldsType R Z ghosts).own_val (p, (record {}, tt)) (bv ∷ [])))
-    (fields.made R Z ghosts 𝓛 p) $
-    fjoin ! $ use1 𝓛 (‵ (Back.own_val (Some x) (back ∷ []))) (Some-of 𝓛 Bl x bv) $
-    -- [the block; the token; the claim; nothing; the other tokens]
-    move ! (3 ∷ []) $ drop ! $ move ! (1 ∷ 2 ∷ []) $
-    ends 𝓛 𝓜 𝓡 X y l pb o 1 (lit< tt) back held (Some x) Vacant refl is_index close (refl, refl, blank.0) refl))))))))))))))))))))))
+    (λ κs qs bounds a gh are. walk 𝓛 𝓜 𝓡 X κs qs bounds a gh wired (param_laws 0 X L) are.1.0.1)
