@@ -117,10 +117,6 @@ fits_so 𝓛 R token p cs n long =
     check ! (subst (Fits R) long so.1) $
     nothing ! $ fpack ! (InBlock p × Fits R (length cs)) (λ _. ftrue) so $ fjoin ! $ done !)
 
--- goes on with a name for a value, so that no formula repeats the value
-abbrev called : (A : Type 0) {B : Type 1} → A → (A → B) → B
-called A a goes = goes a
-
 -- the value of an option that has one
 some_in : {X : Type 0} (v : Option X) → IsSome v → (x : X) × (v ≡ Some x)
 some_in None has = cc
@@ -561,10 +557,10 @@ module _ {M : Type 1} {𝓤 : Ura M} (𝓛 : Logic 𝓤) (𝓜 : Model 𝓤 𝓛
         let at : w ≡ block_ptr wb wo = at_block w of.0 in
         rewrite ! 0 (λ (k : Learnt X.Denot). ‵ (has R d t β pl k)) gone refl $ fsplit ! $ fpick ! (λ leads. drop ! $
         let J : Fml = fbor t.life (bucket_invariant R d t wb (wo + 0)) in
-        called ((u : X.Denot) × (slot_value x.slots h.index ≡ Some u)) (some_in (slot_value x.slots h.index) blank.2) (λ found_value.
+        let found_value : (u : X.Denot) × (slot_value x.slots h.index ≡ Some u) = some_in (slot_value x.slots h.index) blank.2 in
         let xv : X.Denot = found_value.0 in
         let rest : ℕ = len R d - suc i in
-        called (len R d ≡ i + suc rest) (omega (arith, of.4)) (λ many.
+        let many : len R d ≡ i + suc rest = omega (arith, of.4) in
         let cs : List (Option X.Denot) = with_first i xv rest in
         let Blank : Ptr → Fml = λ u. block_owns R (ghosts.dealloc_token x.heap) u cs 0 in
         let same : bucket_of h.id ≡ d.bucket = ap bucket_of (lies_at R d h.id i of.3) ∙ (place-id_at d.bucket i of.4).0 in
@@ -624,7 +620,7 @@ module _ {M : Type 1} {𝓤 : Ura M} (𝓛 : Logic 𝓤) (𝓜 : Model 𝓤 𝓛
         -- tokens; what its claim has]
         move ! (6 ∷ []) $ rewrite ! 0 (λ (k : ℕ). ‵ (right_owns t.pass k)) of.3 refl $ move ! (2 ∷ 1 ∷ 0 ∷ []) $ group ! 3 $
         forget_but ! (Ev l) (1 ∷ 2 ∷ 3 ∷ []) refl $
-        asks LR d t of xv rest many s zn.0 zn.1 so wired l (leads ∙ at) e slots_are blank.0 is_index close found_value.1)))))))))))))))))))
+        asks LR d t of xv rest many s zn.0 zn.1 so wired l (leads ∙ at) e slots_are blank.0 is_index close found_value.1)))))))))))))))))
 
 pub exchange_spec : {M : Type 1} → statement M
 exchange_spec 𝓤 𝓛 𝓜 𝓡 wired X L =
