@@ -10,7 +10,7 @@ use Rattle.thread_local_base.specs.Learnt.{Missing}
 use Rattle.thread_local_ids.specs.Views.{TokenView}
 use Rattle.thread_local_base.specs.IdMoves.{IdMove, Take, Give, moves_coded, noted}
 use mathlib.Core.List.{IsPrefix}
-use Rattle.thread_local_ids.specs.declared.page.Tenure.{Tenure}
+use Rattle.thread_local_ids.specs.declared.rights.page.Tenure.{Tenure}
 use Rattle.thread_local_ids.specs.Rights.{taken_id}
 use Rattle.thread_local_shared_buckets.specs.Known.{HasLooked}
 use Rattle.thread_local_shared_buckets.specs.Views.{ClaimView}

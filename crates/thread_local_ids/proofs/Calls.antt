@@ -33,9 +33,9 @@ use Rattle.std.specs.contracts.sync.atomic.raw.park as park
 use Rattle.std.proofs.sync.atomic.raw.park.Symbol as park_is
 use Rattle.std.proofs.sync.atomic.raw.park.Met as park_met
 use Rattle.std.proofs.raw_atomic.Calls.{fm, stored, marker, marker_laws, dict, picked, found, called, answers}
-use Rattle.thread_local_ids.specs.contracts.word.exchange as step
-use Rattle.thread_local_ids.proofs.word.exchange.Symbol as step_is
-use Rattle.thread_local_ids.proofs.word.exchange.Met as step_met
+use Rattle.thread_local_ids.specs.contracts.locks.word.exchange as step
+use Rattle.thread_local_ids.proofs.locks.word.exchange.Symbol as step_is
+use Rattle.thread_local_ids.proofs.locks.word.exchange.Met as step_met
 use Rattle.thread_local_base.proofs.Walking.{knows}
 
 module _ {M : Type 1} {𝓤 : Ura M} (𝓛 : Logic 𝓤) (𝓜 : Model 𝓤 𝓛.H) (𝓡 : Running 𝓤 𝓛.H 𝓜) where

@@ -16,8 +16,8 @@ use denote.Struct.Laws.{RawPtr-copy, field_copy}
 use denote.Struct.Struct.{Struct}
 use denote.Struct.Owning.{shape}
 use Rattle.std.specs.contracts.marker.PhantomData as marker
-use Rattle.thread_local_ids.specs.declared.lock.Fits.{Ghosts}
-use Rattle.thread_local_ids.specs.contracts.lock.LockGuard as guard
+use Rattle.thread_local_ids.specs.declared.locks.lock.Fits.{Ghosts}
+use Rattle.thread_local_ids.specs.contracts.locks.lock.LockGuard as guard
 
 abbrev pub guard_of : Ptr → Val
 guard_of p = vstruct (vcons (ptr_val p) (vcons (vstruct vnil) vnil))

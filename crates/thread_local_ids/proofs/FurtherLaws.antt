@@ -12,7 +12,7 @@ use Rattle.thread_local_ids.specs.FirstIds.{IsSameBeyond, HasFurther}
 use Rattle.thread_local_ids.specs.Filled.{IsFilled, TakesFurther}
 use Rattle.thread_local_ids.proofs.Logs.{O}
 use Rattle.thread_local_ids.specs.Taken.{Taken, IsTakenAfter, IsTake}
-use Rattle.thread_local_ids.specs.declared.page.Page.{Page}
+use Rattle.thread_local_ids.specs.declared.rights.page.Page.{Page}
 use Rattle.thread_local_base.specs.declared.manager.LocalError.{LocalError}
 
 -- where every id below a number is held, the least that isn't is no less

@@ -15,10 +15,10 @@ use denote.Ref.{NamedLft}
 use denote.RawPtr.{Ptr, block_ptr}
 use denote.Struct.OwningLaws.{part_out, part_in}
 use Rattle.std.proofs.cell.Through.{Handed, hands_before}
-use Rattle.thread_local_ids.specs.declared.lock.Fits.{Ghosts}
+use Rattle.thread_local_ids.specs.declared.locks.lock.Fits.{Ghosts}
 use Rattle.thread_local_ids.specs.Guarded.{guard_with_value}
 use Rattle.thread_local_ids.specs.Locking.{Fitting, offset, LockTurn, named_value, lock_invariant, guarding, guard_owns}
-use Rattle.thread_local_ids.specs.contracts.lock.LockGuard as guard
+use Rattle.thread_local_ids.specs.contracts.locks.lock.LockGuard as guard
 use Rattle.thread_local_ids.proofs.Fields.{FieldsType}
 
 module _ {M : Type 1} {𝓤 : Ura M} (𝓛 : Logic 𝓤) (a : NamedLft) (R : RattleType) (g : Ghosts R.Denot)

@@ -30,8 +30,8 @@ use Rattle.std.proofs.cell.BorrowLemmas.{flag}
 use Rattle.thread_local_ids.specs.Locking.{LockView, Fitting, offset, LockTurn, named_value, fitting, with_word}
 use Rattle.thread_local_ids.specs.Locking.{lock_invariant, lock_kept, lock_shares}
 use Rattle.thread_local_base.specs.Fact.{fact}
-use Rattle.thread_local_ids.specs.declared.lock.Fits.{Ghosts}
-use Rattle.thread_local_ids.specs.contracts.lock.Lock as C
+use Rattle.thread_local_ids.specs.declared.locks.lock.Fits.{Ghosts}
+use Rattle.thread_local_ids.specs.contracts.locks.lock.Lock as C
 use Rattle.thread_local_base.proofs.SharedWord.{word_out, word_in}
 use Rattle.thread_local_base.proofs.Signs.{signs}
 

@@ -11,8 +11,8 @@ use denote.Shadow.{makes_shadow}
 use denote.Struct.Struct.{Struct}
 use denote.Struct.Owning.{shape}
 use Rattle.thread_local_ids.specs.Told.{tells, book_owns}
-use Rattle.thread_local_ids.specs.contracts.book.Book as Book
-use Rattle.thread_local_ids.specs.contracts.witness.Witness as Witness
+use Rattle.thread_local_ids.specs.contracts.tokens.book.Book as Book
+use Rattle.thread_local_ids.specs.contracts.tokens.witness.Witness as Witness
 
 abbrev pub token_val : Val
 token_val = vstruct (vcons (vstruct vnil) vnil)

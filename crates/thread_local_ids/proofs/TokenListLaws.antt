@@ -23,7 +23,7 @@ use denote.Struct.Owning.{shape}
 use Rattle.thread_local_ids.specs.Told.{tells, told_or_untold}
 use Rattle.thread_local_ids.specs.Views.{TokenView}
 use Rattle.thread_local_ids.specs.TokenLists.{AllOf, tell_each}
-use Rattle.thread_local_ids.specs.contracts.token_list.TokenList as TokenList
+use Rattle.thread_local_ids.specs.contracts.tokens.token_list.TokenList as TokenList
 use Rattle.thread_local_ids.proofs.Made.{token_val}
 use Rattle.thread_local_ids.proofs.ToldElements.{told_dup, telling_alike, tells_keyless}
 use Rattle.thread_local_base.proofs.Signs.{signs}

@@ -1,6 +1,6 @@
 -- What a contract sees of a guard, and of an owner's lock, once the value was written through a `&mut`.
 use Rattle.std.specs.Prelude.{ℕ}
-use Rattle.thread_local_ids.specs.declared.lock.LockGuard.{LockGuard}
+use Rattle.thread_local_ids.specs.declared.locks.lock.LockGuard.{LockGuard}
 use Rattle.thread_local_ids.specs.Locking.{LockView}
 
 -- the guard with another value behind it

@@ -2,9 +2,9 @@
 use Rattle.std.specs.Prelude.{◌≡◌, ℕ, ◌-◌, ◌^◌, [], refl}
 use Rattle.std.specs.Coded.{Coded, coded_ℕ, code_by}
 use Rattle.thread_local_ids.specs.declared.shared_ids.SharedIds.TheInside.{Inside}
-use Rattle.thread_local_ids.specs.declared.right.Right.{Right}
-use Rattle.thread_local_ids.specs.declared.page.Page.{Page}
-use Rattle.thread_local_ids.specs.declared.room.Room.{Room}
+use Rattle.thread_local_ids.specs.declared.rights.right.Right.{Right}
+use Rattle.thread_local_ids.specs.declared.rights.page.Page.{Page}
+use Rattle.thread_local_ids.specs.declared.rights.room.Room.{Room}
 
 -- the name of the table
 pub record SharedView : Type 0 where

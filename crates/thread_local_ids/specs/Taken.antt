@@ -5,10 +5,10 @@ use Rattle.thread_local_base.specs.Held.{HoldsAllBelow}
 use Rattle.thread_local_base.specs.IdMoves.{IdMove, Take, held_after, noted}
 use Rattle.thread_local_base.specs.declared.manager.LocalError.{LocalError}
 use Rattle.thread_local_ids.specs.Rights.{taken_id}
-use Rattle.thread_local_ids.specs.declared.held.HeldId.{HeldId}
-use Rattle.thread_local_ids.specs.declared.right.Right.{Right}
-use Rattle.thread_local_ids.specs.declared.page.Page.{Page}
-use Rattle.thread_local_ids.specs.declared.page.Tenure.{Tenure}
+use Rattle.thread_local_ids.specs.declared.rights.held.HeldId.{HeldId}
+use Rattle.thread_local_ids.specs.declared.rights.right.Right.{Right}
+use Rattle.thread_local_ids.specs.declared.rights.page.Page.{Page}
+use Rattle.thread_local_ids.specs.declared.rights.page.Tenure.{Tenure}
 
 abbrev pub Taken : Type 0
 Taken = HeldId × Right × Tenure

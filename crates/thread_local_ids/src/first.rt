@@ -14,11 +14,11 @@ ghost use Rattle.thread_local_ids.specs.FirstIds.{FirstView, first_coded, lies_w
 ghost use Rattle.thread_local_ids.specs.FirstIds.{IsWordOf, IsSameBeyond, IsGivenBeyond, HasFurther, AreOutOf, IsReturn};
 ghost use Rattle.thread_local_ids.specs.FirstIds.{is_full as is_full_word, word_with as word_that_holds};
 
-use crate::held::{HeldId, Taken};
-use crate::page::{History, Page, Tenure};
-use crate::right::{Right, Rights};
-use crate::room::Room;
-use crate::word::exchange;
+use crate::locks::word::exchange;
+use crate::rights::held::{HeldId, Taken};
+use crate::rights::page::{History, Page, Tenure};
+use crate::rights::right::{Right, Rights};
+use crate::rights::room::Room;
 use std::marker::{Brand, Model, Move, Owns, PhantomData};
 use std::sync::atomic::Ordering::SeqCst;
 use std::sync::atomic::raw;

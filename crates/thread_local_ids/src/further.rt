@@ -8,11 +8,11 @@ ghost use Rattle.thread_local_ids.specs.FirstIds.{IsReturn, IsSameBeyond};
 ghost use Rattle.thread_local_ids.specs.Filled.{IsFilled, TakesFurther};
 
 use crate::first::{FIRST_IDS, FirstIds, Log, is_full, peak};
-use crate::held::{HeldId, Taken};
-use crate::lock::Fits;
-use crate::page::{Page, Tenure};
-use crate::right::Right;
-use crate::room::Room;
+use crate::locks::lock::Fits;
+use crate::rights::held::{HeldId, Taken};
+use crate::rights::page::{Page, Tenure};
+use crate::rights::right::Right;
+use crate::rights::room::Room;
 use std::marker::Model;
 use thread_local_base::{LocalError, ThreadIdManager};
 

@@ -3,31 +3,22 @@
 //! published with.
 #![tactic(auto)]
 
-pub mod book;
 mod first;
 mod further;
-pub mod held;
-pub mod lock;
-pub mod page;
-pub mod reached;
-pub mod right;
-pub mod room;
+pub mod locks;
+pub mod rights;
 pub mod shared_ids;
-pub mod token;
-pub mod token_list;
-pub mod told_list;
-pub mod witness;
-pub mod word;
+pub mod tokens;
 
-pub use book::Book;
-pub use held::{HeldId, Taken};
-pub use lock::{Fits, Lock, LockGuard};
-pub use page::{History, Page, Tenure};
-pub use reached::Reached;
-pub use right::{Right, Rights};
-pub use room::Room;
+pub use locks::lock::{Fits, Lock, LockGuard};
+pub use rights::held::{HeldId, Taken};
+pub use rights::page::{History, Page, Tenure};
+pub use rights::reached::Reached;
+pub use rights::right::{Right, Rights};
+pub use rights::room::Room;
 pub use shared_ids::SharedIds;
-pub use token::Token;
-pub use token_list::TokenList;
-pub use told_list::Told;
-pub use witness::Witness;
+pub use tokens::book::Book;
+pub use tokens::token::Token;
+pub use tokens::token_list::TokenList;
+pub use tokens::told_list::Told;
+pub use tokens::witness::Witness;

@@ -9,12 +9,12 @@ ghost use Rattle.thread_local_ids.specs.FirstIds.{IsReturn};
 
 use crate::first::{FIRST_IDS, FirstIds};
 use crate::further::Further;
-use crate::held::{HeldId, Taken};
-use crate::lock::Lock;
-use crate::page::{Page, Tenure};
-use crate::reached::Reached;
-use crate::right::Right;
-use crate::room::Room;
+use crate::locks::lock::Lock;
+use crate::rights::held::{HeldId, Taken};
+use crate::rights::page::{Page, Tenure};
+use crate::rights::reached::Reached;
+use crate::rights::right::Right;
+use crate::rights::room::Room;
 use std::alloc::{AllocError, Global};
 use std::marker::Model;
 use std::sync::Wait;

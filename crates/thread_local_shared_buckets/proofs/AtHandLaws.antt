@@ -119,7 +119,7 @@ module _ {V : Type 0} where
       (cases_lt bucket 63)
 
   -- it has moved on to a later bucket
-  pub record GoesOn (w to : Walk V) : Type 0 where
+  pub record MovesOn (w to : Walk V) : Type 0 where
     pub walk : IsWalk to
     pub passed : to.rest ≡ 0
     pub further : w.raw.bucket < to.raw.bucket
@@ -143,7 +143,7 @@ module _ {V : Type 0} where
       → lies_in w.own w.raw.bucket ≡ false
       → size ≡ 2 ^ bucket → TakesFirst w.left bucket rest
       → AllOf w.buckets.now.sharing (λ p. IsBehind w.raw p.id) w.told
-      → GoesOn w (further_on w bucket size rest)
+      → MovesOn w (further_on w bucket size rest)
   moves_on w bucket size rest walk none low elsewhere is takes behind =
       let in_table = takes.in_table in
       let further = first_further w.buckets.now.sharing w.told w.own w.raw.bucket w.left bucket rest walk.left low takes in
@@ -201,9 +201,9 @@ module _ {V : Type 0} where
 
   pub moves_to : (w met : Walk V) (bucket size : ℕ) → Takes w met bucket → IsWalk w → w.rest ≡ 0 → w.raw.bucket < 63
       → lies_in w.own w.raw.bucket ≡ false → size ≡ 2 ^ bucket → AllOf w.buckets.now.sharing (λ p. IsBehind w.raw p.id) w.told
-      → GoesOn w (record met { raw = at_bucket met.raw bucket size; row = None; chunks = 0 })
+      → MovesOn w (record met { raw = at_bucket met.raw bucket size; row = None; chunks = 0 })
   moves_to w met bucket size takes walk none low elsewhere is behind =
-      subst (λ (m : Walk V). GoesOn w (record m { raw = at_bucket m.raw bucket size; row = None; chunks = 0 })) (sym takes.is)
+      subst (λ (m : Walk V). MovesOn w (record m { raw = at_bucket m.raw bucket size; row = None; chunks = 0 })) (sym takes.is)
       (moves_on w bucket size takes.rest walk none low elsewhere is takes.takes behind)
 
   begins_shared : (raw : RawIter) (own : Option (Own V)) → raw ≡ record { yielded = 0; bucket = 0; bucket_size = 1; index = 0 }

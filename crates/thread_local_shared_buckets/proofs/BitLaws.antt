@@ -1,5 +1,5 @@
 -- Tests, bits and chunks.
-use Rattle.thread_local_shared_buckets.proofs.Findings.{LiesOutside, MarksOwn, IsAlone}
+use Rattle.thread_local_shared_buckets.proofs.Findings.{LiesOutside, MarksOwn, IsOwnAlone}
 use Rattle.std.proofs.Common.{◌≡◌, ◌≢◌, ℕ, ◌+◌, ◌/◌, ◌%◌, ◌<◌, ◌≤◌, ◌⊎◌, Bool, true, false, cond, eqb}
 use Rattle.std.proofs.Common.{◌*◌, ◌^◌, bit_or, refl, ap, sym, ◌∙◌, subst, arith, ⊎_elim, inl, inr}
 use Rattle.std.proofs.Common.{Option, None, Some, IfSome}
@@ -135,12 +135,12 @@ alone_set index =
     (let small : index % 64 < 64 = omega arith in set_bit 0 (index % 64) small)
 
 -- where no look finds a flag, it is the one at hand, if it lies in the bucket
-pub alone_own : (own : Option ℕ) (from chunk flag : ℕ) → MarksOwn own chunk flag → flag ≢ 0 → IsAlone own from (chunk + 1) flag
+pub alone_own : (own : Option ℕ) (from chunk flag : ℕ) → MarksOwn own chunk flag → flag ≢ 0 → IsOwnAlone own from (chunk + 1) flag
 alone_own None from chunk flag marks some = absurd (some marks)
 alone_own (Some index) from chunk flag marks some =
     (ap (λ (n : ℕ). n + 1) marks.0, subst (λ (n : ℕ). IsWordBut n 0 (index % 64) true) (sym marks.1) (alone_set index))
 
-pub alone_none : (own : Option ℕ) (from chunk flag rest : ℕ) → MarksOwn own chunk flag → flag ≡ 0 → rest ≡ 0 → IsAlone own from from rest
+pub alone_none : (own : Option ℕ) (from chunk flag rest : ℕ) → MarksOwn own chunk flag → flag ≡ 0 → rest ≡ 0 → IsOwnAlone own from from rest
 alone_none None from chunk flag rest marks none nothing = (refl, nothing)
 alone_none (Some index) from chunk flag rest marks none nothing =
     let small : index % 64 < 64 = omega arith in

@@ -84,8 +84,8 @@ module _ {M : Type 1} {𝓤 : Ura M} (𝓛 : Logic 𝓤) (R : RattleType) (slot 
       learn ! (λ none. show ! (Left v ⟦ Holds None ⟧) claimed $ split3 ! $ done !))
 
   -- what a look finds: what the slot holds, by whether the flag is set
-  abbrev pub Found : Bool → Bool → Fml
-  Found looked set = fex (Option R.Denot) (λ u. fsep (fact (IsTold looked set u)) (Holds u))
+  abbrev pub HoldsWhatIsTold : Bool → Bool → Fml
+  HoldsWhatIsTold looked set = fex (Option R.Denot) (λ u. fsep (fact (IsTold looked set u)) (Holds u))
 
   -- the address of the word that has the slot's flag
   abbrev pub chunk_word : Ptr
@@ -93,7 +93,7 @@ module _ {M : Type 1} {𝓤 : Ura M} (𝓛 : Logic 𝓤) (R : RattleType) (slot 
 
   -- what a look at the flag takes from the word it loads, for the right or for the pass
   abbrev pub Finds : Bool → ℕ → Fml
-  Finds looked n = Found looked (is_set n (i % 64))
+  Finds looked n = HoldsWhatIsTold looked (is_set n (i % 64))
 
   pub finds : (q : Share) (looked : Bool)
       → A.inv (fbor t.life I) ∗ (A.lft t.life q ∗ (⟦ Which ⟧ ∗ ⟦ claims_side looked d.table t.pass k ⟧))

@@ -6,7 +6,7 @@ use Rattle.thread_local_base.specs.Cursor.{cursor_id}
 use Rattle.thread_local_base.specs.Place.{id_at}
 use denote.Ref.{Bor}
 use Rattle.thread_local_buckets.specs.declared.cursor.RawIter.{RawIter}
-use Rattle.thread_local_ids.specs.declared.witness.Witness.{Witness}
+use Rattle.thread_local_ids.specs.declared.tokens.witness.Witness.{Witness}
 use Rattle.thread_local_ids.specs.TokenLists.{AllOf}
 use Rattle.thread_local_ids.specs.Views.{TokenView}
 use Rattle.thread_local_shared_buckets.specs.Shared.{BucketView}
@@ -25,8 +25,8 @@ abbrev pub MarksOwn : Option ℕ → ℕ → ℕ → Type 0
 MarksOwn own chunk flag = MatchOption own (flag ≡ 0) (λ index. (chunk ≡ index / 64) × (flag ≡ 1 * 2 ^ (index % 64) % 2 ^ 64))
 
 -- no look found a flag: the own slot's flag is at hand, or nothing is
-abbrev pub IsAlone : Option ℕ → ℕ → ℕ → ℕ → Type 0
-IsAlone own from chunks flags =
+abbrev pub IsOwnAlone : Option ℕ → ℕ → ℕ → ℕ → Type 0
+IsOwnAlone own from chunks flags =
     MatchOption own ((chunks ≡ from) × (flags ≡ 0))
     (λ index. (chunks ≡ index / 64 + 1) × IsWordBut flags 0 (index % 64) true)
 
@@ -71,7 +71,7 @@ module _ {V : Type 0} where
   LooksAt (Some row) own from seen chunks flags = IsRead row.of own from seen chunks flags
 
   abbrev pub HasLookedOn : Option (Row V) → Option ℕ → ℕ → Option (Seen V) × ℕ × ℕ → Type 0
-  HasLookedOn row own from x = MatchOption x.0 (IsAlone own from x.1 x.2) (λ seen. LooksAt row own from seen x.1 x.2)
+  HasLookedOn row own from x = MatchOption x.0 (IsOwnAlone own from x.1 x.2) (λ seen. LooksAt row own from seen x.1 x.2)
 
   -- where looks at a bucket's chunks from this one on found a flag, the id's flag is at hand, if the id
   -- lies in the chunks that were looked at; where none did, it doesn't lie in these chunks

@@ -265,7 +265,7 @@ module _ {M : Type 1} {𝓤 : Ura M} (𝓛 : Logic 𝓤) where
         let c : ℕ = i / 64 in
         let n : ℕ = slice_index ns c in
         let Fs : ℕ → ℕ → Fml = flags_at R (len R d) b o in
-        let Found : ℕ → SProp 𝓤 = Out ⟦ fex (List ℕ) Slots ⟧ in
+        let IsOpened : ℕ → SProp 𝓤 = Out ⟦ fex (List ℕ) Slots ⟧ in
         let name : ℕ = get_or s.names i 0 in
         qed 𝓛 (‵ (Slots ns) ∷ []) ∵ fsplit3 ! $ fpick ! (λ are. drop ! $
         let inside : c < length ns =
@@ -281,7 +281,7 @@ module _ {M : Type 1} {𝓤 : Ura M} (𝓛 : Logic 𝓤) where
         (λ y η m apart. apart_same ns inside y η m apart)) $ split ! $
         rewrite ! 0 (λ (G : Fml). ‵ G) (numbered_is ns) refl $
         -- [the slot; its way back; the word; its way back]
-        show ! Found n $ check ! (are.1 c) $ move ! (2 ∷ 0 ∷ []) $ frame ! $ frame ! $
+        show ! IsOpened n $ check ! (are.1 c) $ move ! (2 ∷ 0 ∷ []) $ frame ! $ frame ! $
         for_each ! (Back ⟦ fex (List ℕ) Slots ⟧ n) (λ y.
         let W : SProp 𝓤 = ⟦ each Fs (T y) 0 ⟧ in
         assume ! (‵ (Flags y.word) ⊛ ‵ (Slot y.set)) $ split ! $ move ! (3 ∷ []) $

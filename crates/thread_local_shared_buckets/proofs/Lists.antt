@@ -90,22 +90,22 @@ named_are_of ds w reserved long named =
     named i within ∙ ap (bucket_view s w) same)
 
 module _ {V W : Type 0} (slots : W → List (Option V)) where
-  abbrev pub Fits : List BucketView → List W → Type 0
-  Fits [] [] = Unit {0}
-  Fits [] (w ∷ ws) = ⊥
-  Fits (d ∷ ds) [] = ⊥
-  Fits (d ∷ ds) (w ∷ ws) = Fit d (slots w) × Fits ds ws
+  abbrev pub AllFit : List BucketView → List W → Type 0
+  AllFit [] [] = Unit {0}
+  AllFit [] (w ∷ ws) = ⊥
+  AllFit (d ∷ ds) [] = ⊥
+  AllFit (d ∷ ds) (w ∷ ws) = Fit d (slots w) × AllFit ds ws
 
   abbrev pub slots_at : List W → ℕ → List (Option V)
   slots_at ws i = slice_index_or (map slots ws) i []
 
-  pub fits_long : (ds : List BucketView) (ws : List W) → Fits ds ws → length ws ≡ length ds
+  pub fits_long : (ds : List BucketView) (ws : List W) → AllFit ds ws → length ws ≡ length ds
   fits_long [] [] f = refl
   fits_long [] (w ∷ ws) f = absurd f
   fits_long (d ∷ ds) [] f = absurd f
   fits_long (d ∷ ds) (w ∷ ws) f = ap suc (fits_long ds ws f.1)
 
-  pub fits_at : (ds : List BucketView) (ws : List W) → Fits ds ws → (i : ℕ) → i < length ds → Fit (bucket_at ds i) (slots_at ws i)
+  pub fits_at : (ds : List BucketView) (ws : List W) → AllFit ds ws → (i : ℕ) → i < length ds → Fit (bucket_at ds i) (slots_at ws i)
   fits_at [] [] f i near = absurd (omega arith)
   fits_at [] (w ∷ ws) f i near = absurd f
   fits_at (d ∷ ds) [] f i near = absurd f
@@ -114,7 +114,7 @@ module _ {V W : Type 0} (slots : W → List (Option V)) where
 
   pub fits_from : (ds : List BucketView) (ws : List W) → length ws ≡ length ds
       → ((i : ℕ) → i < length ds → Fit (bucket_at ds i) (slots_at ws i))
-      → Fits ds ws
+      → AllFit ds ws
   fits_from [] [] long all = tt
   fits_from [] (w ∷ ws) long all = absurd (omega arith)
   fits_from (d ∷ ds) [] long all = absurd (omega arith)
@@ -134,7 +134,7 @@ module _ {V W : Type 0} (slots : W → List (Option V)) where
   standing_if d cs kept (inr f) = let some_slots : 0 < 2 ^ d.bucket = pow_pos d.bucket in lt-ltb 0 (length cs) (omega arith)
 
   module _ (ds : List BucketView) (w : Announcing) (ws : List W) (reserved : ℕ) (long : length ds ≡ 63)
-      (named : AreBuckets ds w reserved) (first : AreOfFirstBuckets reserved) (f : Fits ds ws) where
+      (named : AreBuckets ds w reserved) (first : AreOfFirstBuckets reserved) (f : AllFit ds ws) where
     whole_at : (b : ℕ) (t : Bool) → nat_lt b 63 ≡ t → (length (slots_at ws b) ≡ 0) ⊎ (length (slots_at ws b) ≡ 2 ^ b)
     whole_at b true e =
         let near : b < 63 = ltb-true b 63 e in
@@ -167,7 +167,7 @@ module _ {V W : Type 0} (slots : W → List (Option V)) where
         (owned.standing i near (ltb-true (id_at i 0) s.reserved e)) in
         absurd (omega arith)
 
-    pub fit_all : Fits (table_buckets s w) ws
+    pub fit_all : AllFit (table_buckets s w) ws
     fit_all =
         let long : length (table_buckets s w) ≡ 63 = table_long s w in
         fits_from (table_buckets s w) ws (sym (length-map ws slots) ∙ owned.table.buckets ∙ sym long)

@@ -14,7 +14,7 @@ use Rattle.thread_local_shared_buckets.specs.AtHand.{IsRowOf, slot_of}
 use Rattle.thread_local_shared_buckets.specs.AtHand.{OwnIsAtHand, IsWalk, LooksIn, IsMarked}
 use Rattle.thread_local_ids.specs.TokenLists.{AllOf, NoneIn}
 use Rattle.thread_local_shared_buckets.specs.Positions.{IsBehind}
-use Rattle.thread_local_shared_buckets.proofs.Findings.{own_index, LiesOutside, IsRead, IsAlone, LooksAt, HasLookedOn, IsFoundAt, FindsTokens}
+use Rattle.thread_local_shared_buckets.proofs.Findings.{own_index, LiesOutside, IsRead, IsOwnAlone, LooksAt, HasLookedOn, IsFoundAt, FindsTokens}
 use Rattle.thread_local_shared_buckets.proofs.ToldLaws.{found_all, marked_on, all_behind}
 use Rattle.thread_local_shared_buckets.proofs.BitLaws.{added_set, both_if, both_so, none_set, was_set}
 use Rattle.thread_local_shared_buckets.proofs.OwnLaws.{at_index, at_own_index, elsewhere, index_of_own}
@@ -226,7 +226,7 @@ module _ {V : Type 0} where
   looked_alone : (w : Walk V) (row : Option (Row V)) (chunks flags : ℕ) (own : Option ℕ) → IsWalk w → w.rest ≡ 0
       → IfSome row (IsRowOf w.buckets.now.sharing w.raw.bucket)
       → own_index w.own w.raw.bucket ≡ own
-      → IsAlone own w.chunks chunks flags
+      → IsOwnAlone own w.chunks chunks flags
       → Finds w (None, chunks, flags)
       → LooksIn w (after_look w row None chunks flags)
   looked_alone w row chunks flags None walk none of is alone finds =

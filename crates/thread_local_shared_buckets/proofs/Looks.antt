@@ -45,10 +45,10 @@ module _ {M : Type 1} {𝓤 : Ura M} (𝓛 : Logic 𝓤) (R : RattleType) (L : L
     abbrev Have : Option R.Denot → Who → Fml
     Have = Had 𝓛 R slot
 
-    abbrev Found : Option R.Denot → Who → SProp 𝓤
-    Found v = Left 𝓛 R slot v ⟦ Lent ⟧
+    abbrev Looked : Option R.Denot → Who → SProp 𝓤
+    Looked v = Left 𝓛 R slot v ⟦ Lent ⟧
 
-    found : (v : Option R.Denot) (w : Who) → ⟦ Stay v ⟧ ∗ ⟦ Have v w ⟧ ∗ ⟦ Told ⟧ ⊢ ex 𝓤 (Found v)
+    found : (v : Option R.Denot) (w : Who) → ⟦ Stay v ⟧ ∗ ⟦ Have v w ⟧ ∗ ⟦ Told ⟧ ⊢ ex 𝓤 (Looked v)
     found None w = qed 𝓛 (‵ (Stay None) ∷ ‵ (Have None w) ∷ ‵ Told ∷ []) ∵ fsplit ! $ move ! (1 ∷ 3 ∷ []) $
         use2 𝓛 (given (None ≡ Some x) (‵ (told_or_untold R d.sharing k None) ⊛ ‵ Told))
         (telling_alike 𝓛 R d.sharing named k None x) $
@@ -72,7 +72,7 @@ module _ {M : Type 1} {𝓤 : Ura M} (𝓛 : Logic 𝓤) (R : RattleType) (L : L
         -- [opened; what is shared; what is published; the token; who has it]
         move ! (3 ∷ 2 ∷ 0 ∷ []) $ fjoin3 ! $ move ! (0 ∷ 2 ∷ 1 ∷ []) $
         rewrite ! 2 (λ (z : R.Denot). ‵ (shared z)) (same_Some y x same) refl $
-        show ! (Found (Some y)) w $ done !)
+        show ! (Looked (Some y)) w $ done !)
 
     pub finds : (q : Share)
         → A.inv (fbor t.life (bucket_invariant R d t wb wo)) ∗ A.lft t.life q

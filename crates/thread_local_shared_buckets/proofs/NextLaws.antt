@@ -6,7 +6,7 @@ use denote.Ref.{Bor}
 use denote.RattleType.{RattleType}
 use Rattle.thread_local_base.specs.Cursor.{cursor_id}
 use Rattle.thread_local_ids.specs.Views.{TokenView}
-use Rattle.thread_local_ids.specs.declared.witness.Witness.{Witness}
+use Rattle.thread_local_ids.specs.declared.tokens.witness.Witness.{Witness}
 use Rattle.thread_local_shared_buckets.specs.Walks.{WalkView, Goes, GoesWithIds, GoesWithTokens, CanGo, ids_left}
 
 module _ {V : Type 0} where

@@ -76,12 +76,12 @@ module _ {M : Type 1} {𝓤 : Ura M} (𝓛 : Logic 𝓤) (R : RattleType) (d : B
       (sep 𝓤 (sem 𝓛 (loaded R d t s β)) (sem 𝓛 (loaded R d t s β)))
   row_dup t s β =
       let κ : Lft = s.block_life ∷ t.life in
-      let Fits : Type 0 = (length s.names ≡ len R d) × Sized R (len R d) s.at in
+      let IsSized : Type 0 = (length s.names ≡ len R d) × Sized R (len R d) s.at in
       qed 𝓛 (‵ (loaded R d t s β) ∷ []) ∵ fsplit3 ! $ fpick ! (λ so. drop ! $ res_dup ! $
       move ! (2 ∷ []) $
       use1 𝓛 (‵ (before β κ) ⊛ ‵ (before β κ)) (before_dup 𝓛 β κ) $ split ! $ move ! (2 ∷ 0 ∷ []) $
-      nothing ! $ fpack ! Fits (λ _. ftrue) so $ fjoin3 ! $ frame ! $ move ! (1 ∷ 0 ∷ []) $
-      nothing ! $ fpack ! Fits (λ _. ftrue) so $ fjoin3 ! $ done !)
+      nothing ! $ fpack ! IsSized (λ _. ftrue) so $ fjoin3 ! $ frame ! $ move ! (1 ∷ 0 ∷ []) $
+      nothing ! $ fpack ! IsSized (λ _. ftrue) so $ fjoin3 ! $ done !)
 
   pub found_dup : (names : List ℕ) (β : Lft) (p : Ptr)
       → ent 𝓤 (sem 𝓛 (row_owns R d names β p))

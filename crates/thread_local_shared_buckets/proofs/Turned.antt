@@ -57,7 +57,7 @@ use Rattle.thread_local_shared_buckets.specs.contracts.shared.Shared as whole
 use Rattle.thread_local_shared_buckets.specs.Lent.{view_with}
 use Rattle.thread_local_shared_buckets.specs.Fit.{Fit}
 use Rattle.thread_local_shared_buckets.specs.TableView.{TableView, table_view_of, AreBuckets}
-use Rattle.thread_local_shared_buckets.proofs.Lists.{AreOf, table_are_of, named_are_of, Fits, fits_long, owned_of}
+use Rattle.thread_local_shared_buckets.proofs.Lists.{AreOf, table_are_of, named_are_of, AllFit, fits_long, owned_of}
 use Rattle.thread_local_shared_buckets.proofs.Lists.{are_owned, fit_all, table_buckets, table_long, table_named}
 use Rattle.thread_local_shared_buckets.proofs.Lists.{table_seen}
 use Rattle.thread_local_shared_buckets.specs.Grown.{only_reserved}
@@ -136,7 +136,7 @@ module _ {M : Type 1} {𝓤 : Ura M} (𝓛 : Logic 𝓤) (R : RattleType) (L : L
     RowsTell b ws = rows_known R s m b (map slots ws)
 
     abbrev All : ℕ → List BucketView → List Val → List W.Denot → SProp 𝓤
-    All b ds us ws = guard 𝓤 (Fits slots ds ws) (⟦ each W.Denot W.own_val ws us ⟧ ∗ ⟦ RowsTell b ws ⟧)
+    All b ds us ws = guard 𝓤 (AllFit slots ds ws) (⟦ each W.Denot W.own_val ws us ⟧ ∗ ⟦ RowsTell b ws ⟧)
 
     redeems_next : (b : ℕ) (d : BucketView) (ds : List BucketView) (u : Val) (us : List Val) → AreOf s m b (d ∷ ds)
         → ⟦ each BucketView S.own_val ds us ⟧ ⊢ H.⇛ (ex 𝓤 (All (suc b) ds us))
@@ -148,7 +148,7 @@ module _ {M : Type 1} {𝓤 : Ura M} (𝓛 : Logic 𝓤) (R : RattleType) (L : L
         (redeems_one d (u ∷ [])) $
         await ! tt $ pick ! (λ w. learn ! (λ fit. split ! $ move ! (2 ∷ []) $
         use1 𝓛 (later (some (λ (ws : List W.Denot).
-        given (Fits slots ds ws) (‵ (each W.Denot W.own_val ws us) ⊛ ‵ (RowsTell (suc b) ws)))))
+        given (AllFit slots ds ws) (‵ (each W.Denot W.own_val ws us) ⊛ ‵ (RowsTell (suc b) ws)))))
         others $
         await ! tt $ pick ! (λ ws. learn ! (λ fits. split ! $
         -- [the other pointers; what is told of them; the pointer; what is told of it]
@@ -166,7 +166,7 @@ module _ {M : Type 1} {𝓤 : Ura M} (𝓛 : Logic 𝓤) (R : RattleType) (L : L
     each_redeems b (d ∷ ds) (u ∷ us) are = redeems_next b d ds u us are (each_redeems (suc b) ds us are.1)
 
     rests_next : Judged R → (b : ℕ) (d : BucketView) (ds : List BucketView) (w : W.Denot) (ws : List W.Denot) (u : Val) (us : List Val)
-        → AreOf s m b (d ∷ ds) → Fits slots (d ∷ ds) (w ∷ ws)
+        → AreOf s m b (d ∷ ds) → AllFit slots (d ∷ ds) (w ∷ ws)
         → ⟦ each W.Denot W.own_val ws us ⟧ ∗ ⟦ RowsTell (suc b) ws ⟧ ⊢ ⟦ each BucketView S.own_val ds us ⟧
         → ⟦ each W.Denot W.own_val (w ∷ ws) (u ∷ us) ⟧ ∗ ⟦ RowsTell b (w ∷ ws) ⟧ ⊢ ⟦ each BucketView S.own_val (d ∷ ds) (u ∷ us) ⟧
     rests_next j b d ds w ws u us are f others =
@@ -180,7 +180,7 @@ module _ {M : Type 1} {𝓤 : Ura M} (𝓛 : Logic 𝓤) (R : RattleType) (L : L
         move ! (1 ∷ 0 ∷ []) $ fjoin ! $ done !
 
     each_rests : Judged R → (b : ℕ) (ds : List BucketView) (ws : List W.Denot) (us : List Val)
-        → AreOf s m b ds → Fits slots ds ws
+        → AreOf s m b ds → AllFit slots ds ws
         → ⟦ each W.Denot W.own_val ws us ⟧ ∗ ⟦ RowsTell b ws ⟧ ⊢ ⟦ each BucketView S.own_val ds us ⟧
     each_rests j b [] [] [] are f = qed 𝓛 (‵ ftrue ∷ ‵ ftrue ∷ []) ∵ drop ! $ done !
     each_rests j b [] [] (u ∷ us) are f = qed 𝓛 (‵ ffalse ∷ ‵ ftrue ∷ []) ∵ keep ! (0 ∷ []) $ by ! (never_e 𝓤 _)
@@ -202,7 +202,7 @@ module _ {M : Type 1} {𝓤 : Ura M} (𝓛 : Logic 𝓤) (R : RattleType) (L : L
   -- ---- the array
   abbrev Arrays : TableView → Announcing → List BucketView → List Val → List W.Denot → SProp 𝓤
   Arrays s m ds vs ws =
-      guard 𝓤 (Judged R × (length ds ≡ 63) × Fits slots ds ws)
+      guard 𝓤 (Judged R × (length ds ≡ 63) × AllFit slots ds ws)
       (⟦ (Array W 63).own_val ws vs ⟧ ∗ ⟦ RowsTell s m 0 ws ⟧)
 
   array_redeems : (s : TableView) (m : Announcing) (ds : List BucketView) (vs : List Val)
@@ -213,7 +213,7 @@ module _ {M : Type 1} {𝓤 : Ura M} (𝓛 : Logic 𝓤) (R : RattleType) (L : L
       fsplit ! $ feq_l ! (λ e. feq_l ! (λ long.
       use1 𝓛 (given (Judged R) (‵ (each BucketView S.own_val ds us))) (each_judged ds us long) $ learn ! (λ j.
       use1 𝓛 (later (some (λ (ws : List W.Denot).
-      given (Fits slots ds ws) (‵ (each W.Denot W.own_val ws us) ⊛ ‵ (RowsTell s m 0 ws)))))
+      given (AllFit slots ds ws) (‵ (each W.Denot W.own_val ws us) ⊛ ‵ (RowsTell s m 0 ws)))))
       (each_redeems s m 0 ds us (are long)) $
       await ! tt $ pick ! (λ ws. learn ! (λ f. split ! $
       now ! $ show ! (Arrays s m ds vs) ws $ check ! (j, long, f) $
@@ -223,7 +223,7 @@ module _ {M : Type 1} {𝓤 : Ura M} (𝓛 : Logic 𝓤) (R : RattleType) (L : L
 
   array_rests : Judged R
       → (s : TableView) (m : Announcing) (ds : List BucketView) (ws : List W.Denot) (vs : List Val) → length ds ≡ 63
-      → AreOf s m 0 ds → Fits slots ds ws
+      → AreOf s m 0 ds → AllFit slots ds ws
       → ⟦ (Array W 63).own_val ws vs ⟧ ∗ ⟦ RowsTell s m 0 ws ⟧ ⊢ ⟦ (Array S 63).own_val ds vs ⟧
   array_rests j s m ds ws vs long are f =
       qed 𝓛 (‵ ((Array W 63).own_val ws vs) ∷ ‵ (RowsTell s m 0 ws) ∷ []) ∵ fpick ! (λ us. fsplit ! $
@@ -351,7 +351,7 @@ module _ {M : Type 1} {𝓤 : Ura M} (𝓛 : Logic 𝓤) (R : RattleType) (L : L
       let ds : List BucketView = h.0.pointers.pointers.pointers in let m : Announcing = h.0.pointers.announced in
       let n : ℕ = h.0.reserved in let s' : TableView = table_view_of ds n in
       use1 𝓛 (later (some (λ (ws : List W.Denot).
-      given (Judged R × (length ds ≡ 63) × Fits slots ds ws)
+      given (Judged R × (length ds ≡ 63) × AllFit slots ds ws)
       (‵ ((Array W 63).own_val ws tss.0) ⊛ ‵ (RowsTell s' m 0 ws)))))
       (array_redeems s' m ds tss.0 (λ long. named_are_of ds m n long h.1.1.0)) $
       await ! tt $ pick ! (λ ws. learn ! (λ g. split ! $

@@ -10,7 +10,7 @@ use Rattle.thread_local_buckets.specs.declared.cursor.RawIter.{RawIter}
 use Rattle.thread_local_shared_buckets.specs.declared.steps.Own.{Own}
 use Rattle.thread_local_shared_buckets.specs.Steps.{Leads}
 use Rattle.thread_local_shared_buckets.specs.Walks.{Owed, YieldsOwn, Yields}
-use Rattle.thread_local_ids.specs.declared.witness.Witness.{Witness}
+use Rattle.thread_local_ids.specs.declared.tokens.witness.Witness.{Witness}
 use Rattle.thread_local_shared_buckets.specs.Positions.{resting, past, next_id, at_bucket, owed, lies_in, OwnIsTold}
 use Rattle.thread_local_shared_buckets.specs.Positions.{IsAhead, IsSharedWalk}
 use Rattle.thread_local_shared_buckets.proofs.Findings.{Item, IsToldAt}

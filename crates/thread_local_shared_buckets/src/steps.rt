@@ -107,11 +107,12 @@ impl<'a, T> Walk<'a, T> {
         requires passed { self.old.rest ≡ 0 }
         ensures { Reaches self.old result self.new }
     {
-        while self.raw.bucket != BUCKETS {
-            self.look_in();
-            if self.rest != 0 {
-                return true;
-            }
+        if self.raw.bucket == BUCKETS {
+            return false;
+        }
+        self.look_in();
+        // A bucket that it comes to has no row at hand yet, so here the compiler drops that test.
+        while self.rest == 0 {
             let bucket = if self.left == 0 {
                 BUCKETS
             } else {
@@ -122,7 +123,11 @@ impl<'a, T> Walk<'a, T> {
             self.raw.index = 0;
             self.row = None;
             self.chunks = 0;
+            if bucket == BUCKETS {
+                return false;
+            }
+            self.look_in();
         }
-        false
+        true
     }
 }

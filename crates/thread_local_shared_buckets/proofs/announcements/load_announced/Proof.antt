@@ -23,7 +23,7 @@ use Rattle.thread_local_base.specs.Bits.{is_set}
 use Rattle.thread_local_base.specs.Fact.{fact as said_fact}
 use Rattle.thread_local_ids.specs.Views.{TokenView}
 use Rattle.thread_local_ids.specs.TokenLists.{tell_each}
-use Rattle.thread_local_ids.specs.contracts.token_list.TokenList as TokenList
+use Rattle.thread_local_ids.specs.contracts.tokens.token_list.TokenList as TokenList
 use Rattle.thread_local_shared_buckets.specs.Announcing.{Announcing, BeginsWithFirst}
 use Rattle.thread_local_shared_buckets.specs.Shared.{BucketView}
 use Rattle.thread_local_shared_buckets.specs.TableView.{TableView, table_view_of, AreOfTable}

@@ -21,9 +21,9 @@ use Rattle.thread_local_base.specs.IdMoves.{held_after}
 use Rattle.thread_local_ids.specs.Rights.{right_owns, tenure_of, taken_id}
 use Rattle.thread_local_ids.specs.FirstIds.{IsReturn, IsGivenBeyond, log_owns}
 use Rattle.thread_local_ids.proofs.Markers.{Mark, token, told, made}
-use Rattle.thread_local_ids.specs.contracts.right.Right as right
-use Rattle.thread_local_ids.specs.contracts.page.Tenure as tenure
-use Rattle.thread_local_ids.specs.contracts.page.Page as page
+use Rattle.thread_local_ids.specs.contracts.rights.right.Right as right
+use Rattle.thread_local_ids.specs.contracts.rights.page.Tenure as tenure
+use Rattle.thread_local_ids.specs.contracts.rights.page.Page as page
 use Rattle.thread_local_ids.specs.contracts.first.Log as log
 use Rattle.thread_local_ids.specs.contracts.first.FirstIds.give_further.{ended, clauses, Key.name as #self}
 use Rattle.thread_local_ids.proofs.first.FirstIds.give_further.Statement.{statement}

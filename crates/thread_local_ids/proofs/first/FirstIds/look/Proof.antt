@@ -27,7 +27,7 @@ use Rattle.thread_local_base.specs.IdMoves.{IdMove, Take, noted, held_after}
 use Rattle.thread_local_ids.specs.Rights.{page_owns}
 use Rattle.thread_local_ids.specs.FirstIds.{IsWordOf, IsSameBeyond, HasFurther, is_full, log_owns}
 use Rattle.thread_local_ids.proofs.Markers.{Mark, token, made}
-use Rattle.thread_local_ids.specs.contracts.page.Page as page
+use Rattle.thread_local_ids.specs.contracts.rights.page.Page as page
 use Rattle.thread_local_ids.specs.contracts.first.Log as log
 use Rattle.thread_local_ids.specs.contracts.first.Trace as trace
 use Rattle.thread_local_ids.specs.contracts.first.FirstIds.look.{ended, clauses, Key.name as #self}

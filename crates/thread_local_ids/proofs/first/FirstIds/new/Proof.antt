@@ -23,8 +23,8 @@ use Rattle.thread_local_base.proofs.Names.{fpack}
 use Rattle.thread_local_ids.specs.Rights.{history_owns}
 use Rattle.thread_local_ids.specs.FirstIds.{AreOutOf, log_owns, lies_with}
 use Rattle.thread_local_ids.proofs.Markers.{token, told}
-use Rattle.thread_local_ids.specs.contracts.right.Rights as rights
-use Rattle.thread_local_ids.specs.contracts.page.History as history
+use Rattle.thread_local_ids.specs.contracts.rights.right.Rights as rights
+use Rattle.thread_local_ids.specs.contracts.rights.page.History as history
 use Rattle.thread_local_ids.specs.contracts.first.Log as log
 use Rattle.thread_local_ids.specs.contracts.first.FirstIds.TheInside as inside
 use Rattle.thread_local_ids.specs.contracts.first.FirstIds.new.{ended, clauses, Key.name as #self}

@@ -23,7 +23,7 @@ use Rattle.thread_local_ids.specs.Rights.{page_owns, taken_id}
 use Rattle.thread_local_ids.specs.FirstIds.{word_with}
 use Rattle.thread_local_ids.proofs.Calls.{exchanges}
 use Rattle.thread_local_ids.proofs.Markers.{Mark, token, made}
-use Rattle.thread_local_ids.specs.contracts.page.Page as page
+use Rattle.thread_local_ids.specs.contracts.rights.page.Page as page
 use Rattle.thread_local_ids.specs.contracts.first.Trace as trace
 use Rattle.thread_local_ids.specs.contracts.first.FirstIds.try_take.{ended, clauses, Key.name as #self}
 use Rattle.thread_local_ids.proofs.first.FirstIds.try_take.Statement.{statement}
@@ -101,7 +101,7 @@ try_take_spec 𝓤 𝓛 𝓜 𝓡 wired =
     move ! (2 ∷ 0 ∷ 4 ∷ []) $
     use3 𝓛 (raw (𝓣.C _ (vptr b (o + 0) ∷ vint w64 old ∷ vint w64 new ∷ []) (λ u. mean 𝓛 (found after u))))
     (via 𝓤 _ (step.tries 𝓛 d.table b o α s old new id p.moves is_new low near)
-    (exchanges 𝓛 𝓜 𝓡 (code.calls-thread_local_ids::word::exchange 𝓡.env wired)
+    (exchanges 𝓛 𝓜 𝓡 (code.calls-thread_local_ids::locks::word::exchange 𝓡.env wired)
     (block_ptr b (o + 0)) old new are.1.0.1 are.1.1.0.1 after)) $
     Calls-last ! (fm 𝓛 𝓜 𝓡) (found after)
     (and_then ! (get ! refl) (and_then ! (get ! refl) (and_then ! (get ! refl) (no_more !)))) (λ u.

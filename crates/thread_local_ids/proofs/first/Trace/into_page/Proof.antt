@@ -14,7 +14,7 @@ use Rattle.thread_local_ids.specs.FirstIds.{tried_owns}
 use Rattle.thread_local_ids.proofs.Markers.{token, told, Mark, made}
 use Rattle.thread_local_ids.proofs.Facts.{tells_last}
 use Rattle.thread_local_ids.specs.contracts.first.Trace as right
-use Rattle.thread_local_ids.specs.contracts.page.Page as history
+use Rattle.thread_local_ids.specs.contracts.rights.page.Page as history
 use Rattle.thread_local_ids.specs.contracts.first.Trace.into_page as f
 use Rattle.thread_local_ids.proofs.first.Trace.into_page.Statement.{statement}
 use Rattle.thread_local_ids.proofs.first.Trace.into_page.Code as code

@@ -19,8 +19,8 @@ use Rattle.thread_local_ids.specs.FirstIds.{tried_owns}
 use Rattle.thread_local_ids.proofs.Markers.{token, told, Mark, made}
 use Rattle.thread_local_ids.proofs.Facts.{tells, tells_last}
 use Rattle.thread_local_ids.specs.contracts.first.Trace as trace
-use Rattle.thread_local_ids.specs.contracts.right.Right as right
-use Rattle.thread_local_ids.specs.contracts.page.Tenure as tenure
+use Rattle.thread_local_ids.specs.contracts.rights.right.Right as right
+use Rattle.thread_local_ids.specs.contracts.rights.page.Tenure as tenure
 use Rattle.thread_local_ids.specs.contracts.first.Trace.into_rights as f
 use Rattle.thread_local_ids.proofs.first.Trace.into_rights.Statement.{statement}
 use Rattle.thread_local_ids.proofs.first.Trace.into_rights.Code as code

@@ -2,7 +2,7 @@ use Rattle.std.proofs.Common.{◌∙◌, refl, subst}
 use Rattle.std.specs.Prelude.{Ok}
 use Rattle.thread_local_ids.specs.SharedIds.{SharedView}
 use Rattle.thread_local_ids.specs.Taken.{IsTakenAfter, IsTake}
-use Rattle.thread_local_ids.specs.declared.page.Page.{Page}
+use Rattle.thread_local_ids.specs.declared.rights.page.Page.{Page}
 use Rattle.thread_local_ids.proofs.FurtherLaws.{take_tells}
 use Rattle.thread_local_ids.proofs.shared_ids.SharedIds.take.Goals as goal
 

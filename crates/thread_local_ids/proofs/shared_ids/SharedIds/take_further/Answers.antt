@@ -4,7 +4,7 @@ use Rattle.std.specs.Prelude.{Option, Ok}
 use Rattle.thread_local_ids.specs.FurtherIds.{FurtherIds}
 use Rattle.thread_local_ids.specs.SharedIds.{SharedView}
 use Rattle.thread_local_ids.specs.Taken.{Taken, IsTakenAfter, IsRefusedAfter, IsTry}
-use Rattle.thread_local_ids.specs.declared.page.Page.{Page}
+use Rattle.thread_local_ids.specs.declared.rights.page.Page.{Page}
 use Rattle.thread_local_ids.proofs.shared_ids.SharedIds.take_further.Goals as goal
 
 pub take-tried-requires : goal.take-tried-requires

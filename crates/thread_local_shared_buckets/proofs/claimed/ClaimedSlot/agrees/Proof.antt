@@ -12,7 +12,7 @@ use Rattle.thread_local_base.proofs.Names.{stay_dropped, stay_ref, walk_of, Goes
 use Rattle.std.proofs.Common.{IsSome}
 use Rattle.thread_local_base.specs.Learnt.{Learnt, Holding}
 use Rattle.thread_local_ids.specs.Told.{tells}
-use Rattle.thread_local_ids.specs.contracts.witness.Witness as Witness
+use Rattle.thread_local_ids.specs.contracts.tokens.witness.Witness as Witness
 use Rattle.thread_local_shared_buckets.specs.Known.{HasLooked}
 use Rattle.thread_local_shared_buckets.specs.Claims.{ClaimFields, claim_fields, claim_owns}
 use Rattle.thread_local_shared_buckets.proofs.Agreed as agreed

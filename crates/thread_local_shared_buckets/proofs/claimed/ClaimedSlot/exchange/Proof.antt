@@ -78,7 +78,7 @@ use Rattle.thread_local_buckets.specs.contracts.block.Block as block
 use Rattle.thread_local_buckets.proofs.BlockFields as fields
 use Rattle.thread_local_ids.specs.Rights.{right_owns, reached_owns}
 use Rattle.thread_local_ids.specs.Told.{tells}
-use Rattle.thread_local_ids.specs.contracts.reached.Reached as Reached
+use Rattle.thread_local_ids.specs.contracts.rights.reached.Reached as Reached
 use Rattle.thread_local_ids.proofs.ReachedElements.{reached_less}
 use Rattle.thread_local_ids.proofs.Markers.{token}
 use Rattle.thread_local_ids.proofs.Markers.{told as token_told}
@@ -391,13 +391,13 @@ module _ {M : Type 1} {𝓤 : Ura M} (𝓛 : Logic 𝓤) (𝓜 : Model 𝓤 𝓛
           -- [the claim; the life's token; the way back]
           move ! (1 ∷ 2 ∷ []) $ returns_token ! β t.life q s $ await ! tt $ now ! $ done !
 
-      abbrev Found : Ptr → ℕ × ℕ → Item 𝓤
-      Found u first = given (u ≡ block_ptr first.0 first.1)
+      abbrev IsMet : Ptr → ℕ × ℕ → Item 𝓤
+      IsMet u first = given (u ≡ block_ptr first.0 first.1)
           (‵ (flft β q) ⊛ ‵ (Owned Vacant 1 first.0 first.1) ⊛ ‵ (Back.own_val (Some x) (back_again ∷ [])))
 
       -- another block stands: the claim finds its slot empty there, and this block is whole again
       lost_gives : p ≡ new → x.slots ≡ with_first i xv rest → x.left ≡ 0 → (u : Ptr)
-          → ent 𝓤 (mean 𝓛 (‵ (lost u) ⊛ ‵ lasts ⊛ way_back)) (mean 𝓛 (later (some (Found u))))
+          → ent 𝓤 (mean 𝓛 (‵ (lost u) ⊛ ‵ lasts ⊛ way_back)) (mean 𝓛 (later (some (IsMet u))))
       lost_gives here slots_are all_made u =
           qed 𝓛 (‵ (lost u) ∷ ‵ lasts ∷ way_back ∷ []) ∵ updating ! $ fsplit ! $ move ! (1 ∷ []) $ fsplit ! $ fsplit ! $ move ! (2 ∷ []) $
           rewrite ! 0 (λ (k : ℕ). ‵ (right_owns t.pass k)) (sym of.3) refl $
@@ -421,7 +421,7 @@ module _ {M : Type 1} {𝓤 : Ura M} (𝓛 : Logic 𝓤) (𝓜 : Model 𝓤 𝓛
           use0 𝓛 (‵ ((fields.FieldsType R Z ghosts).own_val (p, (record {}, tt)) (bv ∷ []))) (fields.made R Z ghosts 𝓛 p) $
           fjoin ! $ use1 𝓛 (‵ (Back.own_val (Some x) (back_again ∷ []))) (Some-of 𝓛 Bl x bv) $
           -- [the block; the token; the claim; nothing]
-          move ! (3 ∷ []) $ drop ! $ move ! (1 ∷ 2 ∷ []) $ now ! $ show ! (λ first. mean 𝓛 (Found u first)) (pb, o) $ check ! found $ done !))
+          move ! (3 ∷ []) $ drop ! $ move ! (1 ∷ 2 ∷ []) $ now ! $ show ! (λ first. mean 𝓛 (IsMet u first)) (pb, o) $ check ! found $ done !))
 
       -- the contexts in which the two arms begin, with the answer of the exchange in local 16
       abbrev In_arm : (ℕ → ℕ) → Fml → Val → List (Item 𝓤)
@@ -467,7 +467,7 @@ module _ {M : Type 1} {𝓤 : Ura M} (𝓛 : Logic 𝓤) (𝓜 : Model 𝓤 𝓛
           sets ! (of_opd ! (get ! refl)) refl (calls.answer_good (Err u)) $
           -- [what came back; the sharing lasts; the way back; the other tokens; what the claim had]
           move ! (4 ∷ []) $ drop ! $ group ! 3 $
-          use1 𝓛 (later (some (Found u)))
+          use1 𝓛 (later (some (IsMet u)))
           (lost_gives e slots_are all_made u) $
           await ! tt $ pick ! (λ place. learn ! (λ found. split3 ! $ let pb : ℕ = place.0 in let o : ℕ = place.1 in
           -- [the token; the claim; the block; the other tokens]

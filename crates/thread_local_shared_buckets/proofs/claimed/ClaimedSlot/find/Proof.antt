@@ -249,8 +249,8 @@ find_spec 𝓤 𝓛 𝓜 𝓡 wired X L =
     sets_last ! (bin ! (get ! refl) (get ! refl) tt) refl (tt, tt) $
     exec ! 𝓣.C 𝓣.Λ Ev (after 8 fn.body) (at_ret Ev Post) $
     sets ! (of_opd ! (get ! refl)) refl (tt, tt) $
-    let Found : ℕ → Fml = steps.Finds 𝓛 R (placed d t wb (wo + 0) s' i h.id e pb low of.3 refl refl) (looked_in_vain l₀) in
-    let aft : ℕ → Fml = λ n. fsep (flft t.life s) (Found n) in
+    let HoldsSeen : ℕ → Fml = steps.Finds 𝓛 R (placed d t wb (wo + 0) s' i h.id e pb low of.3 refl refl) (looked_in_vain l₀) in
+    let aft : ℕ → Fml = λ n. fsep (flft t.life s) (HoldsSeen n) in
     first ! $ blocks ! $ sets ! (agg ! (and_then ! (lit ! tt) (no_more !))) refl seq_cst_good $
     move ! (4 ∷ 3 ∷ 1 ∷ 2 ∷ []) $ group ! 4 $
     use1 𝓛 (raw (𝓣.C _ (vptr pb at_word ∷ seq_cst ∷ []) (λ v. mean 𝓛 (found aft v))))

@@ -12,10 +12,10 @@ use denote.Steps.{only}
 use denote.Triple.Call.{calls_at}
 use denote.Triple.Spec.{triple_of}
 use Rattle.thread_local_ids.specs.Rights.{right_owns}
-use Rattle.thread_local_ids.specs.contracts.right.Right as right
-use Rattle.thread_local_ids.specs.contracts.right.Right.take_up as taker
+use Rattle.thread_local_ids.specs.contracts.rights.right.Right as right
+use Rattle.thread_local_ids.specs.contracts.rights.right.Right.take_up as taker
 use Rattle.thread_local_ids.proofs.Markers.{token, told as right_told}
-use Rattle.thread_local_ids.proofs.right.Right.take_up.Met as taker_met
+use Rattle.thread_local_ids.proofs.rights.right.Right.take_up.Met as taker_met
 use Rattle.thread_local_shared_buckets.specs.Claims.{claim_fields}
 use Rattle.thread_local_shared_buckets.specs.contracts.claimed.ClaimedSlot as claim
 use Rattle.thread_local_shared_buckets.specs.contracts.claimed.ClaimedSlot.give_up.{ended, clauses, Key.name as #self}
@@ -55,7 +55,7 @@ give_up_spec 𝓤 𝓛 𝓜 𝓡 wired X L =
     let k : takes.Ghost = ((tt, tt, tt, tt, tt), (h.table, h.id)) in
     nothing ! $ nothing ! $ join ! $ join ! $ use1 𝓛 (raw (takes.pre k)) (id⊢ 𝓤 (takes.pre k)) $
     calls_at ! (fm 𝓛 𝓜 𝓡) takes
-    (taker_met.met 𝓤 𝓛 𝓜 𝓡 (code.calls-thread_local_ids::right::Right::take_up 𝓡.env wired)) k
+    (taker_met.met 𝓤 𝓛 𝓜 𝓡 (code.calls-thread_local_ids::rights::right::Right::take_up 𝓡.env wired)) k
     (no_more !) (λ u.
     let Given : right.the_row.Denot → Type 0 = λ r. (r.table ≡ h.table) × (r.id ≡ h.id) in
     use1 𝓛 (later (some (λ (r : right.the_row.Denot).

@@ -16,10 +16,10 @@ use denote.Triple.Call.{calls_at}
 use denote.Triple.Spec.{triple_of}
 use Rattle.thread_local_base.specs.Place.{id_at}
 use Rattle.thread_local_ids.specs.Rights.{right_owns}
-use Rattle.thread_local_ids.specs.contracts.right.Right as right
-use Rattle.thread_local_ids.specs.contracts.right.Right.lay_down as layer
+use Rattle.thread_local_ids.specs.contracts.rights.right.Right as right
+use Rattle.thread_local_ids.specs.contracts.rights.right.Right.lay_down as layer
 use Rattle.thread_local_ids.proofs.Markers.{token, told as right_told}
-use Rattle.thread_local_ids.proofs.right.Right.lay_down.Met as layer_met
+use Rattle.thread_local_ids.proofs.rights.right.Right.lay_down.Met as layer_met
 use Rattle.thread_local_shared_buckets.specs.Shared.{BucketView, Turn}
 use Rattle.thread_local_shared_buckets.specs.contracts.shared_bucket.SharedBucket as one_bucket
 use Rattle.thread_local_base.specs.Learnt.{Learnt, Unknown}
@@ -68,7 +68,7 @@ hold_spec 𝓤 𝓛 𝓜 𝓡 wired X L =
     nothing ! $ move ! (1 ∷ 0 ∷ []) $ fjoin ! $ nothing ! $ join ! $ nothing ! $
     move ! (1 ∷ 0 ∷ []) $ join ! $ use1 𝓛 (raw (lays.pre k)) (id⊢ 𝓤 (lays.pre k)) $
     calls_at ! (fm 𝓛 𝓜 𝓡) lays
-    (layer_met.met 𝓤 𝓛 𝓜 𝓡 (code.calls-thread_local_ids::right::Right::lay_down 𝓡.env wired)) k
+    (layer_met.met 𝓤 𝓛 𝓜 𝓡 (code.calls-thread_local_ids::rights::right::Right::lay_down 𝓡.env wired)) k
     (and_then ! (get ! refl) (no_more !)) (λ u.
     use1 𝓛 (later (some (λ (_ : Unit {0}).
     (‵ ftrue ⊛ ‵ (feq (List Val) (u ∷ []) (vunit ∷ [])))

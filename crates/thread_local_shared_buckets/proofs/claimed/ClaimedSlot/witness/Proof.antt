@@ -7,7 +7,7 @@ use Rattle.thread_local_base.proofs.Names.{get, sets, agg, fact, yes, RattleType
 use Rattle.thread_local_base.proofs.Names.{named_lft, nothing, heard, param, bounded, shr_vals, shr_Tells, Stays}
 use Rattle.thread_local_base.proofs.Names.{stay_dropped, walk_of, Goes-dropped, proved, leaves, is_some}
 use Rattle.thread_local_base.specs.Learnt.{Learnt, Holding}
-use Rattle.thread_local_ids.specs.contracts.witness.Witness as Witness
+use Rattle.thread_local_ids.specs.contracts.tokens.witness.Witness as Witness
 use Rattle.thread_local_ids.proofs.Made.{token_val, witness_made}
 use Rattle.thread_local_shared_buckets.specs.Known.{value_held}
 use Rattle.thread_local_shared_buckets.proofs.Learning.{holding}

@@ -31,7 +31,7 @@ use Rattle.thread_local_base.specs.Bits.{is_set, is_set_in}
 use Rattle.thread_local_base.specs.Place.{id_at}
 use Rattle.thread_local_ids.specs.Views.{TokenView}
 use Rattle.thread_local_ids.specs.TokenLists.{AllOf, tell_each}
-use Rattle.thread_local_ids.specs.contracts.token_list.TokenList as TokenList
+use Rattle.thread_local_ids.specs.contracts.tokens.token_list.TokenList as TokenList
 use Rattle.thread_local_buckets.specs.Slots.{stride, each, value_words, flag_word_at, word_offset, value_offset}
 use Rattle.thread_local_buckets.proofs.Flags.{uncapped, value_near}
 use Rattle.thread_local_buckets.proofs.Slots.{IsWordNear, word_is_near}

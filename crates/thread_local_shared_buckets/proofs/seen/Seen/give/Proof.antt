@@ -31,7 +31,7 @@ use Rattle.thread_local_base.proofs.Pairs.{both, pair_in}
 use Rattle.thread_local_buckets.specs.Slots.{stride, value_offset}
 use Rattle.thread_local_buckets.proofs.Flags.{uncapped, value_near}
 use Rattle.thread_local_base.specs.Place.{id_at}
-use Rattle.thread_local_ids.specs.contracts.witness.Witness as Witness
+use Rattle.thread_local_ids.specs.contracts.tokens.witness.Witness as Witness
 use Rattle.thread_local_ids.proofs.Made.{token_val, witness_made}
 use Rattle.thread_local_shared_buckets.specs.Shared.{BucketView, name_at, first as first_id, if_set, seen_value, seen_slot, seen_owns}
 use Rattle.thread_local_shared_buckets.proofs.ChunkLooks.{set_at_bit, behind_first}

@@ -28,7 +28,7 @@ use Rattle.std.proofs.cell.Inside.{Good}
 use Rattle.thread_local_base.specs.Owned.{IsOwned}
 use Rattle.thread_local_buckets.specs.contracts.bucket_pointers.BucketPointers as all_pointers
 use Rattle.thread_local_ids.specs.Told.{book_owns}
-use Rattle.thread_local_ids.specs.contracts.book.Book as Book
+use Rattle.thread_local_ids.specs.contracts.tokens.book.Book as Book
 use Rattle.thread_local_ids.proofs.Made.{token_val, book_made}
 use Rattle.std.proofs.ResultValues.{and_tt}
 use denote.Struct.Tuple.{Tuple}

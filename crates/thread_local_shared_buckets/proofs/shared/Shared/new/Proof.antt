@@ -34,7 +34,7 @@ use Rattle.thread_local_ids.specs.Told.{rows_telling}
 use Rattle.thread_local_ids.proofs.ToldElements.{source, source_new}
 use Rattle.thread_local_ids.proofs.Rows.{table_whole, rows_drawn}
 use Rattle.thread_local_base.specs.Judged.{Judged}
-use Rattle.thread_local_ids.specs.contracts.right.Right as right
+use Rattle.thread_local_ids.specs.contracts.rights.right.Right as right
 use Rattle.thread_local_buckets.specs.contracts.bucket_pointers.BucketPointers as all_pointers
 use Rattle.thread_local_buckets.proofs.bucket_pointers.BucketPointers.TheLaws as pointers'
 use Rattle.thread_local_shared_buckets.specs.TableView.{TableView}

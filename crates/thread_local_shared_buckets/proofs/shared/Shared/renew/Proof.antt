@@ -22,7 +22,7 @@ use denote.Steps.{nothing, opens, closes}
 use denote.Triple.Walked.{Stays, stay_ref, stay_dropped, walk_of, Goes-ref, Goes-dropped}
 use Rattle.std.proofs.raw_atomic.Walks.{proved, leaves}
 use Rattle.thread_local_ids.proofs.ToldElements.{source, source_new}
-use Rattle.thread_local_ids.specs.contracts.right.Right as right
+use Rattle.thread_local_ids.specs.contracts.rights.right.Right as right
 use Rattle.thread_local_shared_buckets.specs.TableView.{TableView}
 use Rattle.thread_local_shared_buckets.specs.contracts.shared.Shared as shared
 use Rattle.thread_local_shared_buckets.specs.contracts.shared.Shared.renew.{ended, clauses, Key.name as #self}

@@ -15,7 +15,7 @@ use Rattle.std.proofs.lemmas.Option.{none-some}
 use Rattle.std.proofs.Common.{IfSome, IsSome, List, arith}
 use Rattle.thread_local_ids.specs.Views.{TokenView}
 use Rattle.thread_local_ids.specs.TokenLists.{NoneIn, tell_each}
-use Rattle.thread_local_ids.specs.contracts.token_list.TokenList as TokenList
+use Rattle.thread_local_ids.specs.contracts.tokens.token_list.TokenList as TokenList
 use base.Fml.{finv}
 use base.Before.{before}
 use types.Na.{before_dup}

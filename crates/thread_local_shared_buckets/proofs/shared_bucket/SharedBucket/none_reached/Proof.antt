@@ -11,7 +11,7 @@ use types.ByLocal.{get}
 use types.Part.{agg}
 use types.Run.{no_more, and_then}
 use Rattle.thread_local_ids.specs.Rights.{reached_owns}
-use Rattle.thread_local_ids.specs.contracts.reached.Reached as Reached
+use Rattle.thread_local_ids.specs.contracts.rights.reached.Reached as Reached
 use Rattle.thread_local_ids.proofs.ReachedElements.{reached_none}
 use Rattle.thread_local_ids.proofs.Markers.{token, Mark, made}
 use Rattle.thread_local_shared_buckets.specs.contracts.shared_bucket.SharedBucket as one_bucket

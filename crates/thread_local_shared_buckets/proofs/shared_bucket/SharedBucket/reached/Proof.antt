@@ -12,7 +12,7 @@ use Rattle.thread_local_base.proofs.Names.{nothing, param, layouts, RefOf, u64, 
 use Rattle.thread_local_base.proofs.Names.{stay_dropped, walk_of, Goes-dropped, proved, leaves, fm, after}
 use Rattle.std.proofs.Common.{IfSome, IsSome}
 use base.Logic.{id⊢}
-use Rattle.thread_local_ids.specs.contracts.reached.Reached as Reached
+use Rattle.thread_local_ids.specs.contracts.rights.reached.Reached as Reached
 use Rattle.thread_local_ids.proofs.Markers.{token, Mark, made}
 use base.Logic.{sep}
 use types.Run.{Calls-last}

@@ -29,7 +29,7 @@ use Rattle.thread_local_buckets.specs.Slots.{stride, value_offset}
 use Rattle.thread_local_buckets.proofs.Flags.{uncapped, value_near}
 use Rattle.thread_local_ids.specs.Told.{tells}
 use Rattle.thread_local_ids.proofs.ToldElements.{told_dup}
-use Rattle.thread_local_ids.specs.contracts.witness.Witness as Witness
+use Rattle.thread_local_ids.specs.contracts.tokens.witness.Witness as Witness
 use Rattle.thread_local_shared_buckets.specs.Shared.{BucketView, StandingBlock, Sized, len, first as first_id}
 use Rattle.thread_local_shared_buckets.specs.Shared.{value_code, bucket_invariant, loaded}
 use Rattle.thread_local_shared_buckets.specs.contracts.shared_bucket.SharedBucket as one_bucket

@@ -1,0 +1,17 @@
+-- A `&` to a history holds what its page says, which can be had twice. Assumes `Logic`.
+use denote.Param.Shared.{copy_shared}
+use denote.Struct.Laws.{field_copy}
+use denote.Struct.Lending.{of_Lends}
+use denote.Builtin.{unit}
+use Rattle.std.specs.contracts.marker.PhantomData as P
+use Rattle.thread_local_ids.specs.Rights.{page_owns, history_owns}
+use Rattle.thread_local_ids.specs.contracts.rights.page.History as C
+use Rattle.thread_local_ids.proofs.MoveElements.{page_twice, history_shows}
+use Rattle.thread_local_ids.proofs.Twice.{lends_shown, said_laws}
+use Rattle.thread_local_ids.proofs.rights.page.History.TheLaw.Statement.{statement}
+
+pub shares : statement
+shares = of_Lends C.struct (C.the_codes (P.the_row unit).coded) C.the_heap C.the_lent
+    (λ d p. said_laws (page_owns d.table d.moves) (λ M 𝓤 𝓛. page_twice 𝓛 d.table d.moves))
+    (copy_shared (P.the_field unit) (field_copy (P.the_type unit) tt), tt)
+    (λ M 𝓤 𝓛 d p. lends_shown 𝓛 (history_owns d.table d.moves) (page_owns d.table d.moves) (history_shows 𝓛 d.table d.moves) C.the_row.lives)

@@ -1,0 +1,48 @@
+-- `into_history` calls the element of a right the history.
+use Rattle.std.proofs.Common.{ℕ, [], ◌∷◌, refl}
+use base.Fml.{ftrue}
+use base.Logic.{via}
+use types.Kit.{‵, raw, ◌⊛◌, ◌$◌, ◌∵◌, !, qed, keep, move, rewrite, split, join, fsplit, fjoin, suffices, frame, use0, use1, later, await}
+use types.Owned.{basic}
+use types.Run.{no_more, and_then, returns, enter}
+use types.ByLocal.{alloc_all, pass_all, free_all, look_at, get, sets}
+use types.Part.{agg}
+use denote.Exit.{yes}
+use denote.Signature.{plain}
+use denote.Steps.{nothing, heard}
+use denote.Triple.Walked.{Stays, walk_of, stay_dropped, Goes-dropped, ends_at}
+use Rattle.std.proofs.raw_atomic.Walks.{proved}
+use Rattle.thread_local_ids.specs.Rights.{right_owns, history_owns}
+use Rattle.thread_local_ids.proofs.Markers.{token, told, Mark, made}
+use Rattle.thread_local_ids.proofs.Facts.{tells, tells_last}
+use Rattle.thread_local_ids.proofs.MoveElements.{begins}
+use Rattle.thread_local_ids.specs.contracts.rights.right.Right as right
+use Rattle.thread_local_ids.specs.contracts.rights.page.History as history
+use Rattle.thread_local_ids.specs.contracts.rights.right.Right.into_history as f
+use Rattle.thread_local_ids.proofs.rights.right.Right.into_history.Statement.{statement}
+use Rattle.thread_local_ids.proofs.rights.right.Right.into_history.Code as code
+
+abbrev stayed : Stays f.ended.signature.params f.ended.kept
+stayed = (stay_dropped (plain (λ _. right.the_row)) yes, tt)
+
+pub into_history_spec : {M : Type 1} → statement M
+into_history_spec 𝓤 𝓛 𝓜 𝓡 wired =
+    let c = f.clauses 𝓛 𝓜.mem 𝓡.returns in let W = walk_of 𝓛 f.ended stayed c in
+    proved 𝓛 f.ended stayed c 𝓜 𝓡 (Goes-dropped 𝓛 0 (plain (λ _. right.the_row)) yes (λ κs x w. refl), tt)
+    f.Key.name code.function (code.unfolded 𝓤 𝓛.H 𝓜 𝓡 wired)
+    (λ κs. ((λ x. token ∷ []), tt)) (λ κs. ((λ x vs is. told (right.the_type).name vs is.0), tt)) (λ κs qs bounds a g are.
+    let mine = a.0 in let y : W.Ghost = ((κs, qs, bounds, a, (token ∷ [], tt)), g) in
+    qed 𝓛 ((‵ ftrue ⊛ ‵ (right.the_row.own_val mine (token ∷ [])) ⊛ ‵ ftrue)
+    ∷ raw (f.requires-1 𝓛 κs 𝓜.mem 𝓡.returns mine) ∷ []) ∵
+    move ! (1 ∷ []) $ heard ! _ (λ at.
+    split ! $ move ! (1 ∷ []) $ split ! $ fsplit ! $ keep ! (1 ∷ []) $
+    rewrite ! 0 (λ (k : ℕ). ‵ (right_owns mine.table k)) at refl $
+    enter ! _ _ _ _ _ $ alloc_all ! (λ l. pass_all ! refl ((tt, (tt, tt)), tt) $
+    use1 𝓛 (later (‵ (history_owns mine.table []))) (via 𝓤 _ (begins 𝓛 mine.table) (basic 𝓛 _)) $ await ! tt $
+    sets ! (agg ! (no_more !)) refl (tt, tt) $ sets ! (agg ! (and_then ! (get ! refl) (no_more !))) refl (tt, (tt, tt)) $
+    returns ! (look_at ! 0 refl) $ free_all ! refl $
+    suffices ! _ (ends_at 𝓛 f.ended stayed c y token
+    record { marker = record {}; table = mine.table; moves = [] } (tt, tt) (tt, tt)) $
+    use0 𝓛 (‵ ((Mark (history.the_type).name).own_val (tt, tt) (token ∷ [])))
+    (made (history.the_type).name 𝓛) $
+    fjoin ! $ nothing ! $ nothing ! $ join ! $ join ! $ nothing ! $ join ! $ frame ! $ tells ! refl $ tells_last ! refl)))

@@ -1,0 +1,63 @@
+-- `note_log` splits off an element, which becomes the log.
+use Rattle.std.proofs.Common.{◌≡◌, true, false, [], ◌∷◌, refl}
+use mir.Syntax.{named}
+use mir.Val.{Val, vptr}
+use base.Fml.{ftrue, flft}
+use types.Kit.{‵, raw, ◌⊛◌, ◌$◌, ◌∵◌, !, qed, move, keep, split, join, fsplit, fsplit3, fjoin, fjoin3, suffices, frame}
+use types.Kit.{use0, use1}
+use types.Run.{no_more, and_then, returns, enter}
+use types.ByLocal.{alloc_all, pass_all, free_all, look_at, get, sets}
+use types.Part.{agg}
+use contract.Monad.{fact}
+use denote.Ref.{MutRef, mut_vals, mut_Tells}
+use denote.Signature.{plain}
+use denote.Steps.{nothing, opens, closes, heard}
+use denote.Triple.Walked.{Stays, walk_of, stay_ref, Goes-ref, ends_at}
+use Rattle.std.proofs.raw_atomic.Walks.{proved}
+use Rattle.thread_local_ids.specs.Rights.{is_out, rights_own}
+use Rattle.thread_local_ids.specs.FirstIds.{log_key, log_owns}
+use Rattle.thread_local_ids.proofs.FirstElements.{log_begins}
+use Rattle.thread_local_ids.proofs.Facts.{tells, tells_last}
+use Rattle.thread_local_ids.proofs.Markers.{token, Mark, made}
+use Rattle.thread_local_ids.specs.contracts.first.Log as log
+use Rattle.thread_local_ids.specs.contracts.rights.right.Rights.{the_row as R}
+use Rattle.thread_local_ids.specs.contracts.rights.right.Rights.note_log as f
+use Rattle.thread_local_ids.proofs.rights.right.Rights.note_log.Statement.{statement}
+use Rattle.thread_local_ids.proofs.rights.right.Rights.note_log.Code as code
+
+abbrev stayed : Stays f.ended.signature.params f.ended.kept
+stayed = (stay_ref (0 ∷ []) tt (plain (λ _. R)), tt)
+
+pub note_log_spec : {M : Type 1} → statement M
+note_log_spec 𝓤 𝓛 𝓜 𝓡 wired =
+    let c = f.clauses 𝓛 𝓜.mem 𝓡.returns in let W = walk_of 𝓛 f.ended stayed c in
+    proved 𝓛 f.ended stayed c 𝓜 𝓡 (Goes-ref 𝓛 1 0 tt (plain (λ _. R)), tt)
+    f.Key.name code.function (code.unfolded 𝓤 𝓛.H 𝓜 𝓡 wired)
+    (λ κs. (mut_vals, tt)) (λ κs. (mut_Tells (named 0) κs.0 R, tt)) (λ κs qs bounds a g are.
+    let r = a.0 in let b = r.ref_ptr.0 in let o = r.ref_ptr.1 in
+    let s = r.now in
+    let new = record s { out = log_key ∷ s.out } in
+    let Free : Type 0 = is_out s.out log_key ≡ false in
+    let y : W.Ghost = ((κs, qs, bounds, a, (mut_vals r, tt)), g) in let u : Val = vptr b o in
+    qed 𝓛 (((‵ (flft κs.0 qs.0) ⊛ ‵ ftrue) ⊛ ‵ ((MutRef (named 0) κs.0 R).own_val r (u ∷ [])) ⊛ ‵ ftrue)
+    ∷ raw (fact 𝓤 Free) ∷ []) ∵
+    move ! (1 ∷ []) $ heard ! Free (λ free. split ! $ split ! $ move ! (2 ∷ []) $ split ! $ keep ! (0 ∷ 2 ∷ []) $
+    enter ! _ _ _ _ _ $ alloc_all ! (λ l. pass_all ! refl ((tt, tt), tt) $
+    fsplit3 ! $ move ! (1 ∷ 2 ∷ 3 ∷ []) $ opens ! tt R b o (λ us.
+    move ! (1 ∷ []) $ fsplit ! $ move ! (1 ∷ []) $
+    use1 𝓛 (‵ (log_owns s.table true []) ⊛ ‵ (rights_own s.table (log_key ∷ s.out)))
+    (log_begins 𝓛 s.table s.out free) $
+    split ! $
+    -- [the log; the rights; the fields; the cell and the open borrow]
+    move ! (2 ∷ 1 ∷ []) $ fjoin ! $ move ! (2 ∷ 0 ∷ 3 ∷ 4 ∷ 5 ∷ []) $ closes ! tt R new us b o $
+    sets ! (agg ! (no_more !)) refl (tt, tt) $ sets ! (agg ! (and_then ! (get ! refl) (no_more !))) refl (tt, (tt, tt)) $
+    returns ! (look_at ! 0 refl) $ free_all ! refl $
+    suffices ! _ (ends_at 𝓛 f.ended stayed c y token
+    record { marker = record {}; table = s.table; moves = []; whole = true } (new, tt) (tt, tt)) $
+    -- [two parts of self; the token; the log; self's first part]
+    move ! (4 ∷ 0 ∷ 1 ∷ []) $ fjoin3 ! $ nothing ! $ move ! (1 ∷ 0 ∷ []) $ fjoin ! $
+    move ! (2 ∷ []) $
+    use0 𝓛 (‵ ((Mark (log.the_type).name).own_val (tt, tt) (token ∷ [])))
+    (made (log.the_type).name 𝓛) $
+    fjoin ! $ move ! (1 ∷ 0 ∷ []) $ join ! $
+    nothing ! $ move ! (2 ∷ 0 ∷ []) $ join ! $ join ! $ frame ! $ tells ! (refl, refl, refl) $ tells ! refl $ tells_last ! (λ j. refl)))))

@@ -1,8 +1,0 @@
--- A list of tokens may go to another thread: what they tell names none.
-use denote.RattleType.{RattleType}
-use denote.Param.Send.{IsSend}
-use Rattle.thread_local_ids.proofs.TokenListLaws.{each_keyless}
-use Rattle.thread_local_ids.specs.contracts.token_list.TokenList.{the_row}
-
-pub send : (T : RattleType) → IsSend (the_row T)
-send T = record { owned = λ d vs. ((λ vss. (tt, ((λ uss. (tt, tt)), tt))), each_keyless T d.tokens); leaving = λ k f vs. tt }

@@ -1,0 +1,75 @@
+//! What every slot of a table held at the end of a sharing.
+ghost use Rattle.std.specs.Prelude.{◌≡◌, ◌≢◌, ◌-◌, ◌^◌, ◌<◌, ℕ, Option, Some, IsSome, All, map, length, IsPermutation};
+ghost use Rattle.std.specs.List.{AllPairs};
+ghost use Rattle.std.specs.Coded.{coded_option, coded_ℕ};
+ghost use Rattle.thread_local_base.specs.Buckets.{Contents, values};
+ghost use Rattle.thread_local_base.specs.Code.{contents_coded};
+ghost use Rattle.thread_local_base.specs.Walk.{walk};
+ghost use Rattle.thread_local_ids.specs.Told.{book_owns};
+ghost use denote.Sharing.{said};
+
+use crate::tokens::token::Token;
+use crate::tokens::witness::Witness;
+use std::marker::{Model, PhantomData};
+
+/// What each slot of a table held when a sharing ended: a published value or none. An owner who takes
+/// the buckets gets it beside them. It has no bytes, and no call waits or takes memory.
+pub struct Book<T> {
+    pub marker: PhantomData<T>,
+    pub ghost sharing: { Option ℕ } by { coded_option coded_ℕ },
+    pub ghost contents: { Contents T } by { contents_coded T.code },
+}
+
+impl<T> Model for Book<T> {
+    ghost also_owns = { λ b. book_owns T.row b.sharing b.contents };
+
+    ghost also_shares = { λ b _ κ. said (book_owns T.row b.sharing b.contents) κ };
+}
+
+impl<T> Book<T> {
+    /// Shows that the slot of a token's id had the token's value when the sharing ended. At run time
+    /// it does nothing.
+    pub fn tells(&self, token: &Token<T>)
+        requires sharing { token.now.sharing ≡ self.now.sharing }
+        requires named { IsSome self.now.sharing }
+        ensures value { values self.now.contents token.now.id ≡ Some token.now.value }
+        ensures in_range { token.now.id < 2 ^ 63 - 1 }
+    {
+        // That the id is in range.
+        let _ = token.id();
+        self.tells_of(token.witness());
+    }
+
+    /// Shows that tokens of different ids are all that was published, where there are as many of
+    /// them as values: a walk gives their values, in some order. At run time it goes over the tokens
+    /// and does nothing with them.
+    pub fn tells_all(&self, tokens: &[Token<T>])
+        requires sharing { All (λ token. token.sharing ≡ self.now.sharing) tokens.now }
+        requires named { IsSome self.now.sharing }
+        requires different { AllPairs (λ one other. one.id ≢ other.id) tokens.now }
+        requires as_many { length tokens.now ≡ length (walk (values self.now.contents)) }
+        ensures { IsPermutation (map (λ token. token.value) tokens.now) (walk (values self.now.contents)) }
+    {
+        for index in 0..tokens.len() {
+            self.tells(&tokens[index]);
+        }
+    }
+
+    /// `tells`, of what a witness shows.
+    fn tells_of(&self, witness: &Witness<T>)
+        requires sharing { witness.now.sharing ≡ self.now.sharing }
+        requires named { IsSome self.now.sharing }
+        requires in_range { witness.now.id < 2 ^ 63 - 1 }
+        ensures { values self.now.contents witness.now.id ≡ Some witness.now.value }
+    {}
+}
+
+impl<T> Drop for Book<T> {
+    fn drop(self) {
+        let Self { marker: _ } = self;
+    }
+}
+
+unsafe impl<T> Send for Book<T> {}
+
+unsafe impl<T> Sync for Book<T> {}
