@@ -60,7 +60,8 @@ impl<'a, T> Walk<'a, T> {
     {
         if let None = self.row {
             let walk = &*self;
-            self.row = walk.buckets.bucket(walk.raw.bucket).load(walk.told.list());
+            let pointers = &walk.buckets.parts().pointers.pointers.pointers;
+            self.row = pointers[walk.raw.bucket].load(walk.told.list());
         }
         let walk = &*self;
         // The chunk and the flag of the own slot, if it lies in the bucket.

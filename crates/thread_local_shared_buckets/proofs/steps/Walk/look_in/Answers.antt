@@ -3,16 +3,18 @@ use Rattle.thread_local_ids.specs.Views.{TokenView}
 use Rattle.thread_local_ids.specs.TokenLists.{NoneIn}
 use Rattle.thread_local_shared_buckets.specs.AtHand.{IsRowOf, IsWalk, LooksIn}
 use Rattle.thread_local_shared_buckets.specs.Shared.{BucketView}
-use Rattle.thread_local_shared_buckets.specs.TableView.{TableView, IsBucketOf}
+use Rattle.thread_local_shared_buckets.specs.Announcing.{Announcing}
+use Rattle.thread_local_shared_buckets.specs.TableView.{TableView, bucket_view}
 use Rattle.thread_local_shared_buckets.specs.declared.row.Row.{Row}
 use Rattle.thread_local_shared_buckets.specs.declared.seen.Seen.{Seen}
 use Rattle.thread_local_shared_buckets.specs.declared.steps.Own.{Own}
 use Rattle.thread_local_shared_buckets.specs.declared.steps.Walk.{Walk}
 use Rattle.thread_local_shared_buckets.proofs.Findings.{FindsTokens, HasLookedOn, LiesOutside, MarksOwn, own_index}
 use Rattle.std.proofs.Common.{◌≡◌, ◌∙◌, ◌<◌, ◌≤◌, ◌*◌, ◌^◌, ◌+◌, ◌/◌, ◌%◌, ℕ, List, Option, None, Some, IfSome}
-use Rattle.std.proofs.Common.{subst, sym, ap, refl, arith, bit_or, w64, Fits, pow_mono}
+use Rattle.std.proofs.Common.{subst, sym, ap, refl, arith, bit_or, get_or, w64, Fits, pow_mono}
 use denote.Param.{param}
 use Rattle.thread_local_buckets.specs.Slots.{flag_word_at}
+use Rattle.thread_local_shared_buckets.proofs.Lists.{listed_bucket}
 use Rattle.thread_local_shared_buckets.proofs.BitLaws.{none_in_chunk, none_further, keeps_set, Counts, counts_here, counts_there}
 use Rattle.thread_local_shared_buckets.proofs.BitLaws.{alone_own, alone_none}
 use Rattle.thread_local_shared_buckets.proofs.LookLaws.{looked_on, read_at}
@@ -33,17 +35,11 @@ module _ {V : Type 0} where
     pub of : IfSome row (IsRowOf w.buckets.now.sharing w.raw.bucket)
     pub absent : row ≡ None → NoneIn w.buckets.now.sharing w.raw.bucket w.told
 
-  of_bucket : (s : TableView) (bucket : ℕ) (d : BucketView) (row : Option (Row V)) → IsBucketOf s bucket d → IfSome row (λ r. r.of ≡ d)
-      → IfSome row (IsRowOf s.sharing bucket)
-  of_bucket s bucket d None is of = tt
-  of_bucket s bucket d (Some r) is of =
-      (ap (λ (b : BucketView). b.bucket) of ∙ is.number, ap (λ (b : BucketView). b.sharing) of ∙ is.sharing)
-
-  none_of : (s : TableView) (bucket : ℕ) (d : BucketView) (xs ys : List (TokenView V)) → IsBucketOf s bucket d → xs ≡ ys
-      → NoneIn d.sharing d.bucket xs → NoneIn s.sharing bucket ys
-  none_of s bucket d xs ys is same none =
-      subst (λ (ts : List (TokenView V)). NoneIn s.sharing bucket ts) same
-      (subst (λ (o : Option ℕ). NoneIn o bucket xs) is.sharing (subst (λ (b : ℕ). NoneIn d.sharing b xs) is.number none))
+  of_bucket : (s : TableView) (w : Announcing) (bucket : ℕ) (d : BucketView) (row : Option (Row V)) → d ≡ bucket_view s w bucket
+      → IfSome row (λ r. r.of ≡ d) → IfSome row (IsRowOf s.sharing bucket)
+  of_bucket s w bucket d None is of = tt
+  of_bucket s w bucket d (Some r) is of =
+      (ap (λ (b : BucketView). b.bucket) (of ∙ is), ap (λ (b : BucketView). b.sharing) (of ∙ is))
 
   -- the index of the own slot, if it lies in the walk's bucket
   abbrev own_here : Walk V → Option ℕ
@@ -98,13 +94,20 @@ loaded g c =
     let w = c.args.self.now in
     elim c.match-self.branch [
       | in-None x ↦
+          let parts = x.behind-walk.inside in
+          let here =
+          listed_bucket parts.pointers.pointers.pointers parts.pointers.announced parts.reserved w.raw.bucket x.index-pointers-walk.result
+          w.buckets.now x.behind-walk.told c.requires.in_table x.behind-walk.invariant.0 (x.behind-walk.view_is ∙ x.parts.ensures) in
           (record {
             row = x.load-self.result;
             is = x.self-is;
-            of = of_bucket w.buckets.now w.raw.bucket x.bucket.result.now x.load-self.result x.bucket.ensures x.load-self.ensures.of;
+            of =
+                of_bucket w.buckets.now parts.pointers.announced w.raw.bucket
+                (get_or parts.pointers.pointers.pointers w.raw.bucket x.index-pointers-walk.result) x.load-self.result here
+                x.load-self.ensures.of;
             absent = λ none.
-                none_of w.buckets.now w.raw.bucket x.bucket.result.now x.list.result.now.tokens w.told x.bucket.ensures x.list.ensures
-                (x.load-self.ensures.told none);
+                subst (λ (ts : List (TokenView _)). NoneIn w.buckets.now.sharing w.raw.bucket ts) x.list.ensures
+                (subst (λ (b : BucketView). NoneIn b.sharing b.bucket x.list.result.now.tokens) here (x.load-self.ensures.told none));
           })
       | in_default x ↦
           (record { row = w.row; is = x.self-is; of = c.requires.walk.row; absent = λ none. absurd (x.in_default.not-None none) })
