@@ -4,7 +4,7 @@ use std::sync::atomic::AtomicBool;
 use std::sync::atomic::Ordering::SeqCst;
 
 /// How often a thread looks for another's signal before it gives up.
-pub const LOOKS: u64 = 100_000_000;
+pub const LOOKS: u64 = 2_000_000_000;
 
 /// Looks for a signal until it is given, or gives up. Answers whether it was seen.
 pub fn is_seen(signal: &AtomicBool) -> bool {
