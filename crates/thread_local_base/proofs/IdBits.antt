@@ -90,10 +90,16 @@ module _ (m : IdBits) (is : AreEntries m) where
         room = omega arith;
       }
 
+  -- an id without a bit isn't past the last one
+  pub without_bit : length m.words ≤ m.lowest_unset / 64 → m.lowest_unset < 2 ^ 63 - 1
+  without_bit past =
+      let within = lowest_within in let under = is.peak in let range = is.in_range in
+      omega (arith, past, within, under, range)
+
   -- every id is held that has a bit
-  pub needs_memory : length m.words ≤ m.lowest_unset / 64 → m.lowest_unset < 2 ^ 63 - 1 → NeedsMemory (entries_of m)
-  needs_memory past range =
-      let within = lowest_within in let under = is.peak in record {
+  pub needs_memory : length m.words ≤ m.lowest_unset / 64 → NeedsMemory (entries_of m)
+  needs_memory past =
+      let within = lowest_within in let under = is.peak in let range = without_bit past in record {
         full = λ k below. least_lower (entries_of m).held k (omega (arith, seen_least, seen_peak));
         no_room = omega (arith, seen_peak);
         in_range = omega arith;
@@ -142,13 +148,13 @@ module _ (m : IdBits) (is : AreEntries m) where
 
   -- the same where a further word was made for it
   pub takes_pushed : (words : List ℕ) (new : IdBits) → words ≡ m.words ++ 0 ∷ []
-      → length m.words ≤ m.lowest_unset / 64 → m.lowest_unset < 2 ^ 63 - 1
+      → length m.words ≤ m.lowest_unset / 64
       → Takes (entries_of (record m { words = words })) (entries_of new) m.lowest_unset
       → Takes (entries_of m) (entries_of new) m.lowest_unset
-  takes_pushed words new items past range taken =
+  takes_pushed words new items past taken =
       let held : take m.peak (bits_of words) ≡ (entries_of m).held = rw items (take-push m.words m.peak is.peak) in
       let many : length words ≡ length m.words + 1 = rw items (length_push m.words 0) in
-      let within = lowest_within in let under = is.peak in
+      let within = lowest_within in let under = is.peak in let range = without_bit past in
       let room : (entries_of new).room ≡ min (length words * 64) (2 ^ 63 - 1) = taken.stays (omega arith) in
       takes _ _ _ seen_least range (taken.held ∙ ap with_least held) (omega arith) (λ inside. absurd (omega (arith, inside)))
       (omega arith) taken.peak_in_room taken.room_in_range

@@ -104,10 +104,11 @@ impl ThreadIdManager {
             self.returned = IDS;
             return Ok(id);
         }
-        if id >= IDS {
-            return Err(LocalError::Exhausted);
-        }
         if id / 64 < self.bits.words.len() {
+            // The last word has a bit past the last id.
+            if id >= IDS {
+                return Err(LocalError::Exhausted);
+            }
             self.bits.set_lowest();
             return Ok(id);
         }

@@ -27,7 +27,7 @@ use Rattle.thread_local_buckets.proofs.Slots.{value_of as held_value}
 
 -- the cursor with other flags to pass
 abbrev pub past : OwnerCursor → ℕ → OwnerCursor
-past cursor rest = record { raw = cursor.raw; read = cursor.read; rest = rest; later = cursor.later; left = cursor.left }
+past cursor rest = record { raw = cursor.raw; read = cursor.read; chunk = cursor.chunk; rest = rest; later = cursor.later; left = cursor.left }
 
 -- a walk passes the value of a slot, and goes on with the flags that are left
 pub record Passes {V : Type 0} (c : Contents V) (cursor : OwnerCursor) (rest given index : ℕ) : Type 0 where
@@ -54,6 +54,7 @@ abbrev pub behind_flags : OwnerCursor → RawIter → ℕ → ℕ → OwnerCurso
 behind_flags cursor raw flags buckets = record {
   raw = record { yielded = raw.yielded + count_ones flags; bucket = raw.bucket; bucket_size = raw.bucket_size; index = raw.index };
   read = flags;
+  chunk = (raw.index - 64) / 64;
   rest = flags;
   later = cursor.later - count_ones flags;
   left = buckets;
@@ -64,6 +65,7 @@ abbrev begun : ℕ → ℕ → OwnerCursor
 begun announced count = record {
   raw = record { yielded = 0; bucket = 0; bucket_size = 1; index = 0 };
   read = 0;
+  chunk = 0;
   rest = 0;
   later = count;
   left = bit_and announced (bit_not w64 1);
@@ -177,6 +179,7 @@ module _ {V : Type 0} where
           counted = omega (arith, left, one, counted);
           few = omega (arith, left, one, counted, few);
           fits = walks.fits;
+          chunk = walks.chunk;
         };
         behind = behind;
         first = λ v here. (taken v here).entries;
@@ -212,6 +215,7 @@ module _ {V : Type 0} where
           counted = left ∙ walks.counted;
           few = omega (arith, left, walks.few);
           fits = omega (arith, few, walks.fits, yielded);
+          chunk = refl;
         },
         left,
       )
@@ -227,4 +231,5 @@ module _ {V : Type 0} where
         counted = left ∙ counted;
         few = omega (arith, left, few);
         fits = omega (arith, few);
+        chunk = refl;
       }

@@ -52,6 +52,7 @@ pub record IsOwnerWalk {V : Type 0} (contents : Contents V) (cursor : OwnerCurso
   pub counted : values_left cursor ≡ length (walk (values contents))
   pub few : values_left cursor < 2 ^ 63
   pub fits : cursor.raw.yielded + cursor.later < 2 ^ 63
+  pub chunk : cursor.chunk ≡ (cursor.raw.index - 64) / 64
 
 -- the walk has a value left, and the flags that it hasn't read are of ids from `given` on
 pub record MayRead {V : Type 0} (contents : Contents V) (given : ℕ) (cursor : OwnerCursor) : Type 0 where

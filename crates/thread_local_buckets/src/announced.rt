@@ -13,13 +13,13 @@ pub(crate) const FIRST_SEVEN: u64 = 127;
 
 /// Takes the lowest set bit out of a word, of buckets or of flags, and returns its number.
 #[inline]
-pub fn take_first(buckets: &mut u64) -> usize
-    requires { 0 < buckets.old }
-    ensures first { IsLowestSet buckets.old result }
-    ensures rest { IsWordBut buckets.new buckets.old result false }
-    ensures fewer { buckets.new < buckets.old }
+pub fn take_first(word: &mut u64) -> usize
+    requires { 0 < word.old }
+    ensures first { IsLowestSet word.old result }
+    ensures rest { IsWordBut word.new word.old result false }
+    ensures fewer { word.new < word.old }
 {
-    let first = buckets.trailing_zeros() as usize;
-    *buckets &= *buckets - 1;
+    let first = word.trailing_zeros() as usize;
+    *word &= *word - 1;
     first
 }

@@ -1,5 +1,5 @@
 //! The pointers of a table, which contracts see as its contents.
-ghost use Rattle.std.specs.Prelude.{◌≡◌, ℕ, ◌+◌, ◌*◌, ◌^◌, ◌<◌, true, false, [], length, Some, None, is_some, OnOk, OnErr, IsSome};
+ghost use Rattle.std.specs.Prelude.{◌≡◌, ℕ, ◌+◌, ◌*◌, ◌/◌, ◌^◌, ◌<◌, true, false, [], length, Some, None, is_some, OnOk, OnErr, IsSome};
 ghost use Rattle.thread_local_base.specs.Bits.{is_set};
 ghost use Rattle.thread_local_base.specs.Buckets.{row, stands, no_contents, IsTable};
 ghost use Rattle.thread_local_base.specs.Rows.{value_in, with_row, with_slot, empty_row};
@@ -82,18 +82,27 @@ impl<T> BucketPointers<T> {
     }
 
     /// Stores `flags` for a slot's chunk, and then moves the slot's value out. `flags` are the
-    /// chunk's, with this slot's cleared. The caller passes the bucket's size.
+    /// chunk's, with this slot's cleared. The caller passes the bucket's size, and the chunk, which
+    /// a walk computes once for all its values.
     #[inline]
-    pub fn take_and_store(&mut self, bucket: usize, size: usize, index: usize, flags: u64) -> T
+    pub fn take_and_store(
+        &mut self,
+        bucket: usize,
+        size: usize,
+        chunk: usize,
+        index: usize,
+        flags: u64,
+    ) -> T
         requires in_table { bucket < 63 }
         requires size { size ≡ 2 ^ bucket }
+        requires chunk { chunk ≡ index / 64 }
         requires in_bucket { index < length (row self.old bucket) }
         requires published { IsSome (value_in self.old bucket index) }
         requires flags { AreFlagsAt (with_slot self.old bucket index None) bucket index flags }
         ensures value { value_in self.old bucket index ≡ Some result }
         ensures after { self.new ≡ with_slot self.old bucket index None }
     {
-        let flag_word = flag_word_at::<T>(size, index / 64);
+        let flag_word = flag_word_at::<T>(size, chunk);
         self.pointers
             .pointer_mut(bucket)
             .take_and_store(index, flag_word, flags)

@@ -105,6 +105,9 @@ pub struct OwnerCursor {
     pub raw: RawIter,
     /// The flags that it read last. 0 where it has read none.
     pub read: u64,
+    /// The chunk of these flags. It is kept, so that the compiler computes it once for all their
+    /// values.
+    pub chunk: usize,
     /// Those of them whose values it hasn't passed.
     pub rest: u64,
     /// How many values lie behind these slots.
@@ -179,11 +182,13 @@ impl OwnerCursor {
             };
             flags = flags_in_bucket(source, &mut raw);
         }
+        let chunk = (raw.index - 64) / 64;
         let count = flags.count_ones() as usize;
         raw.yielded += count;
         self.raw = raw;
         self.left = left;
         self.read = flags;
+        self.chunk = chunk;
         self.rest = flags;
         self.later -= count;
     }

@@ -141,6 +141,7 @@ impl<T> BucketPointers<T> {
                 index: 0,
             },
             read: 0,
+            chunk: 0,
             rest: 0,
             later: self.count_values(announced),
             left: announced & !1,

@@ -30,7 +30,7 @@ impl<T> Buckets<T> {
         let size = cursor.raw.bucket_size;
         let value = self
             .pointers
-            .take_and_store(cursor.raw.bucket, size, index, cursor.rest);
+            .take_and_store(cursor.raw.bucket, size, cursor.chunk, index, cursor.rest);
         (index + (size - 1), value)
     }
 

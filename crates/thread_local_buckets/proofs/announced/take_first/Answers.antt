@@ -5,9 +5,9 @@ use Rattle.thread_local_buckets.proofs.announced.take_first.Goals as goal
 
 pub returns-clause-first : goal.returns-clause-first
 returns-clause-first c =
-    lowest_set c.args.buckets.now (omega arith) (λ none. absurd (let some = c.requires in omega (arith, none, some)))
+    lowest_set c.args.word.now (omega arith) (λ none. absurd (let some = c.requires in omega (arith, none, some)))
 
 pub returns-clause-rest : goal.returns-clause-rest
 returns-clause-rest c =
-    clear_lowest_at c.args.buckets.now (trailing_zeros w64 c.args.buckets.now) (omega arith)
-    (lowest_set c.args.buckets.now (omega arith) (λ none. absurd (let some = c.requires in omega (arith, none, some))))
+    clear_lowest_at c.args.word.now (trailing_zeros w64 c.args.word.now) (omega arith)
+    (lowest_set c.args.word.now (omega arith) (λ none. absurd (let some = c.requires in omega (arith, none, some))))

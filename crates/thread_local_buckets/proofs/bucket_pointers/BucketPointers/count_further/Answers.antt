@@ -8,10 +8,10 @@ overflow_add-count g c =
     let so = c.buckets.invariant.counted in
     let next =
     counted_more c.stands.new.self c.args.self.now c.buckets.count c.count_in_bucket-count.result c.buckets.left
-    c.take_first-bucket.new.buckets c.take_first-bucket.result so c.take_first-bucket.ensures.first
+    c.take_first-bucket.new.word c.take_first-bucket.result so c.take_first-bucket.ensures.first
     c.take_first-bucket.ensures.rest (c.stands.ensures.same ∙ c.buckets.invariant.same)
     c.count_in_bucket-count.ensures.counted in
-    let fits = counted_fits c.args.self.now c.take_first-bucket.new.buckets (c.buckets.count + c.count_in_bucket-count.result) next in
+    let fits = counted_fits c.args.self.now c.take_first-bucket.new.word (c.buckets.count + c.count_in_bucket-count.result) next in
     omega (arith, fits)
 
 pub buckets-preserved-then-stands : goal.buckets-preserved-then-stands
@@ -19,7 +19,7 @@ buckets-preserved-then-stands g c =
     record {
       counted =
           counted_more c.stands.new.self c.args.self.now c.buckets.count c.count_in_bucket-count.result c.buckets.left
-          c.take_first-bucket.new.buckets c.take_first-bucket.result c.buckets.invariant.counted
+          c.take_first-bucket.new.word c.take_first-bucket.result c.buckets.invariant.counted
           c.take_first-bucket.ensures.first c.take_first-bucket.ensures.rest
           (c.stands.ensures.same ∙ c.buckets.invariant.same) c.count_in_bucket-count.ensures.counted;
       same = c.count_in_bucket-count.ensures.same ∙ c.stands.ensures.same ∙ c.buckets.invariant.same;
@@ -68,7 +68,7 @@ pub buckets-preserved : goal.buckets-preserved
 buckets-preserved g c =
     record {
       counted =
-          counted_past c.buckets.self c.args.self.now c.buckets.count c.buckets.left c.take_first-bucket.new.buckets
+          counted_past c.buckets.self c.args.self.now c.buckets.count c.buckets.left c.take_first-bucket.new.word
           c.take_first-bucket.result c.buckets.invariant.counted c.take_first-bucket.ensures.first
           c.take_first-bucket.ensures.rest c.buckets.invariant.same (c.stands.ensures.absent c.if-stands.false);
       same = c.stands.ensures.same ∙ c.buckets.invariant.same;

@@ -28,6 +28,7 @@ returns-clause-after g c =
 
 pub take_and_store-requires-clause-flag_word : goal.take_and_store-requires-clause-flag_word
 take_and_store-requires-clause-flag_word g c = c.flag_word_at-flag_word.ensures
+    ∙ ap (λ (n : ℕ). flag_word_at (T-row g.row.T) c.args.size n) c.requires.chunk
     ∙ ap (λ (n : ℕ). flag_word_at (T-row g.row.T) n (c.args.index / 64))
     (size_of_pointer c.self.inside.pointers c.args.self.now c.args.bucket c.args.index
     c.args.size c.pointer_mut.result.now c.self.view_is c.self.invariant.0

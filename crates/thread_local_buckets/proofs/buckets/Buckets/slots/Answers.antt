@@ -21,7 +21,7 @@ buckets-preserved-then-stands g c =
     let bucket = c.take_first-bucket in
     record {
       added =
-          added_more c.announced-left.new.self _ c.buckets.slots c.bucket_size-slots.result c.buckets.left bucket.new.buckets
+          added_more c.announced-left.new.self _ c.buckets.slots c.bucket_size-slots.result c.buckets.left bucket.new.word
           bucket.result kept.added bucket.ensures.first bucket.ensures.rest kept.same
           (sym c.stands.ensures.value ∙ c.if-stands.true) c.bucket_size-slots.ensures;
       same = c.stands.ensures.same ∙ kept.same;
@@ -33,8 +33,8 @@ overflow_add-slots g c =
     let kept = c.buckets.invariant in
     let bucket = c.take_first-bucket in
     let fits =
-    added_fits c.announced-left.new.self bucket.new.buckets (c.buckets.slots + c.bucket_size-slots.result)
-    (added_more c.announced-left.new.self _ c.buckets.slots c.bucket_size-slots.result c.buckets.left bucket.new.buckets
+    added_fits c.announced-left.new.self bucket.new.word (c.buckets.slots + c.bucket_size-slots.result)
+    (added_more c.announced-left.new.self _ c.buckets.slots c.bucket_size-slots.result c.buckets.left bucket.new.word
     bucket.result kept.added bucket.ensures.first bucket.ensures.rest kept.same
     (sym c.stands.ensures.value ∙ c.if-stands.true) c.bucket_size-slots.ensures) in
     omega (arith, fits)
@@ -45,7 +45,7 @@ buckets-preserved g c =
     let bucket = c.take_first-bucket in
     record {
       added =
-          added_absent c.announced-left.new.self _ c.buckets.slots c.buckets.left bucket.new.buckets bucket.result kept.added
+          added_absent c.announced-left.new.self _ c.buckets.slots c.buckets.left bucket.new.word bucket.result kept.added
           bucket.ensures.first bucket.ensures.rest kept.same (sym c.stands.ensures.value ∙ c.if-stands.false);
       same = c.stands.ensures.same ∙ kept.same;
       reserved = kept.reserved;

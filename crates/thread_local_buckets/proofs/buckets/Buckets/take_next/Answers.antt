@@ -1,5 +1,5 @@
 use Rattle.std.proofs.Common.{◌≡◌, refl, ◌+◌, ◌-◌, ◌^◌, ◌<◌, ◌≤◌, ℕ, None, ◌∷◌, ap, sym, ◌∙◌, subst, length, arith, lit<}
-use Rattle.std.specs.Prelude.{IsSome, IsTrue, nat_lt}
+use Rattle.std.specs.Prelude.{◌/◌, ◌%◌, min, IsSome, IsTrue, nat_lt}
 use Rattle.thread_local_base.specs.Buckets.{Contents, IsTable, row, values}
 use Rattle.thread_local_base.specs.Owned.{Owned, IsOwned}
 use Rattle.thread_local_base.specs.Rows.{value_in, with_slot}
@@ -102,6 +102,11 @@ it_is_near g c table =
     slot_is_near c.if-cursor-eq0.self-inside.pointers raw.bucket (slot_at raw c.pass-bit.result) raw.bucket_size
     table passed.in_bucket passed.walk.at.in_table passed.walk.at.size
 
+-- the slots whose flags were read last are one chunk's
+chunk_read : (chunk read bit from all : ℕ) → chunk ≡ (read - 64) / 64 → read % 64 ≡ 0 → 64 ≤ read
+    → read - 64 + bit + from < min read all + from → chunk ≡ (read - 64 + bit) / 64
+chunk_read chunk read bit from all is round some before = omega (arith, is, round, some, before)
+
 owned_still : {V : Type 0} (c d e : Contents V) (reserved b i : ℕ) → IsOwned (record { contents = c; reserved = reserved })
     → d ≡ c → e ≡ with_slot d b i None → IsOwned (record { contents = e; reserved = reserved })
 owned_still c d e reserved b i owned same after =
@@ -154,7 +159,10 @@ take_and_store-value-requires g c =
     (i < length (row w b)) × IsSome (value_in w b i) × AreFlagsAt (with_slot w b i None) b i cursor.rest in
     let passed = c.pass-bit.ensures in
     let there = subst P (sym passed.same) (passed.in_bucket, passed.published, passed.flags) in
-    (lit< tt, (passed.walk.at.in_table, (passed.walk.at.size, (there.0, (there.1, there.2)))))
+    let walk = passed.walk in
+    let chunk = chunk_read cursor.chunk cursor.raw.index c.pass-bit.result (2 ^ b - 1) cursor.raw.bucket_size walk.chunk
+    walk.at.round passed.read passed.before in
+    (lit< tt, (passed.walk.at.in_table, (passed.walk.at.size, (chunk, (there.0, (there.1, there.2))))))
 
 pub overflow_sub-result : goal.overflow_sub-result
 overflow_sub-result g c =

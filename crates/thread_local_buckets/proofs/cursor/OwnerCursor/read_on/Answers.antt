@@ -10,7 +10,7 @@ use Rattle.thread_local_base.proofs.TakingLaws.{walk-met, id_at-next}
 use Rattle.thread_local_buckets.specs.Announced.{AreAhead}
 use Rattle.thread_local_buckets.specs.Cursor.{read_to, IsAt}
 use Rattle.thread_local_buckets.specs.declared.cursor.RawIter.{RawIter}
-use Rattle.thread_local_buckets.proofs.FlagLaws.{at_start, none_to_next}
+use Rattle.thread_local_buckets.proofs.FlagLaws.{at_start, behind_slots, none_to_next}
 use Rattle.thread_local_buckets.proofs.NextValue.{flags_few, reads_on}
 use Rattle.thread_local_buckets.proofs.Passing.{IsReading, takes, none_ahead, NoneBelow-passed}
 use Rattle.thread_local_buckets.proofs.cursor.OwnerCursor.read_on.Goals as goal
@@ -115,7 +115,7 @@ flags_in_bucket-flags-requires-in-buckets-clause-at g c =
     (record { yielded = c.buckets.raw.yielded; bucket = first.result; bucket_size = c.bucket_size.result; index = 0 }) 0)
     (sym kept.same)
     (is_on (g.P.FlagSource.contents c.args.source.now) c.buckets.left (g.P.FlagSource.given c.args.source.now) c.buckets.raw
-    c.buckets.flags kept.read c.buckets-test.true first.new.buckets first.result c.bucket_size.result first.ensures.first
+    c.buckets.flags kept.read c.buckets-test.true first.new.word first.result c.bucket_size.result first.ensures.first
     first.ensures.rest c.bucket_size.ensures).at
 
 pub flags_in_bucket-flags-requires-in-buckets-clause-ahead : goal.flags_in_bucket-flags-requires-in-buckets-clause-ahead
@@ -126,7 +126,7 @@ flags_in_bucket-flags-requires-in-buckets-clause-ahead g c =
     (record { yielded = c.buckets.raw.yielded; bucket = first.result; bucket_size = c.bucket_size.result; index = 0 }))
     (sym kept.same)
     (is_on (g.P.FlagSource.contents c.args.source.now) c.buckets.left (g.P.FlagSource.given c.args.source.now) c.buckets.raw
-    c.buckets.flags kept.read c.buckets-test.true first.new.buckets first.result c.bucket_size.result first.ensures.first
+    c.buckets.flags kept.read c.buckets-test.true first.new.word first.result c.bucket_size.result first.ensures.first
     first.ensures.rest c.bucket_size.ensures).ahead
 
 pub buckets-preserved : goal.buckets-preserved
@@ -137,10 +137,10 @@ buckets-preserved g c =
     let first = c.take_first-bucket in
     let looked = c.flags_in_bucket-flags-in-buckets in
     let on =
-    is_on contents c.buckets.left given c.buckets.raw c.buckets.flags kept.read c.buckets-test.true first.new.buckets
+    is_on contents c.buckets.left given c.buckets.raw c.buckets.flags kept.read c.buckets-test.true first.new.word
     first.result c.bucket_size.result first.ensures.first first.ensures.rest c.bucket_size.ensures in
     record {
-      read = has_read contents first.new.buckets given first.result looked.new.raw looked.result on.announced
+      read = has_read contents first.new.word given first.result looked.new.raw looked.result on.announced
           (subst (λ (l : g.row.P.Denot). IsAt (g.P.FlagSource.contents l) looked.new.raw looked.result) kept.same looked.ensures.at)
           (subst (λ (l : g.row.P.Denot). g.P.FlagSource.given l ≤ read_to looked.new.raw) kept.same looked.ensures.ahead)
           looked.ensures.bucket
@@ -151,6 +151,12 @@ buckets-preserved g c =
       fits = looked.type_inv;
       yielded = looked.ensures.yielded ∙ kept.yielded;
     }
+
+pub overflow_sub-chunk : goal.overflow_sub-chunk
+overflow_sub-chunk g c =
+    let kept = c.buckets.invariant in
+    behind_slots (g.P.FlagSource.contents c.args.source.now) c.buckets.raw c.buckets.flags kept.read.at
+    (omega (arith, c.buckets-test.false))
 
 pub overflow_add-raw : goal.overflow_add-raw
 overflow_add-raw g c =

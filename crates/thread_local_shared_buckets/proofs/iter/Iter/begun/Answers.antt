@@ -32,7 +32,7 @@ invariant_of-result g c =
     let word = c.load_announced-announced in
     let Has : Option (Own _) → ℕ → Type 0 = λ own left. HasAll own word.result left in
     begins _ refl refl refl refl c.requires.told
-    (begins_left c.args.buckets.now.sharing c.args.told c.args.own word.result c.match-own.left c.take_first.new.buckets c.take_first.result
+    (begins_left c.args.buckets.now.sharing c.args.told c.args.own word.result c.match-own.left c.take_first.new.word c.take_first.result
     (elim c.match-own.branch [
       | in-Some w ↦
           subst (λ (left : ℕ). Has c.args.own left) (sym w.left-is)

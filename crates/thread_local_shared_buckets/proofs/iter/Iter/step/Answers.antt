@@ -260,7 +260,7 @@ given_here g c come test =
     let w = met.walk in
     let low = c.take_first-bit.result in
     let lowest = c.take_first-bit.ensures.first in
-    let rest = c.take_first-bit.new.buckets in
+    let rest = c.take_first-bit.new.word in
     let cleared = c.take_first-bit.ensures.rest in
     elim c.if-here.branch [
       | then-here+in-Some-take x ↦

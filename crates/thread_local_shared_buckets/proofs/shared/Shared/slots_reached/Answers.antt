@@ -27,11 +27,11 @@ buckets-preserved-in-Some g c =
     let bucket : ℕ = c.take_first-bucket.result in
     let at = c.bucket-in-buckets.ensures in record {
       counted =
-          more reserved c.buckets.left c.take_first-bucket.new.buckets c.buckets.slots bucket c.buckets.invariant.counted
+          more reserved c.buckets.left c.take_first-bucket.new.word c.buckets.slots bucket c.buckets.invariant.counted
           c.take_first-bucket.ensures.first c.take_first-bucket.ensures.rest c.bucket_size-slots.result c.bucket_size-slots.ensures;
       table = c.in-Some.ensures.shown.0 ∙ at.table;
       grown = λ grown.
-          allowed reserved c.buckets.left c.take_first-bucket.new.buckets c.buckets.slots bucket c.buckets.invariant.counted
+          allowed reserved c.buckets.left c.take_first-bucket.new.word c.buckets.slots bucket c.buckets.invariant.counted
           c.take_first-bucket.ensures.first c.take_first-bucket.ensures.rest c.bucket_size-slots.result c.in-Some.shown.ids
           c.bucket_size-slots.ensures
           (c.in-Some.ensures.shown.1 ∙ (λ j. ids_shown (at.grown j) (at.reserved j) (at.number j))
@@ -41,7 +41,7 @@ buckets-preserved-in-Some g c =
 pub buckets-preserved : goal.buckets-preserved
 buckets-preserved g c = record {
   counted =
-      missed c.args.self.now.reserved c.buckets.left c.take_first-bucket.new.buckets c.buckets.slots c.take_first-bucket.result
+      missed c.args.self.now.reserved c.buckets.left c.take_first-bucket.new.word c.buckets.slots c.take_first-bucket.result
       c.buckets.invariant.counted c.take_first-bucket.ensures.first c.take_first-bucket.ensures.rest;
   table = c.buckets.invariant.table;
   grown = c.buckets.invariant.grown;
@@ -56,7 +56,7 @@ buckets-smaller-in-Some g c = c.take_first-bucket.ensures.fewer
 pub overflow_add-slots : goal.overflow_add-slots
 overflow_add-slots g c =
     let below : c.buckets.slots + c.bucket_size-slots.result < 2 ^ 63 =
-    counted_below (more c.args.self.now.reserved c.buckets.left c.take_first-bucket.new.buckets c.buckets.slots c.take_first-bucket.result
+    counted_below (more c.args.self.now.reserved c.buckets.left c.take_first-bucket.new.word c.buckets.slots c.take_first-bucket.result
     c.buckets.invariant.counted c.take_first-bucket.ensures.first c.take_first-bucket.ensures.rest c.bucket_size-slots.result
     c.bucket_size-slots.ensures) in
     omega (arith, below)

@@ -25,7 +25,7 @@ taken g c =
     elim c.if-self-eq0.branch [
       | then-self-eq0 x ↦ takes_none at c.if-self-eq0.self c.if-self-eq0.bucket x.if-self-eq0.true x.self-is x.bucket-is
       | else-self-eq0 x ↦
-          takes_one at c.if-self-eq0.self c.if-self-eq0.bucket x.take_first-bucket.result x.take_first-bucket.new.buckets
+          takes_one at c.if-self-eq0.self c.if-self-eq0.bucket x.take_first-bucket.result x.take_first-bucket.new.word
           x.take_first-bucket.ensures.first x.take_first-bucket.ensures.rest x.self-is x.bucket-is
     ]
 
