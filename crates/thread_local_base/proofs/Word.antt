@@ -202,6 +202,15 @@ cleared_and_bit word bit within fits here =
     added_is rest bit gone ∙ ap (bit_or rest) (sym (one_shl bit 64 within))
     ∙ same_bits (bit_or rest (1 * 2 ^ bit % 2 ^ 64)) word (set_fits rest bit within (masked_fits word _ fits)) fits again
 
+-- so it is the sum of a set bit and any word that has all others
+pub rest_and_bit : (rest word bit : ℕ) → bit < 64 → rest < 2 ^ 64 → word < 2 ^ 64 → is_set word bit ≡ true
+    → IsWordBut rest word bit false → rest + 2 ^ bit ≡ word
+rest_and_bit rest word bit within less fits here but =
+    let cleared : ℕ = bit_and word (bit_not w64 (1 * 2 ^ bit % 2 ^ 64)) in
+    let same : rest ≡ cleared = same_bits rest cleared less (masked_fits word _ fits)
+    (λ i inside. but i inside ∙ sym (clear_bit word bit within i inside)) in
+    ap (λ n. n + 2 ^ bit) same ∙ cleared_and_bit word bit within fits here
+
 -- subtracting 1 clears the lowest set bit, and sets those below it
 one_less : (word : ℕ) → word < 2 ^ 64 → (bit : ℕ) → IsLowestSet word bit
     → word - 1 ≡ bit_or (bit_and word (bit_not w64 (1 * 2 ^ bit % 2 ^ 64))) (2 ^ bit - 1)

@@ -13,7 +13,6 @@ ghost use Rattle.thread_local_buckets.specs.Cursor.{HasRead, IsAt, IsOwnerWalk, 
 
 use crate::take_first;
 use std::fmt;
-use thread_local_base::bucket_size;
 
 /// What a walk reads: which buckets stand, and the flags of their slots, 64 to a word. A flag is
 /// set where its slot has a value. No call takes memory.
@@ -173,11 +172,13 @@ impl OwnerCursor {
             flags = flags_in_bucket(source, &mut raw);
         }
         'buckets: while flags == 0 {
+            let before = left;
             let bucket = take_first(&mut left);
+            // The bucket's bit, as a number, is its size.
             raw = RawIter {
                 yielded: raw.yielded,
                 bucket,
-                bucket_size: bucket_size(bucket),
+                bucket_size: (before - left) as usize,
                 index: 0,
             };
             flags = flags_in_bucket(source, &mut raw);

@@ -1,8 +1,9 @@
 -- The walk goes from one announced bucket to the next until it finds flags that aren't 0.
-use Rattle.std.proofs.Common.{◌≡◌, ◌+◌, ◌^◌, ◌<◌, ◌≤◌, ℕ, false, length, ap, sym, ◌∙◌, subst, arith, pow_mono, ⊎_elim}
+use Rattle.std.proofs.Common.{◌≡◌, ◌+◌, ◌-◌, ◌^◌, ◌<◌, ◌≤◌, ℕ, false, length, ap, sym, ◌∙◌, subst, arith, pow_mono, ⊎_elim}
 use Rattle.std.proofs.lemmas.Bool.{cases_lt}
 use Rattle.thread_local_base.specs.Bits.{IsLowestSet, IsWordBut}
 use Rattle.thread_local_base.specs.Place.{id_at}
+use Rattle.thread_local_base.proofs.Word.{rest_and_bit}
 use Rattle.thread_local_base.specs.Buckets.{Contents, values}
 use Rattle.thread_local_base.specs.Owner.{NoneBelow}
 use Rattle.thread_local_base.specs.Walk.{walk}
@@ -52,6 +53,11 @@ module _ {V : Type 0} (c : Contents V) (left given : ℕ) (raw : RawIter) (word 
         announced = taken.ahead;
         ahead = omega (arith, up, ahead, whole, next);
       }
+
+-- the bit that was taken out of the word is the bucket's size
+size_left : (left rest b : ℕ) → left < 2 ^ 64 → rest < 2 ^ 64 → IsLowestSet left b → IsWordBut rest left b false
+    → left - rest ≡ 2 ^ b
+size_left left rest b fits less low but = omega (arith, rest_and_bit rest left b low.within less fits low.set but)
 
 -- the walk has read flags of the bucket that it is in
 has_read : {V : Type 0} (c : Contents V) (left given bucket : ℕ) (raw : RawIter) (word : ℕ) → AreAhead c left (bucket + 1)
@@ -112,22 +118,24 @@ flags_in_bucket-flags-requires-in-buckets-clause-at g c =
     let kept = c.buckets.invariant in
     let first = c.take_first-bucket in
     subst (λ (l : g.row.P.Denot). IsAt (g.P.FlagSource.contents l)
-    (record { yielded = c.buckets.raw.yielded; bucket = first.result; bucket_size = c.bucket_size.result; index = 0 }) 0)
+    (record { yielded = c.buckets.raw.yielded; bucket = first.result; bucket_size = c.buckets.left - first.new.word; index = 0 }) 0)
     (sym kept.same)
     (is_on (g.P.FlagSource.contents c.args.source.now) c.buckets.left (g.P.FlagSource.given c.args.source.now) c.buckets.raw
-    c.buckets.flags kept.read c.buckets-test.true first.new.word first.result c.bucket_size.result first.ensures.first
-    first.ensures.rest c.bucket_size.ensures).at
+    c.buckets.flags kept.read c.buckets-test.true first.new.word first.result (c.buckets.left - first.new.word)
+    first.ensures.first first.ensures.rest (size_left (c.buckets.left) first.new.word first.result (omega arith) (omega arith)
+    first.ensures.first first.ensures.rest)).at
 
 pub flags_in_bucket-flags-requires-in-buckets-clause-ahead : goal.flags_in_bucket-flags-requires-in-buckets-clause-ahead
 flags_in_bucket-flags-requires-in-buckets-clause-ahead g c =
     let kept = c.buckets.invariant in
     let first = c.take_first-bucket in
     subst (λ (l : g.row.P.Denot). g.P.FlagSource.given l ≤ read_to
-    (record { yielded = c.buckets.raw.yielded; bucket = first.result; bucket_size = c.bucket_size.result; index = 0 }))
+    (record { yielded = c.buckets.raw.yielded; bucket = first.result; bucket_size = c.buckets.left - first.new.word; index = 0 }))
     (sym kept.same)
     (is_on (g.P.FlagSource.contents c.args.source.now) c.buckets.left (g.P.FlagSource.given c.args.source.now) c.buckets.raw
-    c.buckets.flags kept.read c.buckets-test.true first.new.word first.result c.bucket_size.result first.ensures.first
-    first.ensures.rest c.bucket_size.ensures).ahead
+    c.buckets.flags kept.read c.buckets-test.true first.new.word first.result (c.buckets.left - first.new.word)
+    first.ensures.first first.ensures.rest (size_left (c.buckets.left) first.new.word first.result (omega arith) (omega arith)
+    first.ensures.first first.ensures.rest)).ahead
 
 pub buckets-preserved : goal.buckets-preserved
 buckets-preserved g c =
@@ -138,7 +146,8 @@ buckets-preserved g c =
     let looked = c.flags_in_bucket-flags-in-buckets in
     let on =
     is_on contents c.buckets.left given c.buckets.raw c.buckets.flags kept.read c.buckets-test.true first.new.word
-    first.result c.bucket_size.result first.ensures.first first.ensures.rest c.bucket_size.ensures in
+    first.result (c.buckets.left - first.new.word) first.ensures.first first.ensures.rest
+    (size_left (c.buckets.left) first.new.word first.result (omega arith) (omega arith) first.ensures.first first.ensures.rest) in
     record {
       read = has_read contents first.new.word given first.result looked.new.raw looked.result on.announced
           (subst (λ (l : g.row.P.Denot). IsAt (g.P.FlagSource.contents l) looked.new.raw looked.result) kept.same looked.ensures.at)
