@@ -1,8 +1,9 @@
 -- The place of an id is the only solution of an equation, so ids and places correspond one to one.
-use Rattle.std.proofs.Common.{◌≡◌, ℕ, zero, suc, ◌+◌, ◌-◌, ◌^◌, ◌<◌, ◌≤◌, refl, ap, sym, arith, pow_pos, pow_mono}
+use Rattle.std.proofs.Common.{◌≡◌, ℕ, zero, suc, ◌+◌, ◌-◌, ◌*◌, ◌^◌, ◌<◌, ◌≤◌, refl, ap, sym, arith, pow_pos, pow_mono, bit_xor}
 use Rattle.std.proofs.Common.{eqb-true, eqb, add-one, ⊎_elim}
 use Rattle.std.proofs.lemmas.Bool.{cond_both, eqb-false, cases_lt, cases_order}
 use Rattle.std.proofs.Math.Nat.{two-pow-succ}
+use Rattle.thread_local_base.proofs.Word.{without_highest}
 use Rattle.thread_local_base.specs.Place.{Place, next_place, place, bucket_of, index_of, id_at}
 
 -- the place solves the equation: the id plus one is the bucket's size plus the index
@@ -56,6 +57,15 @@ only_place id bucket index e h =
     let same : bucket ≡ (place id).bucket = one_bucket bucket (place id).bucket index (place id).index (omega arith) h here in
     let power : 2 ^ bucket ≡ 2 ^ (place id).bucket = ap (λ n. 2 ^ n) same in
     (same, omega arith)
+
+-- the highest bit of `id + 1` is the bucket's size, and the other bits are the index
+pub bits_are_place : (id bucket size : ℕ) → 2 ^ bucket ≤ id + 1 → id + 1 < 2 * 2 ^ bucket → size ≡ 2 ^ bucket
+    → (bit_xor (id + 1) size < 2 ^ bucket) × (bucket ≡ bucket_of id) × (bit_xor (id + 1) size ≡ index_of id)
+bits_are_place id bucket size low high same =
+    let rest = without_highest (id + 1) bucket size low high same in
+    let inside : bit_xor (id + 1) size < 2 ^ bucket = omega arith in
+    let placed = only_place id bucket (bit_xor (id + 1) size) (omega arith) inside in
+    (inside, placed.0, placed.1)
 
 pub equation : (id : ℕ) → id + 1 ≡ 2 ^ bucket_of id + index_of id
 unfolding bucket_of index_of

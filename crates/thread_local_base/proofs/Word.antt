@@ -1,16 +1,16 @@
 -- One 64-bit word: testing, setting and clearing a bit, finding the lowest set or unset one, keeping
--- the highest, and counting the set ones.
+-- or clearing the highest, and counting the set ones.
 use Rattle.std.proofs.Common.{◌≡◌, ◌≢◌, ℕ, zero, suc, ◌+◌, ◌-◌, ◌*◌, ◌/◌, ◌%◌, ◌^◌, ◌<◌, ◌≤◌, Bool, true, false, cond}
 use Rattle.std.proofs.Common.{eqb, min, max, length, get_or, bit_and, bit_or, bit_xor, not, count_ones, zero-mul, refl, ap, sym}
 use Rattle.std.proofs.Common.{subst, ◌∙◌, arith, ⊎_elim}
 use Rattle.std.specs.Int.{w64, bit_not, bit_at, trailing_ones, trailing_zeros}
-use Rattle.std.specs.Int.Bits.{or_add_and}
+use Rattle.std.specs.Int.Bits.{or_add_and, xor_add_and}
 use Rattle.std.specs.List.{count_by}
 use Rattle.std.proofs.lemmas.Bool.{eq-eqb, ne_eqb, cases_eq, cases_lt}
 use Rattle.std.proofs.lemmas.List.{map-id}
 use Rattle.std.proofs.lemmas.List.FromFn.{length-map-range_with_len, get_or-map-range_with_len}
 use Rattle.std.proofs.Math.Nat.{div-le_self, two-pow-succ}
-use Rattle.std.proofs.lemmas.Nat.{pow_pos, pow_below, one_shl, or_lt, and_le_l, and_mask}
+use Rattle.std.proofs.lemmas.Nat.{pow_pos, pow_below, le-div, div_below, one_shl, or_lt, and_le_l, and_mask}
 use Rattle.std.proofs.lemmas.Nat.Bits.{shr_and_one, bit_at-zero, bit_at-lt, bit_at_and, bit_at_or, bit_at_xor, and_pow, bit_at_ones}
 use Rattle.std.proofs.lemmas.Nat.Bits.{bit_at-pow_same, bit_at-pow_other}
 use Rattle.std.proofs.lemmas.Nat.Bits.{bit_at_ones_above, bit_at-trailing_zeros, bit_at_set_same, bit_at_set_other}
@@ -266,3 +266,12 @@ pub highest_kept : (word bit : ℕ) → 0 < word → 2 ^ bit ≤ bit_or word 1 �
     → (2 ^ bit ≤ word) × (word < 2 * 2 ^ bit)
 highest_kept word zero some low high = let set = set_lowest word in (omega arith, omega arith)
 highest_kept word (suc bit) some low high = let set = set_lowest word in let twice = two-pow-succ bit in (omega arith, omega arith)
+
+-- `word ^ (1 << bit)` clears the highest bit
+pub without_highest : (word bit size : ℕ) → 2 ^ bit ≤ word → word < 2 * 2 ^ bit → size ≡ 2 ^ bit
+    → bit_xor word size + size ≡ word
+without_highest word bit size low high same =
+    let some = pow_pos bit in
+    let one : word / 2 ^ bit ≡ 1 = omega (arith, le-div 1 word (2 ^ bit) some (omega arith), div_below word (2 ^ bit) 2 some high) in
+    let kept : bit_and word (2 ^ bit) ≡ 2 ^ bit = and_pow word bit ∙ ap (λ quotient. quotient % 2 * 2 ^ bit) one ∙ omega arith in
+    rw same (omega (arith, xor_add_and word (2 ^ bit), kept))

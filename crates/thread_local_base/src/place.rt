@@ -41,16 +41,19 @@ pub struct Thread {
 }
 
 impl Thread {
-    /// The place of an id. Its bucket is the number of the highest set bit of `id + 1`.
+    /// The place of an id. Its bucket is the number of the highest set bit of `id + 1`, and the other
+    /// bits are its index.
     pub fn new(id: usize) -> Thread
         requires { id < 2 ^ 63 - 1 }
         ensures bucket { result.bucket ≡ bucket_of id }
         ensures index { result.index ≡ index_of id }
     {
-        let bucket = highest_bit(id + 1);
+        let number = id + 1;
+        let bucket = highest_bit(number);
         Thread {
             bucket,
-            index: id - (bucket_size(bucket) - 1),
+            // A subtraction would cost another shift.
+            index: number ^ bucket_size(bucket),
         }
     }
 
