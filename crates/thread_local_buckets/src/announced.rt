@@ -1,5 +1,5 @@
 //! Words of announced buckets, a bit each, and how a loop takes one bucket after another out of them.
-ghost use Rattle.std.specs.Prelude.{◌<◌, false};
+ghost use Rattle.std.specs.Prelude.{◌≡◌, ◌^◌, ◌<◌, false};
 ghost use Rattle.thread_local_base.specs.Bits.{IsLowestSet, IsWordBut};
 
 /// A bit for each announced bucket. It is a struct, since threads share it as a struct of one field.
@@ -22,4 +22,19 @@ pub fn take_first(word: &mut u64) -> usize
     let first = word.trailing_zeros() as usize;
     *word &= *word - 1;
     first
+}
+
+/// Takes the first bucket out of a word of buckets, and returns its number and its size, which is
+/// its bit as a number.
+#[inline]
+pub fn take_first_bucket(left: &mut u64) -> (usize, usize)
+    requires { 0 < left.old }
+    ensures first { IsLowestSet left.old result.0 }
+    ensures rest { IsWordBut left.new left.old result.0 false }
+    ensures size { result.1 ≡ 2 ^ result.0 }
+    ensures fewer { left.new < left.old }
+{
+    let before = *left;
+    let bucket = take_first(left);
+    (bucket, (before - *left) as usize)
 }

@@ -15,7 +15,7 @@ ghost use Rattle.thread_local_base.specs.Owner.{with_published, cleared_row, she
 use crate::drain::Drain;
 use crate::iter::{IntoEntries, IntoIter};
 use crate::iter_mut::{EntriesMut, IterMut};
-use crate::{BucketPointers, FlagSource, take_first};
+use crate::{BucketPointers, FlagSource, take_first_bucket};
 use std::alloc::{AllocError, Global};
 use std::marker::Model;
 use thread_local_base::{Thread, bucket_size};
@@ -177,9 +177,9 @@ impl<T> Buckets<T> {
         let mut slots = 0;
         let mut left = self.pointers.announced();
         'buckets: while left != 0 {
-            let bucket = take_first(&mut left);
+            let (bucket, size) = take_first_bucket(&mut left);
             if self.pointers.stands(bucket) {
-                slots += bucket_size(bucket);
+                slots += size;
             }
         }
         slots

@@ -11,7 +11,7 @@ ghost use Rattle.thread_local_buckets.specs.Announced.{AreAhead};
 ghost use Rattle.thread_local_buckets.specs.Cursor.{behind_next, read_to, slot_at, values_left, AreFlagsAt};
 ghost use Rattle.thread_local_buckets.specs.Cursor.{HasRead, IsAt, IsOwnerWalk, MayRead};
 
-use crate::take_first;
+use crate::{take_first, take_first_bucket};
 use std::fmt;
 
 /// What a walk reads: which buckets stand, and the flags of their slots, 64 to a word. A flag is
@@ -172,13 +172,11 @@ impl OwnerCursor {
             flags = flags_in_bucket(source, &mut raw);
         }
         'buckets: while flags == 0 {
-            let before = left;
-            let bucket = take_first(&mut left);
-            // The bucket's bit, as a number, is its size.
+            let (bucket, bucket_size) = take_first_bucket(&mut left);
             raw = RawIter {
                 yielded: raw.yielded,
                 bucket,
-                bucket_size: (before - left) as usize,
+                bucket_size,
                 index: 0,
             };
             flags = flags_in_bucket(source, &mut raw);

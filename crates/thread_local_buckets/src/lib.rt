@@ -19,7 +19,7 @@ mod loan;
 pub mod pointer_array;
 mod retired;
 
-pub use announced::{AnnouncedBuckets, take_first};
+pub use announced::{AnnouncedBuckets, take_first, take_first_bucket};
 pub use block::Block;
 pub use bucket_pointer::BucketPointer;
 pub use bucket_pointers::BucketPointers;

@@ -183,28 +183,31 @@ module _ {V : Type 0} where
         };
       }
 
-  -- the walk once it has taken a bucket out of those that are left, or none
-  pub record Takes (w met : Walk V) (bucket : ℕ) : Type 0 where
+  -- the walk once it has taken a bucket with its size out of those that are left, or none
+  pub record Takes (w met : Walk V) (to : ℕ × ℕ) : Type 0 where
     pub rest : ℕ
     pub is : met ≡ record w { left = rest }
-    pub takes : TakesFirst w.left bucket rest
+    pub takes : TakesFirst w.left to.0 rest
+    pub size : to.1 ≡ 2 ^ to.0
 
-  pub takes_none : (w met : Walk V) (bucket : ℕ) → w.left ≡ 0 → met ≡ w → bucket ≡ 63 → Takes w met bucket
-  takes_none w met bucket none is past =
-      record { rest = w.left; is = is; takes = subst (λ (b : ℕ). TakesFirst w.left b w.left) (sym past) (first_of_none w.left none) }
+  pub takes_none : (w met : Walk V) (to : ℕ × ℕ) (size : ℕ) → w.left ≡ 0 → met ≡ w → size ≡ 2 ^ 63 → to ≡ (63, size)
+      → Takes w met to
+  takes_none w met to size none is whole past =
+      subst (Takes w met) (sym past) record { rest = w.left; is = is; takes = first_of_none w.left none; size = whole }
 
-  pub takes_one : (w met : Walk V) (bucket first rest : ℕ) → IsLowestSet w.left first → IsWordBut rest w.left first false
-      → met ≡ record w { left = rest } → bucket ≡ first
-      → Takes w met bucket
-  takes_one w met bucket first rest lowest but is one =
-      record { rest = rest; is = is; takes = subst (λ (b : ℕ). TakesFirst w.left b rest) (sym one) (first_of_some w.left first rest lowest but) }
+  pub takes_one : (w met : Walk V) (to first : ℕ × ℕ) (rest : ℕ) → IsLowestSet w.left first.0 → IsWordBut rest w.left first.0 false
+      → first.1 ≡ 2 ^ first.0 → met ≡ record w { left = rest } → to ≡ first
+      → Takes w met to
+  takes_one w met to first rest lowest but whole is one =
+      subst (Takes w met) (sym one)
+      record { rest = rest; is = is; takes = first_of_some w.left first.0 rest lowest but; size = whole }
 
-  pub moves_to : (w met : Walk V) (bucket size : ℕ) → Takes w met bucket → IsWalk w → w.rest ≡ 0 → w.raw.bucket < 63
-      → lies_in w.own w.raw.bucket ≡ false → size ≡ 2 ^ bucket → AllOf w.buckets.now.sharing (λ p. IsBehind w.raw p.id) w.told
-      → MovesOn w (record met { raw = at_bucket met.raw bucket size; row = None; chunks = 0 })
-  moves_to w met bucket size takes walk none low elsewhere is behind =
-      subst (λ (m : Walk V). MovesOn w (record m { raw = at_bucket m.raw bucket size; row = None; chunks = 0 })) (sym takes.is)
-      (moves_on w bucket size takes.rest walk none low elsewhere is takes.takes behind)
+  pub moves_to : (w met : Walk V) (to : ℕ × ℕ) → Takes w met to → IsWalk w → w.rest ≡ 0 → w.raw.bucket < 63
+      → lies_in w.own w.raw.bucket ≡ false → AllOf w.buckets.now.sharing (λ p. IsBehind w.raw p.id) w.told
+      → MovesOn w (record met { raw = at_bucket met.raw to.0 to.1; row = None; chunks = 0 })
+  moves_to w met to takes walk none low elsewhere behind =
+      subst (λ (m : Walk V). MovesOn w (record m { raw = at_bucket m.raw to.0 to.1; row = None; chunks = 0 })) (sym takes.is)
+      (moves_on w to.0 to.1 takes.rest walk none low elsewhere takes.size takes.takes behind)
 
   begins_shared : (raw : RawIter) (own : Option (Own V)) → raw ≡ record { yielded = 0; bucket = 0; bucket_size = 1; index = 0 }
       → IsSharedWalk raw own

@@ -14,8 +14,8 @@ use crate::announcements::load_announced;
 use crate::parts::SharedParts;
 use crate::{Claim, SharedBucket};
 use std::marker::{Move, Owns, PhantomData};
-use thread_local_base::{Thread, bucket_size};
-use thread_local_buckets::{BucketPointers, take_first};
+use thread_local_base::Thread;
+use thread_local_buckets::{BucketPointers, take_first_bucket};
 use thread_local_ids::{Book, HeldId, Reached, Right, Told};
 
 mod lends;
@@ -179,9 +179,9 @@ impl<T> Shared<T> {
         );
         let mut left = announced & !(slots as u64);
         'buckets: while left != 0 {
-            let bucket = take_first(&mut left);
+            let (bucket, size) = take_first_bucket(&mut left);
             if let Some(shown) = self.bucket(bucket).reached() {
-                slots += bucket_size(bucket);
+                slots += size;
                 reached = shown;
             }
         }

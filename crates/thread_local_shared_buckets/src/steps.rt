@@ -7,7 +7,7 @@ ghost use Rattle.thread_local_shared_buckets.specs.AtHand.{IsWalk, LooksIn, Reac
 use crate::shared::Shared;
 use crate::{Row, Seen};
 use thread_local_base::{BUCKETS, Thread, bucket_size};
-use thread_local_buckets::{RawIter, flag_word_at, take_first};
+use thread_local_buckets::{RawIter, flag_word_at, take_first_bucket};
 use thread_local_ids::{Told, Witness};
 
 /// The walker's own value, the place of its id, and what shows that its slot was published with it.
@@ -114,13 +114,13 @@ impl<'a, T> Walk<'a, T> {
         self.look_in();
         // A bucket that it comes to has no row at hand yet, so here the compiler drops that test.
         while self.rest == 0 {
-            let bucket = if self.left == 0 {
-                BUCKETS
+            let (bucket, size) = if self.left == 0 {
+                (BUCKETS, bucket_size(BUCKETS))
             } else {
-                take_first(&mut self.left)
+                take_first_bucket(&mut self.left)
             };
             self.raw.bucket = bucket;
-            self.raw.bucket_size = bucket_size(bucket);
+            self.raw.bucket_size = size;
             self.raw.index = 0;
             self.row = None;
             self.chunks = 0;

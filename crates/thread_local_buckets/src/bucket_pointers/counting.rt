@@ -10,7 +10,7 @@ ghost use Rattle.thread_local_buckets.specs.Cursor.{values_left, IsOwnerWalk};
 
 use super::BucketPointers;
 use crate::announced::FIRST_SEVEN;
-use crate::{FlagSource, OwnerCursor, RawIter, take_first};
+use crate::{FlagSource, OwnerCursor, RawIter, take_first_bucket};
 use thread_local_base::bucket_size;
 
 impl<T> BucketPointers<T> {
@@ -93,9 +93,9 @@ impl<T> BucketPointers<T> {
         let mut count = counted;
         let mut left = further;
         'buckets: while left != 0 {
-            let bucket = take_first(&mut left);
+            let (bucket, size) = take_first_bucket(&mut left);
             if self.stands(bucket) {
-                count += self.count_in_bucket(bucket, bucket_size(bucket));
+                count += self.count_in_bucket(bucket, size);
             }
         }
         count

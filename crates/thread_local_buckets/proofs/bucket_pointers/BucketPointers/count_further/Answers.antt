@@ -8,10 +8,10 @@ overflow_add-count g c =
     let so = c.buckets.invariant.counted in
     let next =
     counted_more c.stands.new.self c.args.self.now c.buckets.count c.count_in_bucket-count.result c.buckets.left
-    c.take_first-bucket.new.word c.take_first-bucket.result so c.take_first-bucket.ensures.first
-    c.take_first-bucket.ensures.rest (c.stands.ensures.same ∙ c.buckets.invariant.same)
+    c.take_first_bucket-bucket.new.left c.take_first_bucket-bucket.result.0 so c.take_first_bucket-bucket.ensures.first
+    c.take_first_bucket-bucket.ensures.rest (c.stands.ensures.same ∙ c.buckets.invariant.same)
     c.count_in_bucket-count.ensures.counted in
-    let fits = counted_fits c.args.self.now c.take_first-bucket.new.word (c.buckets.count + c.count_in_bucket-count.result) next in
+    let fits = counted_fits c.args.self.now c.take_first_bucket-bucket.new.left (c.buckets.count + c.count_in_bucket-count.result) next in
     omega (arith, fits)
 
 pub buckets-preserved-then-stands : goal.buckets-preserved-then-stands
@@ -19,8 +19,8 @@ buckets-preserved-then-stands g c =
     record {
       counted =
           counted_more c.stands.new.self c.args.self.now c.buckets.count c.count_in_bucket-count.result c.buckets.left
-          c.take_first-bucket.new.word c.take_first-bucket.result c.buckets.invariant.counted
-          c.take_first-bucket.ensures.first c.take_first-bucket.ensures.rest
+          c.take_first_bucket-bucket.new.left c.take_first_bucket-bucket.result.0 c.buckets.invariant.counted
+          c.take_first_bucket-bucket.ensures.first c.take_first_bucket-bucket.ensures.rest
           (c.stands.ensures.same ∙ c.buckets.invariant.same) c.count_in_bucket-count.ensures.counted;
       same = c.count_in_bucket-count.ensures.same ∙ c.stands.ensures.same ∙ c.buckets.invariant.same;
     }
@@ -41,22 +41,19 @@ buckets-init g c = record {
 
 pub stands-requires : goal.stands-requires
 stands-requires g c =
-    let first = c.take_first-bucket.ensures.first in
-    (lit< tt, (c.buckets.invariant.counted.ahead.inside c.take_first-bucket.result first.within first.set).1)
-
-pub bucket_size-requires : goal.bucket_size-requires
-bucket_size-requires g c = c.take_first-bucket.ensures.first.within
+    let first = c.take_first_bucket-bucket.ensures.first in
+    (lit< tt, (c.buckets.invariant.counted.ahead.inside c.take_first_bucket-bucket.result.0 first.within first.set).1)
 
 pub count_in_bucket-count-requires : goal.count_in_bucket-count-requires
 count_in_bucket-count-requires g c =
-    let first = c.take_first-bucket.ensures.first in (
+    let first = c.take_first_bucket-bucket.ensures.first in (
       lit< tt,
       (
-        (c.buckets.invariant.counted.ahead.inside c.take_first-bucket.result first.within first.set).1,
+        (c.buckets.invariant.counted.ahead.inside c.take_first_bucket-bucket.result.0 first.within first.set).1,
         (
-          ap (λ (w : Contents g.row.T.Denot). length (row w c.take_first-bucket.result)) c.stands.ensures.same
+          ap (λ (w : Contents g.row.T.Denot). length (row w c.take_first_bucket-bucket.result.0)) c.stands.ensures.same
               ∙ c.stands.ensures.whole c.if-stands.true,
-          c.bucket_size.ensures,
+          c.take_first_bucket-bucket.ensures.size,
         ),
       ),
     )
@@ -68,8 +65,8 @@ pub buckets-preserved : goal.buckets-preserved
 buckets-preserved g c =
     record {
       counted =
-          counted_past c.buckets.self c.args.self.now c.buckets.count c.buckets.left c.take_first-bucket.new.word
-          c.take_first-bucket.result c.buckets.invariant.counted c.take_first-bucket.ensures.first
-          c.take_first-bucket.ensures.rest c.buckets.invariant.same (c.stands.ensures.absent c.if-stands.false);
+          counted_past c.buckets.self c.args.self.now c.buckets.count c.buckets.left c.take_first_bucket-bucket.new.left
+          c.take_first_bucket-bucket.result.0 c.buckets.invariant.counted c.take_first_bucket-bucket.ensures.first
+          c.take_first_bucket-bucket.ensures.rest c.buckets.invariant.same (c.stands.ensures.absent c.if-stands.false);
       same = c.stands.ensures.same ∙ c.buckets.invariant.same;
     }

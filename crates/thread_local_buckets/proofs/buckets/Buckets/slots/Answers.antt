@@ -18,12 +18,12 @@ buckets-init g c = let word = c.announced-left in record {
 pub buckets-preserved-then-stands : goal.buckets-preserved-then-stands
 buckets-preserved-then-stands g c =
     let kept = c.buckets.invariant in
-    let bucket = c.take_first-bucket in
+    let bucket = c.take_first_bucket-bucket in
     record {
       added =
-          added_more c.announced-left.new.self _ c.buckets.slots c.bucket_size-slots.result c.buckets.left bucket.new.word
-          bucket.result kept.added bucket.ensures.first bucket.ensures.rest kept.same
-          (sym c.stands.ensures.value ∙ c.if-stands.true) c.bucket_size-slots.ensures;
+          added_more c.announced-left.new.self _ c.buckets.slots bucket.result.1 c.buckets.left bucket.new.left
+          bucket.result.0 kept.added bucket.ensures.first bucket.ensures.rest kept.same
+          (sym c.stands.ensures.value ∙ c.if-stands.true) bucket.ensures.size;
       same = c.stands.ensures.same ∙ kept.same;
       reserved = kept.reserved;
     }
@@ -31,21 +31,21 @@ buckets-preserved-then-stands g c =
 pub overflow_add-slots : goal.overflow_add-slots
 overflow_add-slots g c =
     let kept = c.buckets.invariant in
-    let bucket = c.take_first-bucket in
+    let bucket = c.take_first_bucket-bucket in
     let fits =
-    added_fits c.announced-left.new.self bucket.new.word (c.buckets.slots + c.bucket_size-slots.result)
-    (added_more c.announced-left.new.self _ c.buckets.slots c.bucket_size-slots.result c.buckets.left bucket.new.word
-    bucket.result kept.added bucket.ensures.first bucket.ensures.rest kept.same
-    (sym c.stands.ensures.value ∙ c.if-stands.true) c.bucket_size-slots.ensures) in
+    added_fits c.announced-left.new.self bucket.new.left (c.buckets.slots + bucket.result.1)
+    (added_more c.announced-left.new.self _ c.buckets.slots bucket.result.1 c.buckets.left bucket.new.left
+    bucket.result.0 kept.added bucket.ensures.first bucket.ensures.rest kept.same
+    (sym c.stands.ensures.value ∙ c.if-stands.true) bucket.ensures.size) in
     omega (arith, fits)
 
 pub buckets-preserved : goal.buckets-preserved
 buckets-preserved g c =
     let kept = c.buckets.invariant in
-    let bucket = c.take_first-bucket in
+    let bucket = c.take_first_bucket-bucket in
     record {
       added =
-          added_absent c.announced-left.new.self _ c.buckets.slots c.buckets.left bucket.new.word bucket.result kept.added
+          added_absent c.announced-left.new.self _ c.buckets.slots c.buckets.left bucket.new.left bucket.result.0 kept.added
           bucket.ensures.first bucket.ensures.rest kept.same (sym c.stands.ensures.value ∙ c.if-stands.false);
       same = c.stands.ensures.same ∙ kept.same;
       reserved = kept.reserved;

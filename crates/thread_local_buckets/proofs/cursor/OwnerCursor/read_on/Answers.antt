@@ -1,9 +1,8 @@
 -- The walk goes from one announced bucket to the next until it finds flags that aren't 0.
-use Rattle.std.proofs.Common.{◌≡◌, ◌+◌, ◌-◌, ◌^◌, ◌<◌, ◌≤◌, ℕ, false, length, ap, sym, ◌∙◌, subst, arith, pow_mono, ⊎_elim}
+use Rattle.std.proofs.Common.{◌≡◌, ◌+◌, ◌^◌, ◌<◌, ◌≤◌, ℕ, false, length, ap, sym, ◌∙◌, subst, arith, pow_mono, ⊎_elim}
 use Rattle.std.proofs.lemmas.Bool.{cases_lt}
 use Rattle.thread_local_base.specs.Bits.{IsLowestSet, IsWordBut}
 use Rattle.thread_local_base.specs.Place.{id_at}
-use Rattle.thread_local_base.proofs.Word.{rest_and_bit}
 use Rattle.thread_local_base.specs.Buckets.{Contents, values}
 use Rattle.thread_local_base.specs.Owner.{NoneBelow}
 use Rattle.thread_local_base.specs.Walk.{walk}
@@ -54,11 +53,6 @@ module _ {V : Type 0} (c : Contents V) (left given : ℕ) (raw : RawIter) (word 
         ahead = omega (arith, up, ahead, whole, next);
       }
 
--- the bit that was taken out of the word is the bucket's size
-size_left : (left rest b : ℕ) → left < 2 ^ 64 → rest < 2 ^ 64 → IsLowestSet left b → IsWordBut rest left b false
-    → left - rest ≡ 2 ^ b
-size_left left rest b fits less low but = omega (arith, rest_and_bit rest left b low.within less fits low.set but)
-
 -- the walk has read flags of the bucket that it is in
 has_read : {V : Type 0} (c : Contents V) (left given bucket : ℕ) (raw : RawIter) (word : ℕ) → AreAhead c left (bucket + 1)
     → IsAt c raw word → given ≤ read_to raw → raw.bucket ≡ bucket
@@ -108,53 +102,50 @@ buckets-init g c =
           }
     ]
 
-pub take_first-bucket-requires : goal.take_first-bucket-requires
-take_first-bucket-requires g c =
+pub take_first_bucket-bucket-requires : goal.take_first_bucket-bucket-requires
+take_first_bucket-bucket-requires g c =
     some_left (g.P.FlagSource.contents c.args.source.now) c.buckets.left (g.P.FlagSource.given c.args.source.now) c.buckets.raw
     c.buckets.flags c.buckets.invariant.read c.buckets-test.true _ c.requires.may_read.some c.requires.may_read.walk.counted
 
 pub flags_in_bucket-flags-requires-in-buckets-clause-at : goal.flags_in_bucket-flags-requires-in-buckets-clause-at
 flags_in_bucket-flags-requires-in-buckets-clause-at g c =
     let kept = c.buckets.invariant in
-    let first = c.take_first-bucket in
+    let first = c.take_first_bucket-bucket in
     subst (λ (l : g.row.P.Denot). IsAt (g.P.FlagSource.contents l)
-    (record { yielded = c.buckets.raw.yielded; bucket = first.result; bucket_size = c.buckets.left - first.new.word; index = 0 }) 0)
+    (record { yielded = c.buckets.raw.yielded; bucket = first.result.0; bucket_size = first.result.1; index = 0 }) 0)
     (sym kept.same)
     (is_on (g.P.FlagSource.contents c.args.source.now) c.buckets.left (g.P.FlagSource.given c.args.source.now) c.buckets.raw
-    c.buckets.flags kept.read c.buckets-test.true first.new.word first.result (c.buckets.left - first.new.word)
-    first.ensures.first first.ensures.rest (size_left (c.buckets.left) first.new.word first.result (omega arith) (omega arith)
-    first.ensures.first first.ensures.rest)).at
+    c.buckets.flags kept.read c.buckets-test.true first.new.left first.result.0 first.result.1
+    first.ensures.first first.ensures.rest first.ensures.size).at
 
 pub flags_in_bucket-flags-requires-in-buckets-clause-ahead : goal.flags_in_bucket-flags-requires-in-buckets-clause-ahead
 flags_in_bucket-flags-requires-in-buckets-clause-ahead g c =
     let kept = c.buckets.invariant in
-    let first = c.take_first-bucket in
+    let first = c.take_first_bucket-bucket in
     subst (λ (l : g.row.P.Denot). g.P.FlagSource.given l ≤ read_to
-    (record { yielded = c.buckets.raw.yielded; bucket = first.result; bucket_size = c.buckets.left - first.new.word; index = 0 }))
+    (record { yielded = c.buckets.raw.yielded; bucket = first.result.0; bucket_size = first.result.1; index = 0 }))
     (sym kept.same)
     (is_on (g.P.FlagSource.contents c.args.source.now) c.buckets.left (g.P.FlagSource.given c.args.source.now) c.buckets.raw
-    c.buckets.flags kept.read c.buckets-test.true first.new.word first.result (c.buckets.left - first.new.word)
-    first.ensures.first first.ensures.rest (size_left (c.buckets.left) first.new.word first.result (omega arith) (omega arith)
-    first.ensures.first first.ensures.rest)).ahead
+    c.buckets.flags kept.read c.buckets-test.true first.new.left first.result.0 first.result.1
+    first.ensures.first first.ensures.rest first.ensures.size).ahead
 
 pub buckets-preserved : goal.buckets-preserved
 buckets-preserved g c =
     let contents = g.P.FlagSource.contents c.args.source.now in
     let given = g.P.FlagSource.given c.args.source.now in
     let kept = c.buckets.invariant in
-    let first = c.take_first-bucket in
+    let first = c.take_first_bucket-bucket in
     let looked = c.flags_in_bucket-flags-in-buckets in
     let on =
-    is_on contents c.buckets.left given c.buckets.raw c.buckets.flags kept.read c.buckets-test.true first.new.word
-    first.result (c.buckets.left - first.new.word) first.ensures.first first.ensures.rest
-    (size_left (c.buckets.left) first.new.word first.result (omega arith) (omega arith) first.ensures.first first.ensures.rest) in
+    is_on contents c.buckets.left given c.buckets.raw c.buckets.flags kept.read c.buckets-test.true first.new.left
+    first.result.0 first.result.1 first.ensures.first first.ensures.rest first.ensures.size in
     record {
-      read = has_read contents first.new.word given first.result looked.new.raw looked.result on.announced
+      read = has_read contents first.new.left given first.result.0 looked.new.raw looked.result on.announced
           (subst (λ (l : g.row.P.Denot). IsAt (g.P.FlagSource.contents l) looked.new.raw looked.result) kept.same looked.ensures.at)
           (subst (λ (l : g.row.P.Denot). g.P.FlagSource.given l ≤ read_to looked.new.raw) kept.same looked.ensures.ahead)
           looked.ensures.bucket
           (subst (λ (l : g.row.P.Denot). looked.result ≡ 0
-          → NoneBelow (values (g.P.FlagSource.contents l)) (id_at (first.result + 1) 0))
+          → NoneBelow (values (g.P.FlagSource.contents l)) (id_at (first.result.0 + 1) 0))
           kept.same looked.ensures.behind);
       same = looked.ensures.same ∙ kept.same;
       fits = looked.type_inv;

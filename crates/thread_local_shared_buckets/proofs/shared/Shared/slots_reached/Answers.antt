@@ -24,16 +24,16 @@ buckets-init g c =
 pub buckets-preserved-in-Some : goal.buckets-preserved-in-Some
 buckets-preserved-in-Some g c =
     let reserved : ℕ = c.args.self.now.reserved in
-    let bucket : ℕ = c.take_first-bucket.result in
+    let bucket : ℕ = c.take_first_bucket-bucket.result.0 in
     let at = c.bucket-in-buckets.ensures in record {
       counted =
-          more reserved c.buckets.left c.take_first-bucket.new.word c.buckets.slots bucket c.buckets.invariant.counted
-          c.take_first-bucket.ensures.first c.take_first-bucket.ensures.rest c.bucket_size-slots.result c.bucket_size-slots.ensures;
+          more reserved c.buckets.left c.take_first_bucket-bucket.new.left c.buckets.slots bucket c.buckets.invariant.counted
+          c.take_first_bucket-bucket.ensures.first c.take_first_bucket-bucket.ensures.rest c.take_first_bucket-bucket.result.1 c.take_first_bucket-bucket.ensures.size;
       table = c.in-Some.ensures.shown.0 ∙ at.table;
       grown = λ grown.
-          allowed reserved c.buckets.left c.take_first-bucket.new.word c.buckets.slots bucket c.buckets.invariant.counted
-          c.take_first-bucket.ensures.first c.take_first-bucket.ensures.rest c.bucket_size-slots.result c.in-Some.shown.ids
-          c.bucket_size-slots.ensures
+          allowed reserved c.buckets.left c.take_first_bucket-bucket.new.left c.buckets.slots bucket c.buckets.invariant.counted
+          c.take_first_bucket-bucket.ensures.first c.take_first_bucket-bucket.ensures.rest c.take_first_bucket-bucket.result.1 c.in-Some.shown.ids
+          c.take_first_bucket-bucket.ensures.size
           (c.in-Some.ensures.shown.1 ∙ (λ j. ids_shown (at.grown j) (at.reserved j) (at.number j))
           ∙ ap (λ (t : Bool). ids_shown t (nat_lt (id_at bucket 0) reserved) bucket) grown);
     }
@@ -41,24 +41,24 @@ buckets-preserved-in-Some g c =
 pub buckets-preserved : goal.buckets-preserved
 buckets-preserved g c = record {
   counted =
-      missed c.args.self.now.reserved c.buckets.left c.take_first-bucket.new.word c.buckets.slots c.take_first-bucket.result
-      c.buckets.invariant.counted c.take_first-bucket.ensures.first c.take_first-bucket.ensures.rest;
+      missed c.args.self.now.reserved c.buckets.left c.take_first_bucket-bucket.new.left c.buckets.slots c.take_first_bucket-bucket.result.0
+      c.buckets.invariant.counted c.take_first_bucket-bucket.ensures.first c.take_first_bucket-bucket.ensures.rest;
   table = c.buckets.invariant.table;
   grown = c.buckets.invariant.grown;
 }
 
 pub buckets-smaller : goal.buckets-smaller
-buckets-smaller g c = c.take_first-bucket.ensures.fewer
+buckets-smaller g c = c.take_first_bucket-bucket.ensures.fewer
 
 pub buckets-smaller-in-Some : goal.buckets-smaller-in-Some
-buckets-smaller-in-Some g c = c.take_first-bucket.ensures.fewer
+buckets-smaller-in-Some g c = c.take_first_bucket-bucket.ensures.fewer
 
 pub overflow_add-slots : goal.overflow_add-slots
 overflow_add-slots g c =
-    let below : c.buckets.slots + c.bucket_size-slots.result < 2 ^ 63 =
-    counted_below (more c.args.self.now.reserved c.buckets.left c.take_first-bucket.new.word c.buckets.slots c.take_first-bucket.result
-    c.buckets.invariant.counted c.take_first-bucket.ensures.first c.take_first-bucket.ensures.rest c.bucket_size-slots.result
-    c.bucket_size-slots.ensures) in
+    let below : c.buckets.slots + c.take_first_bucket-bucket.result.1 < 2 ^ 63 =
+    counted_below (more c.args.self.now.reserved c.buckets.left c.take_first_bucket-bucket.new.left c.buckets.slots c.take_first_bucket-bucket.result.0
+    c.buckets.invariant.counted c.take_first_bucket-bucket.ensures.first c.take_first_bucket-bucket.ensures.rest c.take_first_bucket-bucket.result.1
+    c.take_first_bucket-bucket.ensures.size) in
     omega (arith, below)
 
 pub returns-clause-reserved : goal.returns-clause-reserved
@@ -78,13 +78,10 @@ load_announced-announced-requires g c =
     let parts = c.behind-self in
     (lit< tt, (record { reserved = parts.inside.reserved; are = parts.invariant.0 }, parts.invariant.1))
 
-pub take_first-bucket-requires : goal.take_first-bucket-requires
-take_first-bucket-requires g c = omega (arith, c.buckets-test.true)
+pub take_first_bucket-bucket-requires : goal.take_first_bucket-bucket-requires
+take_first_bucket-bucket-requires g c = omega (arith, c.buckets-test.true)
 
 pub bucket-requires-in-buckets : goal.bucket-requires-in-buckets
 bucket-requires-in-buckets g c =
-    let lowest = c.take_first-bucket.ensures.first in
-    (lit< tt, (c.buckets.invariant.counted.ahead.inside c.take_first-bucket.result lowest.within lowest.set).1)
-
-pub bucket_size-slots-requires : goal.bucket_size-slots-requires
-bucket_size-slots-requires g c = c.take_first-bucket.ensures.first.within
+    let lowest = c.take_first_bucket-bucket.ensures.first in
+    (lit< tt, (c.buckets.invariant.counted.ahead.inside c.take_first_bucket-bucket.result.0 lowest.within lowest.set).1)

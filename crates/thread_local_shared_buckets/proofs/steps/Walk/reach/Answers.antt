@@ -8,9 +8,6 @@ use Rattle.thread_local_shared_buckets.proofs.steps.Walk.reach.Goals.{Joined-sel
 before_last : (b : ℕ) → b ≤ 63 → b ≢ 63 → b < 63
 before_last b most apart = omega arith
 
-below_64 : (b : ℕ) → b ≤ 63 → b < 64
-below_64 b most = omega arith
-
 some_left : (n : ℕ) → n ≢ 0 → 0 < n
 some_left n some = omega arith
 
@@ -23,10 +20,13 @@ taken : (g : _) (c : Joined-self-eq0 g) → Takes c.loop-self.self c.if-self-eq0
 taken g c =
     let at = c.loop-self.self in
     elim c.if-self-eq0.branch [
-      | then-self-eq0 x ↦ takes_none at c.if-self-eq0.self c.if-self-eq0.bucket x.if-self-eq0.true x.self-is x.bucket-is
+      | then-self-eq0 x ↦
+          takes_none at c.if-self-eq0.self c.if-self-eq0.bucket x.bucket_size.result x.if-self-eq0.true x.self-is
+          x.bucket_size.ensures x.bucket-is
       | else-self-eq0 x ↦
-          takes_one at c.if-self-eq0.self c.if-self-eq0.bucket x.take_first-bucket.result x.take_first-bucket.new.word
-          x.take_first-bucket.ensures.first x.take_first-bucket.ensures.rest x.self-is x.bucket-is
+          let first = x.take_first_bucket in
+          takes_one at c.if-self-eq0.self c.if-self-eq0.bucket first.result first.new.left first.ensures.first first.ensures.rest
+          first.ensures.size x.self-is x.bucket-is
     ]
 
 pub look_in-requires-clause-shareable : goal.look_in-requires-clause-shareable
@@ -41,11 +41,8 @@ look_in-requires-clause-passed g c = c.requires.passed
 pub look_in-requires-clause-in_table : goal.look_in-requires-clause-in_table
 look_in-requires-clause-in_table g c = before_last c.args.self.now.raw.bucket c.requires.walk.walk.in_table c.if-self-eq-BUCKETS.false
 
-pub take_first-bucket-requires : goal.take_first-bucket-requires
-take_first-bucket-requires g c = some_left c.loop-self.self.left c.if-self-eq0.false
-
-pub bucket_size-self-requires : goal.bucket_size-self-requires
-bucket_size-self-requires g c = below_64 c.if-self-eq0.bucket (taken g (goal.at.bucket_size-self-requires g c).Joined-self-eq0).takes.in_table
+pub take_first_bucket-requires : goal.take_first_bucket-requires
+take_first_bucket-requires g c = some_left c.loop-self.self.left c.if-self-eq0.false
 
 pub look_in-requires-in-loop-self-clause-shareable : goal.look_in-requires-in-loop-self-clause-shareable
 look_in-requires-in-loop-self-clause-shareable g c = c.requires.shareable
@@ -56,7 +53,7 @@ look_in-requires-in-loop-self-clause-passed g c =
 
 pub look_in-requires-in-loop-self-clause-in_table : goal.look_in-requires-in-loop-self-clause-in_table
 look_in-requires-in-loop-self-clause-in_table g c =
-    before_last c.if-self-eq0.bucket (taken g (goal.at.look_in-requires-in-loop-self-clause-in_table g c).Joined-self-eq0).takes.in_table
+    before_last c.if-self-eq0.bucket.0 (taken g (goal.at.look_in-requires-in-loop-self-clause-in_table g c).Joined-self-eq0).takes.in_table
     c.if-bucket-eq-BUCKETS.false
 
 pub returns-then-self-eq-BUCKETS : goal.returns-then-self-eq-BUCKETS
@@ -80,9 +77,9 @@ returns-then-bucket-eq-BUCKETS g c =
     let w = c.args.self.now in
     let at = c.loop-self.self in
     let kept = c.loop-self.invariant in
-    let on = moves_to at c.if-self-eq0.self c.if-self-eq0.bucket c.bucket_size-self.result
+    let on = moves_to at c.if-self-eq0.self c.if-self-eq0.bucket
     (taken g (goal.at.returns-then-bucket-eq-BUCKETS g c).Joined-self-eq0) kept.walk c.loop-self-test.true kept.in_table
-    (kept.elsewhere c.loop-self-test.true) c.bucket_size-self.ensures (kept.behind c.loop-self-test.true) in
+    (kept.elsewhere c.loop-self-test.true) (kept.behind c.loop-self-test.true) in
     let come = comes_then w c.look_in.new.self at (comes_by_look w c.look_in.new.self c.look_in.ensures) kept.comes in
     record { walk = on.walk; comes = comes_then w at _ come on.comes; by = omega (arith, c.if-bucket-eq-BUCKETS.true) }
 
@@ -90,21 +87,21 @@ pub look_in-requires-in-loop-self-clause-walk : goal.look_in-requires-in-loop-se
 look_in-requires-in-loop-self-clause-walk g c =
     let at = c.loop-self.self in
     let kept = c.loop-self.invariant in
-    let on = moves_to at c.if-self-eq0.self c.if-self-eq0.bucket c.bucket_size-self.result
+    let on = moves_to at c.if-self-eq0.self c.if-self-eq0.bucket
     (taken g (goal.at.look_in-requires-in-loop-self-clause-walk g c).Joined-self-eq0) kept.walk c.loop-self-test.true kept.in_table
-    (kept.elsewhere c.loop-self-test.true) c.bucket_size-self.ensures (kept.behind c.loop-self-test.true) in
+    (kept.elsewhere c.loop-self-test.true) (kept.behind c.loop-self-test.true) in
     on.walk
 
 pub loop-self-preserved : goal.loop-self-preserved
 loop-self-preserved g c =
     let at = c.loop-self.self in
     let kept = c.loop-self.invariant in
-    let on = moves_to at c.if-self-eq0.self c.if-self-eq0.bucket c.bucket_size-self.result
+    let on = moves_to at c.if-self-eq0.self c.if-self-eq0.bucket
     (taken g (goal.at.loop-self-preserved g c).Joined-self-eq0) kept.walk c.loop-self-test.true kept.in_table
-    (kept.elsewhere c.loop-self-test.true) c.bucket_size-self.ensures (kept.behind c.loop-self-test.true) in
+    (kept.elsewhere c.loop-self-test.true) (kept.behind c.loop-self-test.true) in
     let look = c.look_in-in-loop-self.ensures in
     let to = c.look_in-in-loop-self.new.self in
-    let here : to.raw.bucket ≡ c.if-self-eq0.bucket = ap (λ (r : RawIter). r.bucket) look.raw in
+    let here : to.raw.bucket ≡ c.if-self-eq0.bucket.0 = ap (λ (r : RawIter). r.bucket) look.raw in
     record {
       comes = comes_then c.look_in.new.self at to kept.comes (comes_then at _ to on.comes (comes_by_look _ to look));
       walk = look.walk;
@@ -127,8 +124,8 @@ pub loop-self-smaller : goal.loop-self-smaller
 loop-self-smaller g c =
     let at = c.loop-self.self in
     let kept = c.loop-self.invariant in
-    let on = moves_to at c.if-self-eq0.self c.if-self-eq0.bucket c.bucket_size-self.result
+    let on = moves_to at c.if-self-eq0.self c.if-self-eq0.bucket
     (taken g (goal.at.loop-self-smaller g c).Joined-self-eq0) kept.walk c.loop-self-test.true kept.in_table
-    (kept.elsewhere c.loop-self-test.true) c.bucket_size-self.ensures (kept.behind c.loop-self-test.true) in
-    fewer at.raw.bucket c.if-self-eq0.bucket c.look_in-in-loop-self.new.self.raw.bucket on.further kept.in_table
+    (kept.elsewhere c.loop-self-test.true) (kept.behind c.loop-self-test.true) in
+    fewer at.raw.bucket c.if-self-eq0.bucket.0 c.look_in-in-loop-self.new.self.raw.bucket on.further kept.in_table
     (ap (λ (r : RawIter). r.bucket) c.look_in-in-loop-self.ensures.raw)
