@@ -142,8 +142,8 @@ impl FirstIds {
         ensures table { page.new.table ≡ page.old.table }
         ensures none { result ≡ None → page.new ≡ page.old }
     {
+        let mut seen = self.seen();
         for _ in 0..TRIES {
-            let seen = self.seen();
             let id = (seen >> 6).trailing_ones() as usize;
             if id >= FIRST_IDS {
                 return None;
@@ -152,6 +152,7 @@ impl FirstIds {
             if found == seen {
                 return Some(trace.into_taken(id, page));
             }
+            seen = found;
         }
         None
     }

@@ -11,8 +11,8 @@ lowest n fits =
 
 pub word_with-requires-clause-lowest : goal.word_with-requires-clause-lowest
 word_with-requires-clause-lowest c =
-    subst (IsLowestUnset (c.seen-seen.result / 64)) (sym c.trailing_ones-id.ensures) (lowest c.seen-seen.result c.seen-seen.type_inv)
+    subst (IsLowestUnset (c.loop.seen / 64)) (sym c.trailing_ones-id.ensures) (lowest c.loop.seen (omega arith))
 
 pub try_take-found-requires-clause-lowest : goal.try_take-found-requires-clause-lowest
 try_take-found-requires-clause-lowest c =
-    subst (IsLowestUnset (c.seen-seen.result / 64)) (sym c.trailing_ones-id.ensures) (lowest c.seen-seen.result c.seen-seen.type_inv)
+    subst (IsLowestUnset (c.loop.seen / 64)) (sym c.trailing_ones-id.ensures) (lowest c.loop.seen (omega arith))
