@@ -24,28 +24,28 @@ buckets-init g c =
 pub buckets-preserved-in-Some : goal.buckets-preserved-in-Some
 buckets-preserved-in-Some g c =
     let reserved : ℕ = c.args.self.now.reserved in
-    let bucket : ℕ = c.take_first_bucket-bucket.result.0 in
+    let first = c.take_first_bucket-bucket in
     let at = c.bucket-in-buckets.ensures in record {
       counted =
-          more reserved c.buckets.left c.take_first_bucket-bucket.new.left c.buckets.slots bucket c.buckets.invariant.counted
-          c.take_first_bucket-bucket.ensures.first c.take_first_bucket-bucket.ensures.rest c.take_first_bucket-bucket.result.1 c.take_first_bucket-bucket.ensures.size;
+          more reserved c.buckets.left first.new.left c.buckets.slots first.result.0 c.buckets.invariant.counted
+          first.ensures.first first.ensures.rest first.result.1 first.ensures.size;
       table = c.in-Some.ensures.shown.0 ∙ at.table;
       grown = λ grown.
-          allowed reserved c.buckets.left c.take_first_bucket-bucket.new.left c.buckets.slots bucket c.buckets.invariant.counted
-          c.take_first_bucket-bucket.ensures.first c.take_first_bucket-bucket.ensures.rest c.take_first_bucket-bucket.result.1 c.in-Some.shown.ids
-          c.take_first_bucket-bucket.ensures.size
+          allowed reserved c.buckets.left first.new.left c.buckets.slots first.result.0 c.buckets.invariant.counted
+          first.ensures.first first.ensures.rest first.result.1 c.in-Some.shown.ids first.ensures.size
           (c.in-Some.ensures.shown.1 ∙ (λ j. ids_shown (at.grown j) (at.reserved j) (at.number j))
-          ∙ ap (λ (t : Bool). ids_shown t (nat_lt (id_at bucket 0) reserved) bucket) grown);
+          ∙ ap (λ (t : Bool). ids_shown t (nat_lt (id_at first.result.0 0) reserved) first.result.0) grown);
     }
 
 pub buckets-preserved : goal.buckets-preserved
-buckets-preserved g c = record {
-  counted =
-      missed c.args.self.now.reserved c.buckets.left c.take_first_bucket-bucket.new.left c.buckets.slots c.take_first_bucket-bucket.result.0
-      c.buckets.invariant.counted c.take_first_bucket-bucket.ensures.first c.take_first_bucket-bucket.ensures.rest;
-  table = c.buckets.invariant.table;
-  grown = c.buckets.invariant.grown;
-}
+buckets-preserved g c =
+    let first = c.take_first_bucket-bucket in record {
+      counted =
+          missed c.args.self.now.reserved c.buckets.left first.new.left c.buckets.slots first.result.0
+          c.buckets.invariant.counted first.ensures.first first.ensures.rest;
+      table = c.buckets.invariant.table;
+      grown = c.buckets.invariant.grown;
+    }
 
 pub buckets-smaller : goal.buckets-smaller
 buckets-smaller g c = c.take_first_bucket-bucket.ensures.fewer
@@ -55,10 +55,10 @@ buckets-smaller-in-Some g c = c.take_first_bucket-bucket.ensures.fewer
 
 pub overflow_add-slots : goal.overflow_add-slots
 overflow_add-slots g c =
-    let below : c.buckets.slots + c.take_first_bucket-bucket.result.1 < 2 ^ 63 =
-    counted_below (more c.args.self.now.reserved c.buckets.left c.take_first_bucket-bucket.new.left c.buckets.slots c.take_first_bucket-bucket.result.0
-    c.buckets.invariant.counted c.take_first_bucket-bucket.ensures.first c.take_first_bucket-bucket.ensures.rest c.take_first_bucket-bucket.result.1
-    c.take_first_bucket-bucket.ensures.size) in
+    let first = c.take_first_bucket-bucket in
+    let below : c.buckets.slots + first.result.1 < 2 ^ 63 =
+    counted_below (more c.args.self.now.reserved c.buckets.left first.new.left c.buckets.slots first.result.0
+    c.buckets.invariant.counted first.ensures.first first.ensures.rest first.result.1 first.ensures.size) in
     omega (arith, below)
 
 pub returns-clause-reserved : goal.returns-clause-reserved
