@@ -50,11 +50,11 @@ is_none None e h = cc
 is_none (Some v) e h = cc
 
 -- the cursor once it has read flags
-abbrev pub behind_flags : OwnerCursor → RawIter → ℕ → ℕ → OwnerCursor
-behind_flags cursor raw flags buckets = record {
+abbrev pub behind_flags : OwnerCursor → RawIter → ℕ → ℕ → ℕ → OwnerCursor
+behind_flags cursor raw flags chunk buckets = record {
   raw = record { yielded = raw.yielded + count_ones flags; bucket = raw.bucket; bucket_size = raw.bucket_size; index = raw.index };
   read = flags;
-  chunk = (raw.index - 64) / 64;
+  chunk = chunk;
   rest = flags;
   later = cursor.later - count_ones flags;
   left = buckets;
@@ -191,15 +191,15 @@ module _ {V : Type 0} where
       → count_ones flags ≤ cursor.later
   flags_few c cursor raw flags walks none fits at = omega (arith, few_at_hand c raw flags fits at, walks.counted, no_ones cursor.rest none)
 
-  pub reads_on : (c : Contents V) (cursor : OwnerCursor) (raw : RawIter) (flags buckets : ℕ)
-      → IsOwnerWalk c cursor → cursor.rest ≡ 0 → flags < 2 ^ 64 → IsAt c raw flags
+  pub reads_on : (c : Contents V) (cursor : OwnerCursor) (raw : RawIter) (flags chunk buckets : ℕ)
+      → IsOwnerWalk c cursor → cursor.rest ≡ 0 → flags < 2 ^ 64 → IsAt c raw flags → chunk ≡ (raw.index - 64) / 64
       → AreAhead c buckets (raw.bucket + 1) → raw.yielded ≡ cursor.raw.yielded
-      → IsOwnerWalk c (behind_flags cursor raw flags buckets)
-      × (values_left (behind_flags cursor raw flags buckets) ≡ values_left cursor)
-  reads_on c cursor raw flags buckets walks none fits at announced yielded =
+      → IsOwnerWalk c (behind_flags cursor raw flags chunk buckets)
+      × (values_left (behind_flags cursor raw flags chunk buckets) ≡ values_left cursor)
+  reads_on c cursor raw flags chunk buckets walks none fits at are announced yielded =
       let few = flags_few c cursor raw flags walks none fits at in
       let nothing = no_ones cursor.rest none in
-      let left : values_left (behind_flags cursor raw flags buckets) ≡ values_left cursor = omega (arith, few, nothing) in (
+      let left : values_left (behind_flags cursor raw flags chunk buckets) ≡ values_left cursor = omega (arith, few, nothing) in (
         record {
           at = record {
             in_table = at.in_table;
@@ -215,7 +215,7 @@ module _ {V : Type 0} where
           counted = left ∙ walks.counted;
           few = omega (arith, left, walks.few);
           fits = omega (arith, few, walks.fits, yielded);
-          chunk = refl;
+          chunk = are;
         },
         left,
       )

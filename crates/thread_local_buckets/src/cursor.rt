@@ -1,6 +1,6 @@
 //! How an owner's walk finds its next value: it reads the flags of 64 slots at a time, and skips
 //! flags that are all 0.
-ghost use Rattle.std.specs.Prelude.{◌≡◌, ◌+◌, ◌*◌, ◌^◌, ◌<◌, ◌≤◌, true, false, [], ◌∷◌, ℕ, length, Some, None, is_some, IsSome};
+ghost use Rattle.std.specs.Prelude.{◌≡◌, ◌≢◌, ◌+◌, ◌-◌, ◌*◌, ◌/◌, ◌^◌, ◌<◌, ◌≤◌, true, false, [], ◌∷◌, ℕ, length, Some, None, is_some, IsSome};
 ghost use Rattle.thread_local_base.specs.Bits.{is_set};
 ghost use Rattle.thread_local_base.specs.Place.{id_at};
 ghost use Rattle.thread_local_base.specs.Buckets.{Contents, row, stands, values};
@@ -70,9 +70,9 @@ pub fn write_struct<W: fmt::Write, D: fmt::Debug>(
 }
 
 /// Advances past the bucket's next flags that aren't 0 and returns them, or returns 0 where there
-/// are none. The bucket must have flags that aren't read, if it stands.
+/// are none. `chunk` becomes theirs. The bucket must have flags that aren't read, if it stands.
 #[inline]
-fn flags_in_bucket<P: FlagSource>(source: &mut P, raw: &mut RawIter) -> u64
+fn flags_in_bucket<P: FlagSource>(source: &mut P, raw: &mut RawIter, chunk: &mut usize) -> u64
     requires at { IsAt (P.contents source.old) raw.old 0 }
     requires inside { raw.old.index < raw.old.bucket_size }
     requires ahead { P.given source.old ≤ read_to raw.old }
@@ -82,16 +82,19 @@ fn flags_in_bucket<P: FlagSource>(source: &mut P, raw: &mut RawIter) -> u64
     ensures yielded { raw.new.yielded ≡ raw.old.yielded }
     ensures bucket { raw.new.bucket ≡ raw.old.bucket }
     ensures behind { result ≡ 0 → NoneBelow (values (P.contents source.old)) (id_at (raw.old.bucket + 1) 0) }
+    ensures chunk { result ≢ 0 → chunk.new ≡ (raw.new.index - 64) / 64 }
 {
     if !source.stands(raw.bucket) {
         return 0;
     }
+    *chunk = raw.index / 64;
     'chunks: loop {
-        let flags = source.flags(raw.bucket, raw.bucket_size, raw.index / 64);
+        let flags = source.flags(raw.bucket, raw.bucket_size, *chunk);
         raw.index += 64;
         if flags != 0 || raw.index >= raw.bucket_size {
             return flags;
         }
+        *chunk += 1;
     }
 }
 
@@ -168,8 +171,9 @@ impl OwnerCursor {
         let mut raw = self.raw;
         let mut left = self.left;
         let mut flags = 0;
+        let mut chunk = 0;
         if raw.index < raw.bucket_size {
-            flags = flags_in_bucket(source, &mut raw);
+            flags = flags_in_bucket(source, &mut raw, &mut chunk);
         }
         'buckets: while flags == 0 {
             let (bucket, bucket_size) = take_first_bucket(&mut left);
@@ -179,9 +183,8 @@ impl OwnerCursor {
                 bucket_size,
                 index: 0,
             };
-            flags = flags_in_bucket(source, &mut raw);
+            flags = flags_in_bucket(source, &mut raw, &mut chunk);
         }
-        let chunk = (raw.index - 64) / 64;
         let count = flags.count_ones() as usize;
         raw.yielded += count;
         self.raw = raw;

@@ -157,6 +157,8 @@ impl<'a, T> Iterator for IterMut<'a, T> {
     ghost remaining = { item_count iter_mut_rest };
 
     /// The next value, whose flag stays set.
+    // Where it is inlined, the walk's state stays in registers.
+    #[inline]
     fn next(&mut self) -> Option<&'a mut T> {
         match self.entries.next() {
             Some((_, item)) => Some(item),

@@ -1,21 +1,25 @@
-use Rattle.std.proofs.Common.{◌≡◌, ℕ, ◌+◌, ◌-◌, ◌<◌, ◌≤◌, length, ap, ◌∙◌, subst, arith}
+use Rattle.std.proofs.Common.{◌≡◌, ℕ, ◌+◌, ◌-◌, ◌*◌, ◌/◌, ◌<◌, ◌≤◌, is_some, length, ap, ◌∙◌, subst, arith}
+use Rattle.thread_local_base.specs.Bits.{is_set}
 use Rattle.thread_local_base.specs.Place.{id_at}
+use Rattle.thread_local_base.specs.Rows.{value_in}
 use Rattle.thread_local_base.specs.Buckets.{Contents, row, values}
 use Rattle.thread_local_base.specs.Owner.{NoneBelow}
 use Rattle.thread_local_base.proofs.TakingLaws.{NoneBelow-absent}
-use Rattle.thread_local_buckets.specs.Cursor.{behind_next, read_to, AreFlagsAt, IsAt}
+use Rattle.thread_local_buckets.specs.Cursor.{behind_next, read_to, IsAt}
 use Rattle.thread_local_buckets.specs.declared.cursor.RawIter.{RawIter}
 use Rattle.thread_local_buckets.proofs.FlagLaws.{behind_chunk, none_to_next}
 use Rattle.thread_local_buckets.proofs.cursor.flags_in_bucket.Goals as goal
 use Rattle.thread_local_buckets.proofs.cursor.flags_in_bucket.Goals.{then-flags-ne0-via-then-flags-ne0, then-flags-ne0-via-else-flags-ne0+then-raw}
 
 -- behind a chunk whose flags were read, of contents that stay
-has_read : {V : Type 0} (c d : Contents V) (raw : RawIter) (word : ℕ) → d ≡ c → IsAt c raw 0 → raw.index < raw.bucket_size
-    → length (row c raw.bucket) ≡ raw.bucket_size → AreFlagsAt d raw.bucket raw.index word
+has_read : {V : Type 0} (c d : Contents V) (raw : RawIter) (chunk word : ℕ) → d ≡ c → IsAt c raw 0 → raw.index < raw.bucket_size
+    → length (row c raw.bucket) ≡ raw.bucket_size → chunk ≡ raw.index / 64
+    → ((bit : ℕ) → bit < 64 → is_set word bit ≡ is_some (value_in d raw.bucket (chunk * 64 + bit)))
     → IsAt c (behind_next raw) word
-has_read c d raw word same at inside whole flags =
+has_read c d raw chunk word same at inside whole here flags =
+    let Flags = λ (w : Contents _) (k : ℕ). (bit : ℕ) → bit < 64 → is_set word bit ≡ is_some (value_in w raw.bucket (k * 64 + bit)) in
     behind_chunk c raw word at inside whole
-    (subst (λ (w : Contents _). AreFlagsAt w raw.bucket raw.index word) same flags)
+    (subst (λ (w : Contents _). Flags w (raw.index / 64)) same (subst (Flags d) here flags))
 
 -- a bucket of which all flags are read and the last are 0 has no further value
 none_left : {V : Type 0} (c : Contents V) (raw : RawIter) (word bucket : ℕ) → IsAt c raw word → word ≡ 0 → raw.bucket ≡ bucket
@@ -39,8 +43,8 @@ pub returns-then-flags-ne0-clause-at : goal.returns-then-flags-ne0-clause-at
 returns-then-flags-ne0-clause-at g c =
     let kept = c.chunks.invariant in
     has_read (g.P.FlagSource.contents c.args.source.now) (g.P.FlagSource.contents c.chunks.source) c.chunks.raw
-    c.flags-flags.result (ap (λ (l : g.row.P.Denot). g.P.FlagSource.contents l) kept.same) kept.at kept.inside kept.whole
-    c.flags-flags.ensures.value
+    c.chunks.chunk c.flags-flags.result (ap (λ (l : g.row.P.Denot). g.P.FlagSource.contents l) kept.same) kept.at kept.inside
+    kept.whole kept.chunk c.flags-flags.ensures.value
 
 pub returns-then-flags-ne0-clause-behind : goal.returns-then-flags-ne0-clause-behind
 returns-then-flags-ne0-clause-behind g c = λ none.
@@ -51,8 +55,8 @@ returns-then-flags-ne0-clause-behind g c = λ none.
           none_left (g.P.FlagSource.contents c.args.source.now) (behind_next c.chunks.raw) c.flags-flags.result
           c.args.raw.now.bucket
           (has_read (g.P.FlagSource.contents c.args.source.now) (g.P.FlagSource.contents c.chunks.source) c.chunks.raw
-          c.flags-flags.result (ap (λ (l : g.row.P.Denot). g.P.FlagSource.contents l) kept.same) kept.at kept.inside
-          kept.whole c.flags-flags.ensures.value)
+          c.chunks.chunk c.flags-flags.result (ap (λ (l : g.row.P.Denot). g.P.FlagSource.contents l) kept.same) kept.at
+          kept.inside kept.whole kept.chunk c.flags-flags.ensures.value)
           none kept.bucket w.if-raw.true
     ]
 
@@ -62,12 +66,13 @@ chunks-preserved g c =
     record {
       at = subst (λ (n : ℕ). IsAt (g.P.FlagSource.contents c.args.source.now) (behind_next c.chunks.raw) n) c.if-flags-ne0.false
           (has_read (g.P.FlagSource.contents c.args.source.now) (g.P.FlagSource.contents c.chunks.source) c.chunks.raw
-          c.flags-flags.result (ap (λ (l : g.row.P.Denot). g.P.FlagSource.contents l) kept.same) kept.at kept.inside
-          kept.whole c.flags-flags.ensures.value);
+          c.chunks.chunk c.flags-flags.result (ap (λ (l : g.row.P.Denot). g.P.FlagSource.contents l) kept.same) kept.at
+          kept.inside kept.whole kept.chunk c.flags-flags.ensures.value);
       inside = c.if-raw.false;
       whole = kept.whole;
       ahead = still_ahead (g.P.FlagSource.given c.args.source.now) c.chunks.raw kept.ahead;
       same = c.flags-flags.ensures.same ∙ kept.same;
       yielded = kept.yielded;
       bucket = kept.bucket;
+      chunk = omega (arith, kept.chunk);
     }

@@ -1,4 +1,4 @@
-use Rattle.std.proofs.Common.{◌≡◌, ◌-◌, ◌<◌, ◌≤◌, length}
+use Rattle.std.proofs.Common.{◌≡◌, ◌-◌, ◌/◌, ◌<◌, ◌≤◌, length}
 use Rattle.thread_local_base.specs.Buckets.{row}
 use Rattle.thread_local_buckets.specs.Cursor.{read_to, IsAt}
 use Rattle.thread_local_buckets.proofs.cursor.flags_in_bucket.Given as goal
@@ -13,6 +13,7 @@ invariant-chunks g l = record {
   same : l.source ≡ l.fn.source;
   yielded : l.raw.yielded ≡ l.fn.raw.yielded;
   bucket : l.raw.bucket ≡ l.fn.raw.bucket;
+  chunk : l.chunk ≡ l.raw.index / 64;
 }
 
 abbrev pub decreases-chunks : goal.decreases-chunks

@@ -1,5 +1,5 @@
 -- The walk goes from one announced bucket to the next until it finds flags that aren't 0.
-use Rattle.std.proofs.Common.{◌≡◌, ◌+◌, ◌^◌, ◌<◌, ◌≤◌, ℕ, false, length, ap, sym, ◌∙◌, subst, arith, pow_mono, ⊎_elim}
+use Rattle.std.proofs.Common.{◌≡◌, ◌+◌, ◌-◌, ◌/◌, ◌^◌, ◌<◌, ◌≤◌, ℕ, false, length, ap, sym, ◌∙◌, subst, arith, pow_mono, ⊎_elim}
 use Rattle.std.proofs.lemmas.Bool.{cases_lt}
 use Rattle.thread_local_base.specs.Bits.{IsLowestSet, IsWordBut}
 use Rattle.thread_local_base.specs.Place.{id_at}
@@ -10,7 +10,7 @@ use Rattle.thread_local_base.proofs.TakingLaws.{walk-met, id_at-next}
 use Rattle.thread_local_buckets.specs.Announced.{AreAhead}
 use Rattle.thread_local_buckets.specs.Cursor.{read_to, IsAt}
 use Rattle.thread_local_buckets.specs.declared.cursor.RawIter.{RawIter}
-use Rattle.thread_local_buckets.proofs.FlagLaws.{at_start, behind_slots, none_to_next}
+use Rattle.thread_local_buckets.proofs.FlagLaws.{at_start, none_to_next}
 use Rattle.thread_local_buckets.proofs.NextValue.{flags_few, reads_on}
 use Rattle.thread_local_buckets.proofs.Passing.{IsReading, takes, none_ahead, NoneBelow-passed}
 use Rattle.thread_local_buckets.proofs.cursor.OwnerCursor.read_on.Goals as goal
@@ -85,6 +85,8 @@ buckets-init g c =
             same = w.source-is ∙ done.same;
             fits = subst (λ (n : ℕ). n < 2 ^ 64) (sym w.flags-is) looked.type_inv;
             yielded = ap (λ (r : RawIter). r.yielded) w.raw-is ∙ done.yielded;
+            chunk = λ some. w.chunk-is ∙ done.chunk (λ none. some (w.flags-is ∙ none))
+                ∙ ap (λ (r : RawIter). (r.index - 64) / 64) (sym w.raw-is);
           }
       | else-raw w ↦
           let read : IsReading contents c.args.self.now.left given raw 0 = record {
@@ -99,6 +101,7 @@ buckets-init g c =
             same = w.source-is;
             fits = omega (arith, w.flags-is);
             yielded = ap (λ (r : RawIter). r.yielded) w.raw-is;
+            chunk = λ some. absurd (some w.flags-is);
           }
     ]
 
@@ -150,13 +153,8 @@ buckets-preserved g c =
       same = looked.ensures.same ∙ kept.same;
       fits = looked.type_inv;
       yielded = looked.ensures.yielded ∙ kept.yielded;
+      chunk = looked.ensures.chunk;
     }
-
-pub overflow_sub-chunk : goal.overflow_sub-chunk
-overflow_sub-chunk g c =
-    let kept = c.buckets.invariant in
-    behind_slots (g.P.FlagSource.contents c.args.source.now) c.buckets.raw c.buckets.flags kept.read.at
-    (omega (arith, c.buckets-test.false))
 
 pub overflow_add-raw : goal.overflow_add-raw
 overflow_add-raw g c =
@@ -177,6 +175,7 @@ pub returns-clause-read : goal.returns-clause-read
 returns-clause-read g c =
     let kept = c.buckets.invariant in
     let on =
-    reads_on (g.P.FlagSource.contents c.args.source.now) c.args.self.now c.buckets.raw c.buckets.flags c.buckets.left
-    c.requires.may_read.walk c.requires.passed kept.fits kept.read.at kept.read.announced kept.yielded in
+    reads_on (g.P.FlagSource.contents c.args.source.now) c.args.self.now c.buckets.raw c.buckets.flags c.buckets.chunk
+    c.buckets.left c.requires.may_read.walk c.requires.passed kept.fits kept.read.at (kept.chunk c.buckets-test.false)
+    kept.read.announced kept.yielded in
     record { walk = on.0; ahead = kept.read.ahead; some = omega (arith, c.buckets-test.false); left = on.1 }

@@ -1,4 +1,4 @@
-use Rattle.std.proofs.Common.{◌≡◌, ◌-◌, ◌^◌, ◌<◌}
+use Rattle.std.proofs.Common.{◌≡◌, ◌≢◌, ◌-◌, ◌/◌, ◌^◌, ◌<◌}
 use Rattle.thread_local_buckets.proofs.Passing.{IsReading}
 use Rattle.thread_local_buckets.proofs.cursor.OwnerCursor.read_on.Given as goal
 
@@ -9,6 +9,7 @@ invariant-buckets g l = record {
   fits : l.flags < 2 ^ 64;
   same : l.source ≡ l.fn.source;
   yielded : l.raw.yielded ≡ l.fn.self.raw.yielded;
+  chunk : l.flags ≢ 0 → l.chunk ≡ (l.raw.index - 64) / 64;
 }
 
 abbrev pub decreases-buckets : goal.decreases-buckets
