@@ -374,9 +374,9 @@ def under_way(doing):
     match doing:
         case ("Gets", count):
             return count, None
-        case ("Started", create) | ("Private", create, _):
+        case ("Started", create) | ("Private", create, _) | ("Filled", create, _, _):
             return 0, create
-        case ("Written", value) | ("Filled", value, _, _):
+        case ("Written", value):
             return 0, ("Ok", value)
 
 
@@ -454,9 +454,9 @@ def calls_go(step, before, after):
     match step[0]:
         case "MakeBucket":
             return offer_ends and told if refused else goes_on
-        case "LoadPointer" | "LookAtFlag" | "AnnounceBucket":
+        case "LoadPointer" | "LookAtFlag" | "FillBucket" | "AnnounceBucket":
             return goes_on
-        case "FillBucket" | "InstallBucket" | "WriteValue":
+        case "InstallBucket" | "WriteValue":
             return goes_on or offer_ends
         case "SetFlag":
             return offer_ends
@@ -465,7 +465,7 @@ def calls_go(step, before, after):
 
 
 @tries("every_schedule", "goes_on")
-@tries("words_say", "step_keeps", "get_begins", "publishing_begins", "calls_stay", "fills", "install_goes", "writes", "sets_flag", "replies")
+@tries("words_say", "step_keeps", "get_begins", "publishing_begins", "calls_stay", "install_goes", "writes", "sets_flag", "replies")
 def clause_goes_on(m):
     if m.event[0] != "OfLocal" or not model.is_enabled(m.before, m.event):
         return True
@@ -672,12 +672,17 @@ def own_stands(core, local):
     return model.bucket_stands(core.table, bucket_of(local.id))
 
 
+def installs_a_value(core, local):
+    """Whether the bucket that a Local installs has a value, and none stands."""
+    return local.doing[1][0] == "Ok" and not own_stands(core, local)
+
+
 def numbers_of(sheet):
     """The held ids of a sheet."""
     return {k for k, it in enumerate(sheet.held) if it}
 
 
-@tries("events_change", "sheet_stays", "takes", "gives_back", "publishes", "installs_value", "installs_beside", "rewrites")
+@tries("events_change", "sheet_stays", "takes", "gives_back", "publishes", "installs_value", "installs_nothing", "installs_beside", "rewrites")
 def clause_sheet_stays(m):
     """A take holds the least free id, a give back frees its Local's, a flag and an install publish a value; all else stays."""
     before, after = model.shadow(m.before), model.shadow(m.after)
@@ -689,8 +694,8 @@ def clause_sheet_stays(m):
             held -= {live_local(m.before, n).id}
         case ("OfLocal", n, ("SetFlag",)):
             values[live_local(m.before, n).id] = live_local(m.before, n).doing[1]
-        case ("OfLocal", n, ("InstallBucket",)) if not own_stands(m.before, live_local(m.before, n)):
-            values[live_local(m.before, n).id] = live_local(m.before, n).doing[1]
+        case ("OfLocal", n, ("InstallBucket",)) if installs_a_value(m.before, live_local(m.before, n)):
+            values[live_local(m.before, n).id] = live_local(m.before, n).doing[1][1]
         case ("Owner", ("RewriteTable", others)):
             values = [None if v is None else others(k, v) for k, v in enumerate(values)]
         case ("Owner", ("DrainTable",)):
@@ -709,7 +714,7 @@ def clause_shows(m):
     return all(values[k] == (it.written if it.flag else None) for k, it in slots)
 
 
-@tries("events_change", "writes", "writes_beside", "sets_flag")
+@tries("events_change", "writes", "sets_flag")
 def clause_writes(m):
     """A value is written in the slot of the Local's id, and then its flag is set; no other slot changes meanwhile."""
     old, new = m.before.table, m.after.table
@@ -722,7 +727,8 @@ def clause_writes(m):
     if sets is not None:
         slots[sets[0].id] = replace(slots[sets[0].id], flag=True)
     if installs is not None:
-        slots[installs[0].id] = Slot(installs[0].doing[1], not own_stands(m.before, installs[0]))
+        if installs_a_value(m.before, installs[0]):
+            slots[installs[0].id] = Slot(installs[0].doing[1][1], True)
     return model.is_exclusive(m.event) or all(model.slot_at(new, k) == it for k, it in slots.items())
 
 
@@ -734,9 +740,8 @@ def clause_makes(m):
     if made is not None and m.event[2] == ("MakeBucket", False):
         return made[1].doing == ("Private", made[0].doing[1], table.made)
     if fills is not None:
-        (_, (kind, value), number), own = fills[0].doing, bucket_of(fills[0].id)
-        knows = kind == "Err" or fills[1].doing == ("Filled", value, number, table.announced[own])
-        return knows and m.after.table == table
+        (_, create, number), own = fills[0].doing, bucket_of(fills[0].id)
+        return fills[1].doing == ("Filled", create, number, table.announced[own]) and m.after.table == table
     if announced is None:
         return True
     own = bucket_of(announced[0].id)
@@ -756,14 +761,14 @@ def clause_installs_own(m):
     return kept and model.number_at(new, own) == (model.own_number(it[0].doing) if number is None else number)
 
 
-@tries("events_change", "holds", "installed", "beside")
+@tries("events_change", "holds", "installed", "installed_empty")
 def clause_holds(m):
-    """After an install and after the flag is set the slot is known to hold the value; beside another's bucket, to be empty yet."""
+    """After an install and after the flag is set the slot is known to hold the value; beside another's bucket or without a value, to be empty."""
     installed, sets = stepped(m, "InstallBucket"), stepped(m, "SetFlag")
     if installed is not None:
-        value, learnt, doing = installed[0].doing[1], installed[1].learnt, installed[1].doing
-        beside = own_stands(m.before, installed[0])
-        return (learnt, doing) == ((("Vacant",), ("Written", value)) if beside else (("Holding", value), ("Gets", 0)))
+        (kind, value), learnt, doing = installed[0].doing[1], installed[1].learnt, installed[1].doing
+        empty = kind == "Err" or own_stands(m.before, installed[0])
+        return (learnt, doing) == ((("Vacant",), ("Started", (kind, value))) if empty else (("Holding", value), ("Gets", 0)))
     return sets is None or sets[1].learnt == ("Holding", sets[0].doing[1])
 
 
@@ -795,7 +800,7 @@ def clause_one_among(m):
     return all(model.buckets_among(announced[: b + 1]) == model.buckets_among(announced[:b]) + it for b, it in enumerate(announced))
 
 
-@tries("words_say", "no_moves", "take_moves", "give_moves", "publish_moves", "install_moves", "beside_moves")
+@tries("words_say", "no_moves", "take_moves", "give_moves", "publish_moves", "install_moves", "empty_moves", "beside_moves")
 @tries("words_say", "rewrite_moves", "drain_moves", "clear_moves")
 def clause_no_moves(m):
     """Which move each event is."""
@@ -807,8 +812,8 @@ def clause_no_moves(m):
             return move == ("Give", live_local(m.before, n).id)
         case ("OfLocal", n, ("SetFlag",)):
             return move == ("Publish", live_local(m.before, n).id, live_local(m.before, n).doing[1])
-        case ("OfLocal", n, ("InstallBucket",)) if not own_stands(m.before, live_local(m.before, n)):
-            return move == ("Publish", live_local(m.before, n).id, live_local(m.before, n).doing[1])
+        case ("OfLocal", n, ("InstallBucket",)) if installs_a_value(m.before, live_local(m.before, n)):
+            return move == ("Publish", live_local(m.before, n).id, live_local(m.before, n).doing[1][1])
         case ("Owner", (name, *others)) if name in ("RewriteTable", "DrainTable", "ClearTable"):
             return move == (name[: -len("Table")], *others)
     return move == ("Stay",)
@@ -838,7 +843,7 @@ def clause_created(m):
         if call[2] and not view.known:
             return ("Refused",), view
         value = call[1][1]
-        return (("Answered", value), View(value, True)) if call[1][0] == "Ok" else (("Failed", value), view)
+        return (("Answered", value), View(value, True)) if call[1][0] == "Ok" else (("Failed", value), View(None, True))
 
     views = [View(value, known) for value in (None, "there") for known in (False, True)]
     calls = [("Get",)] + [("GetOr", (kind, "any"), refused) for kind in ("Ok", "Err") for refused in (False, True)]
@@ -876,7 +881,7 @@ def clause_call_goes_on(m):
 
 
 def clause_few_steps(m):
-    return all(model.steps_left(it) <= under_way(it.doing)[0] + 6 for _, it in live(m.after))
+    return all(model.steps_left(it) <= under_way(it.doing)[0] + 7 for _, it in live(m.after))
 
 
 @tries("events_say", "loads")
@@ -946,14 +951,14 @@ def clause_owners_announced(m):
     return not model.is_exclusive(m.event) or m.after.table.announced == m.before.table.announced
 
 
-@tries("events_say", "fails", "fails_unused")
+@tries("events_say", "fails")
 def clause_fails(m):
-    """The closure's error is handed on where the slot is vacant, and where the call has a bucket of its own."""
+    """The closure's error is handed on where the slot is vacant."""
     for n, it in changed(m):
         create = under_way(it.doing)[1]
-        if m.after.ended or create is None or create[0] != "Err" or (it.learnt != ("Vacant",) and it.doing[0] != "Private"):
+        if m.after.ended or create is None or create[0] != "Err" or it.learnt != ("Vacant",):
             continue
-        after = model.step(m.after, ("OfLocal", n, ("FillBucket",) if it.doing[0] == "Private" else ("WriteValue",)))
+        after = model.step(m.after, ("OfLocal", n, ("WriteValue",)))
         then = None if after is None else live_local(after, n)
         if not has_no_call(then) or then.answers != it.answers + (("Failed", create[1]),) or then.learnt != it.learnt:
             return False
@@ -1261,7 +1266,7 @@ def quiet_events(chance, core):
     steps += [("WriteValue",), ("SetFlag",), ("Reply",)]
     events = []
     for n, _ in live(core):
-        events += [("OfLocal", n, it) for _ in range(6) for it in steps]
+        events += [("OfLocal", n, it) for _ in range(7) for it in steps]
         events.append(("GiveBack", n) if chance.random() < 0.9 else ("Forget", n))
     for n, _ in walking(core):
         events += [("OfWalk", n, name) for _ in range(chance.choice([0, 40])) for name in ("Pass", "Load", "Look")] + [("EndWalk", n)]
@@ -1371,17 +1376,14 @@ def wrong_bodies():
 
     def loses_value(table, local):
         after = right["install_bucket"](table, local)
-        if after is None or not model.bucket_stands(table, bucket_of(local.id)):
+        if after is None or local.doing[1][0] == "Err" or not model.bucket_stands(table, bucket_of(local.id)):
             return after
-        value = local.doing[1]
+        value = local.doing[1][1]
         return table, model.after_call(local, ("GetOr", ("Ok", value), False), ("Answered", value), ("Holding", value), ("Gets", 0))
 
-    def error_installs(table, local):
-        after = model.fill_bucket(table, local)
-        if after is None or local.doing[1][0] == "Ok":
-            return after
-        b = bucket_of(local.id)
-        return model.with_pointer(table, b, model.fresh_bucket(b, local.doing[2])), after[1]
+    def error_installs_nothing(table, local):
+        after = right["install_bucket"](table, local)
+        return after if after is None or local.doing[1][0] == "Ok" else (table, after[1])
 
     def flag_first(table, local):
         after = right["write_value"](table, local)
@@ -1439,7 +1441,7 @@ def wrong_bodies():
         "the loser stores its bucket over the winner's": steps(InstallBucket=loser_stores),
         "an install publishes nothing": steps(InstallBucket=installs_empty),
         "an install that comes second loses its value": steps(InstallBucket=loses_value),
-        "a closure's error installs its bucket": steps(FillBucket=error_installs),
+        "a closure's error installs no bucket": steps(InstallBucket=error_installs_nothing),
         "the flag is set before the write": steps(WriteValue=flag_first, SetFlag=write_last),
         "give back doesn't free the id": {"give_back": keeps_held},
         "publishing is never enabled": steps(SetFlag=never),
@@ -1609,7 +1611,6 @@ def more_wrong_bodies():
         "a publishing call that finds a value ends with no record": unrecorded("Reply", "GetOr"),
         "a refused publishing call ends with no record": unrecorded("MakeBucket", "GetOr"),
         "a failed publishing call ends with no record": unrecorded("WriteValue", "GetOr"),
-        "a publishing call that fails with a bucket of its own ends with no record": unrecorded("FillBucket", "GetOr"),
         "a publishing call that installs ends with no record": unrecorded("InstallBucket", "GetOr"),
         "a call ends with another closure's answer": steps(Reply=others_answer),
         "a call that was refused nothing is recorded as refused": steps(WriteValue=refused_unasked),
@@ -1884,7 +1885,6 @@ def wrong_effects():
         "no take is refused memory": {"is_granted": lambda core, refused: not model.is_exhausted(core)},
         "a take grows room by more than it says": {"take_id": takes_with_room},
         "a failing call leaves a get under way": leaves_get("WriteValue"),
-        "a call that fails with a bucket of its own leaves a get under way": leaves_get("FillBucket"),
         "a call that installs leaves a get under way": leaves_get("InstallBucket"),
         "a call that replies leaves a get under way": leaves_get("Reply"),
         "the most held is what is held at last": {"most_held": lambda core, events: held_count(model.run(core, events).held)},

@@ -144,7 +144,7 @@ def view_after(view, call):
     _, create, refused = call
     if refused and not view.known:
         return view
-    return View(create[1], True) if create[0] == "Ok" else view
+    return View(create[1] if create[0] == "Ok" else None, True)
 
 
 def answers(view, calls):
@@ -230,7 +230,7 @@ def slots(table):
 class Local:
     id: int
     learnt: tuple  # Unknown, Missing, Standing, Vacant, Holding value
-    doing: tuple  # Gets count, Started create, Private create number, Filled value number announced, Written value
+    doing: tuple  # Gets count, Started create, Private create number, Filled create number announced, Written value
     start: View
     calls: tuple = ()
     answers: tuple = ()
@@ -353,24 +353,24 @@ def make_bucket(table, local, refused):
 
 def fill_bucket(table, local):
     match local.doing:
-        case ("Private", ("Ok", value), number):
-            return table, replace(local, doing=("Filled", value, number, table.announced[bucket_of(local.id)]))
-        case ("Private", ("Err", error), _):
-            return table, after_call(local, ("GetOr", ("Err", error), False), ("Failed", error), local.learnt, ("Gets", 0))
+        case ("Private", create, number):
+            return table, replace(local, doing=("Filled", create, number, table.announced[bucket_of(local.id)]))
 
 
 def announce_bucket(table, local):
     match local.doing:
-        case ("Filled", value, number, False):
-            return with_announced(table, bucket_of(local.id)), replace(local, doing=("Filled", value, number, True))
+        case ("Filled", create, number, False):
+            return with_announced(table, bucket_of(local.id)), replace(local, doing=("Filled", create, number, True))
 
 
 def install_bucket(table, local):
     match local.doing, local.learnt:
-        case ("Filled", value, number, True), ("Missing",):
-            if bucket_stands(table, bucket_of(local.id)):
-                slot = replace(slot_at(table, local.id), written=value)
-                return with_table_slot(table, local.id, slot), replace(local, learnt=("Vacant",), doing=("Written", value))
+        case ("Filled", (kind, value), number, True), ("Missing",):
+            b, goes_on = bucket_of(local.id), replace(local, learnt=("Vacant",), doing=("Started", (kind, value)))
+            if bucket_stands(table, b):
+                return table, goes_on
+            if kind == "Err":
+                return with_pointer(table, b, fresh_bucket(b, number)), goes_on
             call = ("GetOr", ("Ok", value), False)
             return with_filled_bucket(table, local.id, number, value), after_call(local, call, ("Answered", value), ("Holding", value), ("Gets", 0))
 
@@ -450,11 +450,11 @@ def steps_left(local):
         case ("Gets", count):
             return count + {"Unknown": 2, "Standing": 1}.get(local.learnt[0], 0)
         case ("Started", _):
-            return {"Unknown": 6, "Missing": 5, "Standing": 3, "Vacant": 2, "Holding": 1}[local.learnt[0]]
+            return {"Unknown": 7, "Missing": 6, "Standing": 3, "Vacant": 2, "Holding": 1}[local.learnt[0]]
         case ("Private", _, _):
-            return 4
+            return 5
         case ("Filled", _, _, announced):
-            return 2 if announced else 3
+            return 3 if announced else 4
         case ("Written", _):
             return 1
 
@@ -861,7 +861,8 @@ def move_of(core, event):
             return ("Publish", local.id, local.doing[1])
         case ("OfLocal", number, ("InstallBucket",)) if not bucket_stands(core.table, bucket_of(core.locals[number].id)):
             local = core.locals[number]
-            return ("Publish", local.id, local.doing[1])
+            kind, value = local.doing[1]
+            return ("Publish", local.id, value) if kind == "Ok" else ("Stay",)
         case ("GiveBack", number):
             return ("Give", core.locals[number].id)
         case ("Owner", ("RewriteTable", others)):

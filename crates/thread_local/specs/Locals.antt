@@ -83,13 +83,6 @@ pub record IsSameLocal {V : Type 0} (old new : LocalView V) : Type 0 where
   pub reserved : new.reserved ≡ old.reserved
   pub before : new.before ≡ old.before
 
--- The slot stays empty, and what was known of its bucket still is. That it stands may have become
--- known.
-pub record StaysEmpty {V : Type 0} (old new : LocalView V) : Type 0 where
-  pub empty : new.value ≡ None
-  pub known : old.known ≡ true → new.known ≡ true
-  pub same : IsSameLocal old new
-
 -- a `Local` of a table: its claim is of this table in this sharing, has looked for its bucket, and
 -- has found it where the id is reserved. What is kept of the take is of this table and of this id
 pub record IsLocalOf {V : Type 0} (of : ThreadLocalView) (claim : ClaimView V) (tenure : Tenure) : Type 0 where
@@ -123,12 +116,13 @@ pub record IsFilled {V : Type 0} (E : Type 0) (makes : V → Type 0) (old new : 
   pub value : V
   pub fills : Fills E makes old new value
 
--- Such a call ends with an error of the closure, which ran since the slot was empty. The slot is
--- still empty.
+-- such a call ends with an error of the closure, which ran since the slot was empty, and leaves this
+-- view: the slot is still empty, and its bucket is known to stand
 pub record Fails {V E : Type 0} (makes : E → Type 0) (old new : LocalView V) (error : E) : Type 0 where
-  pub answered : answer {V = V} (knows old) (GetOr (Err error) false) ≡ Failed error
+  pub says : Says (knows old) (GetOr (Err error) false) (Failed error) (knows new)
+  pub known : new.known ≡ true
   pub made : makes error
-  pub leaves : StaysEmpty old new
+  pub same : IsSameLocal old new
 
 -- Such a call runs out of memory, whatever the closure would have answered: the slot was empty, its
 -- bucket was not known to stand, and the view stays.

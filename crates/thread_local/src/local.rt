@@ -219,7 +219,7 @@ impl<'a, T, R: Wait> Local<'a, T, R> {
     /// it answers a reference to its own borrow beside an error of any type. After `Ok`, `get`
     /// answers the value. `Create` hands on the closure's error. `Memory` means out of memory for
     /// the bucket, and the closure isn't called. After either the slot is still empty, so another
-    /// closure may be tried.
+    /// closure may be tried: after `Create` its bucket stands, so that memory isn't asked for again.
     pub fn try_fill<F: FnOnce() -> Result<T, E> + Drop, E>(
         &mut self,
         create: F,
@@ -244,7 +244,7 @@ impl<'a, T, R: Wait> Local<'a, T, R> {
 
     /// The value. Where the slot is empty, memory for a missing bucket is asked for. Then the closure
     /// is called and its value is published, with the bucket if that was missing. `Create` hands on
-    /// the closure's error, and nothing is published. `Memory` means out of memory for the bucket,
+    /// the closure's error: nothing is published, and the bucket stands. `Memory` means out of memory for the bucket,
     /// and the closure isn't called. Rust's crate makes the value before its bucket, takes `&self`,
     /// and doesn't answer out of memory. It is `try_fill` and then `get`, which stand for it where
     /// the proof goes on afterwards.
@@ -273,7 +273,8 @@ impl<'a, T, R: Wait> Local<'a, T, R> {
 impl<'a, T: Sync, R: Wait> Local<'a, T, R> {
     /// `get_or_try`, whose reference lasts as long as the table is lent and isn't bound to the
     /// borrow of the `Local`, as in Rust's crate. So it also says what it leaves: after `Ok` the
-    /// view has the value, and after `Err` it still has none. It needs `T: Sync`, since another
+    /// view has the value, and after `Err` it still has none, though after `Create` the bucket is
+    /// known to stand. It needs `T: Sync`, since another
     /// thread may get the id while the reference lives.
     pub fn get_or_try_lasting<F: FnOnce() -> Result<T, E> + Drop, E>(
         &mut self,

@@ -28,9 +28,10 @@ pub created : {V E : Type 0} (view : View V) (v : V) → view.value ≡ None
     → Says {E = E} view (GetOr (Ok v) false) (Answered v) (record { value = Some v; known = true })
 created view v h = record { answered = rw h refl; leaves = rw h refl }
 
--- where it has none and memory isn't refused, the closure's error is the answer, and the view stays
+-- where it has none and memory isn't refused, the closure's error is the answer, and the bucket is known
+-- to stand from then on
 pub failed : {V E : Type 0} (view : View V) (e : E) → view.value ≡ None
-    → Says view (GetOr (Err e) false) (Failed e) view
+    → Says view (GetOr (Err e) false) (Failed e) (record { value = None; known = true })
 failed view e h = record { answered = rw h refl; leaves = rw h refl }
 
 -- where the bucket is known to stand, no memory is asked for
@@ -57,7 +58,7 @@ known_or : {V E : Type 0} (view : View V) (o : Option V) (refused : Bool) (creat
 known_or view (Some v) refused create k = k
 known_or view None true create k = k
 known_or view None false (Ok v) k = refl
-known_or view None false (Err e) k = k
+known_or view None false (Err e) k = refl
 
 pub known_stays : {V E : Type 0} (view : View V) (call : Call V E) → IsTrue view.known → IsTrue (view_after view call).known
 known_stays view Get k = k

@@ -54,7 +54,7 @@ abbrev pub view_after_or : {V E : Type 0} → View V → Option V → Bool → R
 view_after_or view (Some v) refused create = view
 view_after_or view None true create = view
 view_after_or view None false (Ok v) = record { value = Some v; known = true }
-view_after_or view None false (Err e) = view
+view_after_or view None false (Err e) = record { value = None; known = true }
 
 -- the view after a call
 abbrev pub view_after : {V E : Type 0} → View V → Call V E → View V

@@ -14,7 +14,7 @@ pub fn calls_answer_by_their_view<V, E>()
         → Says view (GetOr create refused) (Answered v) view }
 
     // Where there is no value: out of memory, if the bucket isn't known to stand; else what the
-    // closure returns. Its error leaves the view.
+    // closure returns. After its error the bucket is known to stand.
     ensures refused { (view : View V) (create : Result V E) → view.value ≡ None → view.known ≡ false
         → Says view (GetOr create true) Refused view }
     ensures created { (view : View V) (v : V)
@@ -22,7 +22,7 @@ pub fn calls_answer_by_their_view<V, E>()
         → Says {E = E} view (GetOr (Ok v) false) (Answered v)
         (record { value = Some v; known = true }) }
     ensures failed { (view : View V) (e : E) → view.value ≡ None
-        → Says view (GetOr (Err e) false) (Failed e) view }
+        → Says view (GetOr (Err e) false) (Failed e) (record { value = None; known = true }) }
     ensures known { (view : View V) (create : Result V E)
         → view.known ≡ true
         → (answer view (GetOr create true) ≡ answer view (GetOr create false))
@@ -66,7 +66,7 @@ pub fn steps_lead_to_the_view_after<V, E>()
     ensures installed { (missing vacant holding : Learnt V) (v : V)
         → learnt_by_install missing ≡ Some vacant → learnt_by_publish vacant v ≡ Some holding
         → Says {E = E} (view_of missing) (GetOr (Ok v) false) (Answered v) (view_of holding) }
-    // After the closure's error nothing else is known than before it.
+    // The closure's error leaves a vacant slot, whether the bucket stood or was installed.
     ensures failed { (before : Learnt V) (e : E) → (view_of before).value ≡ None
-        → Says (view_of before) (GetOr (Err e) false) (Failed e) (view_of before) }
+        → Says (view_of before) (GetOr (Err e) false) (Failed e) (view_of {V = V} Vacant) }
 {}

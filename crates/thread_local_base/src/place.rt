@@ -66,6 +66,13 @@ impl Thread {
     {
         self.index + (bucket_size(self.bucket) - 1)
     }
+
+    /// How many slots its bucket has.
+    pub fn bucket_size(&self) -> usize
+        ensures { result ≡ 2 ^ self.now.bucket }
+    {
+        bucket_size(self.bucket)
+    }
 }
 
 /// `place` counts places from id 0 upward. The place of an id is the only solution of an equation,

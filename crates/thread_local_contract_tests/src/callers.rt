@@ -33,10 +33,8 @@ fn first_of_two<R: Wait>(
     Ok(*local.get_or(|| second)?)
 }
 
-/// After an error of the closure the next call isn't refused memory, where the bucket was known to
-/// stand.
+/// After an error of the closure the next call isn't refused memory.
 fn granted_after_an_error<R: Wait>(local: &mut Local<'_, u32, R>, value: u32) -> bool
-    requires { local.old.known ≡ true }
     ensures { result ≡ true }
 {
     match local.try_fill(|| Err::<u32, bool>(false)) {

@@ -1,4 +1,4 @@
-//! A `Local` whose bucket another one installs needs no memory, though it found the bucket missing.
+//! A bucket that somebody else installs first, in one thread.
 
 use crate::same::assert_same;
 use std::alloc::{AllocError, Global};
@@ -6,7 +6,7 @@ use std::mem::forget;
 use std::sync::Wait;
 use std::test::Fail;
 use thread_local::ThreadLocal;
-use thread_local::local::Local;
+use thread_local::local::{Local, TryError};
 use thread_local_base::{LocalError, judge_sync};
 use thread_local_test_helpers::memory::take_all_but;
 
@@ -62,5 +62,35 @@ fn a_bucket_that_another_installed_is_not_asked_for(rt: HostRuntime) -> Result<(
     let other = with_1023_held(&rt, rt.alloc())?;
     let published = published_by_three(&table, &other, &rt, rt.alloc())?;
     assert_same(&rt, published, (Some(3), [Some(1), None]));
+    Ok(())
+}
+
+/// What the slot of a `Local` holds.
+fn found<R: Wait>(local: &Local<'_, Large, R>) -> Option<u64> {
+    local.get().map(|there| there[511])
+}
+
+/// Whether a closure's error is told as such at the first slot of a bucket that another `Local`
+/// installs while the closure runs.
+fn fails_second<R: Wait>(table: &ThreadLocal<Large>, rt: &R) -> Result<bool, LocalError> {
+    let mut first = table.local(rt)?;
+    let mut second = table.local(rt)?;
+    let told = first.try_fill(|| {
+        let _published = published(&mut second, 3);
+        Err("no")
+    });
+    Ok(matches!(told, Err(TryError::Create("no"))) && found(&second) == Some(3))
+}
+
+// The blocks that come second would hold more than 1.2 GB if none were freed, where 1 GiB can be had.
+#[test]
+fn a_block_that_comes_second_without_a_value_is_freed(rt: HostRuntime) -> Result<(), Fail> {
+    let taken = take_all_but(rt.alloc(), 1 << 30)?;
+    for _ in 0..300 {
+        let table = with_1023_held(&rt, rt.alloc())?;
+        let failed = fails_second(&table, &rt)?;
+        assert_same(&rt, failed, true);
+    }
+    drop(taken);
     Ok(())
 }

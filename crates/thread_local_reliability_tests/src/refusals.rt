@@ -347,7 +347,7 @@ fn publishes_after_errors<R: Wait + Print>(mut local: Local<'_, u32, R>, rt: &R)
 }
 
 #[test]
-fn each_error_of_the_closure_asks_for_memory_anew(rt: HostRuntime) {
+fn no_memory_is_asked_for_after_an_error_of_the_closure(rt: HostRuntime) {
     let table = numbers(rt.alloc());
     let Some(local) = had(&table, &rt) else {
         return;

@@ -88,13 +88,13 @@ fn publish_after_errors<R: Wait>(
 }
 
 #[test]
-fn a_bucket_is_missing_still_after_an_error_of_the_closure(rt: HostRuntime) -> Result<(), Fail> {
+fn a_bucket_stands_after_an_error_of_the_closure(rt: HostRuntime) -> Result<(), Fail> {
     let table = numbers(rt.alloc());
     let mut local = table.local(&rt)?;
     assert_same(
         &rt,
         publish_after_errors(&mut local, rt.alloc())?,
-        ([Some("a"), None], [Err(AllocError), Ok(9)]),
+        ([Some("a"), Some("b")], [Ok(9), Ok(9)]),
     );
     Ok(())
 }

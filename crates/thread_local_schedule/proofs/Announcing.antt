@@ -22,7 +22,8 @@ use Rattle.thread_local_schedule.specs.Events.{Owner, OwnerCall, RewriteTable, S
 use Rattle.thread_local_schedule.specs.Events.{take_id, with_step, is_idle, without_local, with_id_given, with_walk}
 use Rattle.thread_local_schedule.specs.Events.{after_owner, step_of, step, happens}
 use Rattle.thread_local_schedule.proofs.CallsLaws.{whatever_is_learnt, either_install}
-use Rattle.thread_local_schedule.proofs.TableLaws.{announced-with_announced, announced-more, announced-with_filled_bucket, announced-with_table_slot}
+use Rattle.thread_local_schedule.proofs.TableLaws.{announced-with_announced, announced-more, announced-with_fresh_bucket}
+use Rattle.thread_local_schedule.proofs.TableLaws.{announced-with_filled_bucket, announced-with_table_slot}
 use Rattle.thread_local_schedule.proofs.OwnerLaws.{announced-rewritten}
 use Rattle.thread_local_schedule.proofs.ClearedLaws.{announced-cleared, announced-drained}
 use Rattle.thread_local_schedule.proofs.OptionLaws.{if_enabled, if_mapped, if_there, if_then, unwrapped}
@@ -50,11 +51,6 @@ written-announces : {V E : Type 0} (table : Table V) (local : Local V E) (create
 written-announces table local (Ok v) = announced-with_table_slot table local.id _
 written-announces table local (Err e) = refl
 
-filled-announces : {V E : Type 0} (table : Table V) (local : Local V E) (number : ℕ) (create : Result V E)
-    → (fill_bucket table local number create).0.announced ≡ table.announced
-filled-announces table local number (Ok v) = refl
-filled-announces table local number (Err e) = refl
-
 step-announces : {V E : Type 0} (table : Table V) (local : Local V E) (step : LocalStep V E)
     → IfSome (local_step table local step) (λ after. Announces step table local.id after.0)
 unfolding local_step
@@ -71,17 +67,16 @@ step-announces {V} {E} table local (MakeBucket refused) =
     if_there (λ after. Announces (MakeBucket refused) table local.id after.0) (make_bucket table local refused)
     (closure_at_missing local.doing local.learnt) (λ create _. inl (made-announces table local refused create))
 step-announces {V} {E} table local FillBucket =
-    if_there (λ after. Announces FillBucket table local.id after.0) (λ own. fill_bucket table local own.number own.create)
-    (empty_bucket local.doing) (λ own _. inl (filled-announces table local own.number own.create))
+    if_there (λ after. Announces FillBucket table local.id after.0) (fill_bucket table local) (empty_bucket local.doing) (λ own _. inl refl)
 step-announces {V} {E} table local AnnounceBucket =
     if_there (λ after. Announces AnnounceBucket table local.id after.0) (announce_bucket table local)
     (unannounced_bucket local.doing) (λ own _. inr (refl, refl))
 step-announces {V} {E} table local InstallBucket =
     if_then (λ after. Announces InstallBucket table local.id after.0) (install_bucket table local)
     (filled_bucket local.doing) (λ own _.
-    either_install table local own (λ after. Announces {E = E} InstallBucket table local.id after.0)
-    (λ _. inl (announced-with_table_slot table local.id _))
-    (λ _. inl (announced-with_filled_bucket table local.id own.number own.value)))
+    either_install table local (λ after. Announces {E = E} InstallBucket table local.id after.0) own
+    (λ _. inl refl) (λ _ v _. inl (announced-with_filled_bucket table local.id own.number v))
+    (λ _ e _. inl (announced-with_fresh_bucket table (bucket_of local.id) own.number)))
 step-announces {V} {E} table local WriteValue =
     if_there (λ after. Announces WriteValue table local.id after.0) (write_value table local)
     (closure_at_vacant local.doing local.learnt) (λ create _. inl (written-announces table local create))

@@ -1,14 +1,14 @@
 -- No step loses a call or makes one up.
 use Rattle.std.proofs.Common.{◌≡◌, ℕ, zero, suc, Bool, true, false, [], ◌∷◌, ◌++◌, Option, Some, None, Result, Ok, Err}
-use Rattle.std.proofs.Common.{IsTrue, IfSome, IsSomeAnd, refl, ap, sym, subst, inl, inr, cond}
+use Rattle.std.proofs.Common.{IsTrue, IfSome, IsSomeAnd, refl, ap, sym, ◌∙◌, subst, inl, inr, cond}
 use Rattle.thread_local_base.specs.Answers.{Get, GetOr, Answer, Answered}
 use Rattle.thread_local_base.specs.Learnt.{Learnt, Missing, Vacant, Holding, learnt_by_load, learnt_by_look}
 use Rattle.thread_local_base.specs.Learnt.{learnt_by_install, learnt_by_publish}
-use Rattle.thread_local_schedule.specs.Table.{Table, published, bucket_stands, with_flag, with_written, with_filled_bucket}
+use Rattle.thread_local_schedule.specs.Table.{Table, published, bucket_stands, with_flag, with_fresh_bucket, with_filled_bucket}
 use Rattle.thread_local_base.specs.Place.{bucket_of}
 use Rattle.thread_local_schedule.specs.Local.{Doing, Gets, Started, Private, Filled, Written, Local, after_call, may_look}
 use Rattle.thread_local_schedule.specs.Local.{learns, load_pointer, look_at_flag, make_bucket, fill_bucket, announce_bucket}
-use Rattle.thread_local_schedule.specs.Local.{FilledBucket, offer_bucket, install_bucket}
+use Rattle.thread_local_schedule.specs.Local.{OwnBucket, offer_bucket, installed_bucket, install_bucket}
 use Rattle.thread_local_schedule.specs.Local.{write_value, set_flag, reply, local_step, LocalStep, BeginGet, BeginGetOr}
 use Rattle.thread_local_schedule.specs.Local.{LoadPointer, LookAtFlag, MakeBucket, FillBucket, AnnounceBucket, InstallBucket}
 use Rattle.thread_local_schedule.specs.Local.{WriteValue, SetFlag}
@@ -122,58 +122,71 @@ make_bucket-goes table local false (Started create) Missing e =
 make_bucket-goes table local refused _ _ e = tt
 
 fill_bucket-goes : {V E : Type 0} (table : Table V) (local : Local V E) (doing : Doing V E) → local.doing ≡ doing
-    → IfSome (option_map (λ own. fill_bucket table local own.number own.create) (empty_bucket doing))
-    (λ after. GoesOn FillBucket local after.1)
-fill_bucket-goes table local (Private (Ok v) number) e =
-    let filled = Filled v number (table.announced (bucket_of local.id)) in
-    goes FillBucket local local.learnt filled (inl (stay local local.learnt filled (sym (ap gets_of e)) (sym (ap closure_of e))))
-fill_bucket-goes table local (Private (Err x) number) e =
-    record { id = refl; start = refl; calls = inr (publishing_ends local (Err x) false _ local.learnt (ap gets_of e) (ap closure_of e)) }
+    → IfSome (option_map (fill_bucket table local) (empty_bucket doing)) (λ after. GoesOn FillBucket local after.1)
+fill_bucket-goes table local (Private create number) e =
+    let filled = Filled create number (table.announced (bucket_of local.id)) in
+    goes FillBucket local local.learnt filled (stay local local.learnt filled (sym (ap gets_of e)) (sym (ap closure_of e)))
 fill_bucket-goes table local _ e = tt
 
 announce_bucket-goes : {V E : Type 0} (table : Table V) (local : Local V E) (doing : Doing V E) → local.doing ≡ doing
     → IfSome (option_map (announce_bucket table local) (unannounced_bucket doing)) (λ after. GoesOn AnnounceBucket local after.1)
-announce_bucket-goes table local (Filled v number false) e =
-    goes AnnounceBucket local local.learnt (Filled v number true)
-    (stay local local.learnt (Filled v number true) (sym (ap gets_of e)) (sym (ap closure_of e)))
+announce_bucket-goes table local (Filled create number false) e =
+    goes AnnounceBucket local local.learnt (Filled create number true)
+    (stay local local.learnt (Filled create number true) (sym (ap gets_of e)) (sym (ap closure_of e)))
 announce_bucket-goes table local _ e = tt
 
--- what holds of an install where a bucket stands, and where none does, holds of it
-install_of : {V E : Type 0} (table : Table V) (local : Local V E) (own : FilledBucket V) (learnt : Learnt V) (P : Table V × Local V E → Type 0)
-    → (IsTrue (bucket_stands table (bucket_of local.id))
-    → P (with_written table local.id own.value, record local { learnt = Vacant; doing = Written own.value }))
-    → (bucket_stands table (bucket_of local.id) ≡ false
-    → P (
-      with_filled_bucket table local.id own.number own.value,
-      after_call local (GetOr (Ok own.value) false) (Answered own.value) (Holding own.value) (Gets 0),
-    ))
-    → IfSome (option_and_then (offer_bucket table local own) (learnt_by_install learnt)) P
-install_of table local own Missing P beside installs =
-    cond_both {A = Option (Table _ × Local _ _)} (bucket_stands table (bucket_of local.id)) _ _ (λ o. IfSome o P) beside installs
-install_of table local own _ P beside installs = tt
+-- What holds of an install where a bucket stands, where none does and the call's own has a value, and
+-- where it has none, holds of it.
+module _ {V E : Type 0} (table : Table V) (local : Local V E) (P : Table V × Local V E → Type 0) where
+  abbrev here : ℕ
+  here = bucket_of local.id
 
-pub either_install : {V E : Type 0} (table : Table V) (local : Local V E) (own : FilledBucket V) (P : Table V × Local V E → Type 0)
-    → (IsTrue (bucket_stands table (bucket_of local.id))
-    → P (with_written table local.id own.value, record local { learnt = Vacant; doing = Written own.value }))
-    → (bucket_stands table (bucket_of local.id) ≡ false
-    → P (
-      with_filled_bucket table local.id own.number own.value,
-      after_call local (GetOr (Ok own.value) false) (Answered own.value) (Holding own.value) (Gets 0),
-    ))
-    → IfSome (install_bucket table local own) P
-either_install table local own P beside installs = install_of table local own local.learnt P beside installs
+  -- what an install leaves where a bucket stands, and where it installs a value or none
+  abbrev Beside : Result V E → Type 0
+  Beside create = IsTrue (bucket_stands table here) → P (table, record local { learnt = Vacant; doing = Started create })
+
+  abbrev Publishes : ℕ → Result V E → Type 0
+  Publishes number create =
+      bucket_stands table here ≡ false → (v : V) → create ≡ Ok v
+      → P (with_filled_bucket table local.id number v, after_call local (GetOr (Ok v) false) (Answered v) (Holding v) (Gets 0))
+
+  abbrev Stands : ℕ → Result V E → Type 0
+  Stands number create =
+      bucket_stands table here ≡ false → (e : E) → create ≡ Err e
+      → P (with_fresh_bucket table here number, record local { learnt = Vacant; doing = Started (Err e) })
+
+  installed_of : (number : ℕ) (create : Result V E) → bucket_stands table here ≡ false
+      → Publishes number create → Stands number create
+      → IfSome (installed_bucket table local number create Vacant) P
+  installed_of number (Ok v) none publishes stands = publishes none v refl
+  installed_of number (Err e) none publishes stands = stands none e refl
+
+  install_of : (own : OwnBucket V E) (learnt : Learnt V) → Beside own.create → Publishes own.number own.create → Stands own.number own.create
+      → IfSome (option_and_then (offer_bucket table local own) (learnt_by_install learnt)) P
+  install_of own Missing beside publishes stands =
+      cond_both {A = Option (Table _ × Local _ _)} (bucket_stands table here) _ _ (λ o. IfSome o P) beside
+      (λ none. installed_of own.number own.create none publishes stands)
+  install_of own _ beside publishes stands = tt
+
+  pub either_install : (own : OwnBucket V E) → Beside own.create → Publishes own.number own.create → Stands own.number own.create
+      → IfSome (install_bucket table local own) P
+  either_install own beside publishes stands = install_of own local.learnt beside publishes stands
 
 install_bucket-goes : {V E : Type 0} (table : Table V) (local : Local V E) (doing : Doing V E) → local.doing ≡ doing
     → IfSome (option_and_then (install_bucket table local) (filled_bucket doing)) (λ after. GoesOn InstallBucket local after.1)
-install_bucket-goes table local (Filled v number true) e =
-    either_install table local (record { value = v; number = number }) (λ after. GoesOn InstallBucket local after.1)
+install_bucket-goes table local (Filled create number true) e =
+    either_install table local (λ after. GoesOn InstallBucket local after.1) (record { create = create; number = number })
     (λ _.
-    goes InstallBucket local Vacant (Written v) (inl (stay local Vacant (Written v) (sym (ap gets_of e)) (sym (ap closure_of e)))))
-    (λ _. record {
+    goes InstallBucket local Vacant (Started create)
+    (inl (stay local Vacant (Started create) (sym (ap gets_of e)) (sym (ap closure_of e)))))
+    (λ _ v is. record {
       id = refl;
       start = refl;
-      calls = inr (publishing_ends local (Ok v) false _ (Holding v) (ap gets_of e) (ap closure_of e));
+      calls = inr (publishing_ends local (Ok v) false _ (Holding v) (ap gets_of e) (ap closure_of e ∙ ap Some is));
     })
+    (λ _ x is.
+    goes InstallBucket local Vacant (Started (Err x))
+    (inl (stay local Vacant (Started (Err x)) (sym (ap gets_of e)) (sym (ap closure_of e ∙ ap Some is)))))
 install_bucket-goes table local _ e = tt
 
 write_value-goes : {V E : Type 0} (table : Table V) (local : Local V E) (doing : Doing V E) (learnt : Learnt V) → local.doing ≡ doing

@@ -48,7 +48,7 @@ pub private_bound : {V E : Type 0} (held : List Bool) (id : ℕ) (doing : Doing 
     → IsTrue (is_held held id)
     → private_slots id doing ≤ length held
 private_bound held id (Private create number) t = own_small held id t
-private_bound held id (Filled v number announced) t = own_small held id t
+private_bound held id (Filled create number announced) t = own_small held id t
 private_bound held id _ t = omega arith
 
 -- no more values are published than the peak

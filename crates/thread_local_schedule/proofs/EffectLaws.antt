@@ -1,7 +1,7 @@
 -- What each event changes of the sheet, the buckets, the slots and its `Local`.
 use Rattle.std.proofs.Common.{◌≡◌, ℕ, Bool, true, false, cond, eqb, Option, Some, None, Result, Ok, Err, IsTrue, IfSome, IsSomeAnd, refl, ap, sym}
 use Rattle.std.proofs.Common.{◌∙◌, subst, ⊎_elim}
-use Rattle.std.specs.Prelude.{◌↔◌, is_some, option_map, option_and_then, unwrap_or}
+use Rattle.std.specs.Prelude.{◌↔◌, ◌⊎◌, is_some, option_map, option_and_then, unwrap_or, IsErr}
 use Rattle.std.proofs.lemmas.Bool.{false≢true, cases_eq, eq-eqb, ne_eqb}
 use Rattle.thread_local_base.specs.Place.{bucket_of}
 use Rattle.thread_local_base.specs.Held.{with_least, without}
@@ -14,7 +14,7 @@ use Rattle.thread_local_schedule.specs.Table.{Table, Slot, slot_at, value_of, pu
 use Rattle.thread_local_schedule.specs.Local.{Local, LocalStep, local_step, MakeBucket, FillBucket, AnnounceBucket, InstallBucket}
 use Rattle.thread_local_schedule.specs.Local.{WriteValue, SetFlag, closure_at_missing, make_bucket, empty_bucket, fill_bucket}
 use Rattle.thread_local_schedule.specs.Local.{unannounced_bucket, announce_bucket, Doing, Gets, Started, Private, Filled, Written}
-use Rattle.thread_local_schedule.specs.Local.{learns, FilledBucket, filled_bucket, install_bucket, value_written, set_flag}
+use Rattle.thread_local_schedule.specs.Local.{learns, OwnBucket, filled_bucket, install_bucket, value_written, set_flag}
 use Rattle.thread_local_schedule.specs.Local.{closure_at_vacant, write_value, after_call}
 use Rattle.thread_local_schedule.specs.Fits.{number_at, IsLearnt, IsDoing, view_now}
 use Rattle.thread_local_schedule.specs.Numbers.{own_number}
@@ -22,8 +22,8 @@ use Rattle.thread_local_schedule.specs.Core.{Core, shadow}
 use Rattle.thread_local_schedule.specs.CoreFits.{CoreFits}
 use Rattle.thread_local_schedule.specs.Events.{Event, OfLocal, GiveBack, Owner, RewriteTable, with_step, is_enabled, happens}
 use Rattle.thread_local_schedule.specs.Schedule.{move, is_granted_take, IsReached}
-use Rattle.thread_local_schedule.proofs.TableLaws.{announced-with_announced, bucket_stands-with_table_slot, bucket_stands-with_filled_bucket}
-use Rattle.thread_local_schedule.proofs.TableLaws.{number_at-with_table_slot, slot_at-with_slot_same}
+use Rattle.thread_local_schedule.proofs.TableLaws.{announced-with_announced, bucket_stands-with_filled_bucket}
+use Rattle.thread_local_schedule.proofs.TableLaws.{bucket_stands-with_fresh_bucket, number_at-with_table_slot, slot_at-with_slot_same}
 use Rattle.thread_local_schedule.proofs.OptionLaws.{if_there, if_then}
 use Rattle.thread_local_schedule.proofs.Clauses.{says, goes, enabled_step}
 use Rattle.thread_local_schedule.proofs.CallsLaws.{whatever_is_learnt, either_install}
@@ -116,25 +116,20 @@ makes core n local create t at started =
     (made_so core.table local local.doing local.learnt create started)
 
 -- a call that fills its bucket knows whether it is announced, and the table stays
-filled_so : {V E : Type 0} (table : Table V) (local : Local V E) (doing : Doing V E) (v : V) (number : ℕ)
-    → doing ≡ Private (Ok v) number
-    → IfSome (option_map (λ own. fill_bucket table local own.number own.create) (empty_bucket doing))
-    (λ after. after.1.doing ≡ Filled v number (table.announced (bucket_of local.id)))
-filled_so table local doing v number e = rw e refl
+filled_so : {V E : Type 0} (table : Table V) (local : Local V E) (doing : Doing V E) (create : Result V E) (number : ℕ)
+    → doing ≡ Private create number
+    → IfSome (option_map (fill_bucket table local) (empty_bucket doing))
+    (λ after. after.1.doing ≡ Filled create number (table.announced (bucket_of local.id)))
+filled_so table local doing create number e = rw e refl
 
-pub fills : {V E : Type 0} (core : Core V E) (n : ℕ) (local : Local V E) (v : V) (number : ℕ)
-    → IsTrue (is_enabled core (OfLocal n FillBucket)) → core.locals n ≡ Some local → local.doing ≡ Private (Ok v) number
+pub fills : {V E : Type 0} (core : Core V E) (n : ℕ) (local : Local V E) (create : Result V E) (number : ℕ)
+    → IsTrue (is_enabled core (OfLocal n FillBucket)) → core.locals n ≡ Some local → local.doing ≡ Private create number
     → IsSomeAnd ((happens core (OfLocal n FillBucket)).locals n)
-    (λ after. after.doing ≡ Filled v number (core.table.announced (bucket_of local.id)))
+    (λ after. after.doing ≡ Filled create number (core.table.announced (bucket_of local.id)))
 unfolding local_step
-fills core n local v number t at own =
-    step_leaves core n FillBucket local (λ after. after.doing ≡ Filled v number (core.table.announced (bucket_of local.id))) t at
-    (filled_so core.table local local.doing v number own)
-
-fill_keeps : {V E : Type 0} (table : Table V) (local : Local V E) (number : ℕ) (create : Result V E)
-    → (fill_bucket table local number create).0 ≡ table
-fill_keeps table local number (Ok v) = refl
-fill_keeps table local number (Err e) = refl
+fills core n local create number t at own =
+    step_leaves core n FillBucket local (λ after. after.doing ≡ Filled create number (core.table.announced (bucket_of local.id))) t at
+    (filled_so core.table local local.doing create number own)
 
 pub fill_stays : {V E : Type 0} (core : Core V E) (n : ℕ) (local : Local V E)
     → IsTrue (is_enabled core (OfLocal n FillBucket)) → core.locals n ≡ Some local
@@ -142,24 +137,23 @@ pub fill_stays : {V E : Type 0} (core : Core V E) (n : ℕ) (local : Local V E)
 unfolding local_step
 fill_stays core n local t at =
     table_after core n FillBucket local (λ table. table ≡ core.table) t at
-    (if_there (λ after. after.0 ≡ core.table) (λ own. fill_bucket core.table local own.number own.create) (empty_bucket local.doing)
-    (λ own _. fill_keeps core.table local own.number own.create))
+    (if_there (λ after. after.0 ≡ core.table) (fill_bucket core.table local) (empty_bucket local.doing) (λ own _. refl))
 
 -- and announces it where it doesn't know that
-announced_so : {V E : Type 0} (table : Table V) (local : Local V E) (doing : Doing V E) (v : V) (number : ℕ)
-    → doing ≡ Filled v number false
+announced_so : {V E : Type 0} (table : Table V) (local : Local V E) (doing : Doing V E) (create : Result V E) (number : ℕ)
+    → doing ≡ Filled create number false
     → IfSome (option_map (announce_bucket table local) (unannounced_bucket doing))
-    (λ after. after.1.doing ≡ Filled v number true)
-announced_so table local doing v number e = rw e refl
+    (λ after. after.1.doing ≡ Filled create number true)
+announced_so table local doing create number e = rw e refl
 
-pub announced : {V E : Type 0} (core : Core V E) (n : ℕ) (local : Local V E) (v : V) (number : ℕ)
+pub announced : {V E : Type 0} (core : Core V E) (n : ℕ) (local : Local V E) (create : Result V E) (number : ℕ)
     → IsTrue (is_enabled core (OfLocal n AnnounceBucket)) → core.locals n ≡ Some local
-    → local.doing ≡ Filled v number false
-    → IsSomeAnd ((happens core (OfLocal n AnnounceBucket)).locals n) (λ after. after.doing ≡ Filled v number true)
+    → local.doing ≡ Filled create number false
+    → IsSomeAnd ((happens core (OfLocal n AnnounceBucket)).locals n) (λ after. after.doing ≡ Filled create number true)
 unfolding local_step
-announced core n local v number t at own =
-    step_leaves core n AnnounceBucket local (λ after. after.doing ≡ Filled v number true) t at
-    (announced_so core.table local local.doing v number own)
+announced core n local create number t at own =
+    step_leaves core n AnnounceBucket local (λ after. after.doing ≡ Filled create number true) t at
+    (announced_so core.table local local.doing create number own)
 
 pub announces : {V E : Type 0} (core : Core V E) (n : ℕ) (local : Local V E) (bucket : ℕ)
     → IsTrue (is_enabled core (OfLocal n AnnounceBucket)) → core.locals n ≡ Some local
@@ -176,20 +170,20 @@ announces core n local bucket t at =
     (λ made _. announced-with_announced core.table own bucket))
 
 -- an install makes the bucket of its Local's id stand, the call's own where none stood
-installed_so : {V E : Type 0} (table : Table V) (local : Local V E) (own : FilledBucket V) (bucket : ℕ)
+installed_so : {V E : Type 0} (table : Table V) (local : Local V E) (own : OwnBucket V E) (bucket : ℕ)
     → IfSome (install_bucket table local own)
     (λ after. bucket_stands after.0 bucket ≡ cond (eqb (bucket_of local.id) bucket) true (bucket_stands table bucket))
 installed_so table local own bucket =
     let here = bucket_of local.id in
-    either_install table local own
-    (λ after. bucket_stands after.0 bucket ≡ cond (eqb here bucket) true (bucket_stands table bucket))
+    either_install table local
+    (λ after. bucket_stands after.0 bucket ≡ cond (eqb here bucket) true (bucket_stands table bucket)) own
     (λ stands.
-    bucket_stands-with_table_slot table local.id bucket _
-    ∙ ⊎_elim
+    ⊎_elim
     (λ same. ap (bucket_stands table) (sym same) ∙ stands ∙ sym (rw (eq-eqb here bucket same) refl))
     (λ apart. rw (ne_eqb here bucket apart) refl)
     (cases_eq here bucket))
-    (λ _. bucket_stands-with_filled_bucket table local.id own.number own.value bucket)
+    (λ _ v _. bucket_stands-with_filled_bucket table local.id own.number v bucket)
+    (λ _ e _. bucket_stands-with_fresh_bucket table here own.number bucket)
 
 pub installs : {V E : Type 0} (core : Core V E) (n : ℕ) (local : Local V E) (bucket : ℕ)
     → IsTrue (is_enabled core (OfLocal n InstallBucket)) → core.locals n ≡ Some local
@@ -204,10 +198,10 @@ installs core n local bucket t at =
     (λ own _. installed_so core.table local own bucket))
 
 -- where none stood, the one that stands then is the call's own
-own_number_of : {V E : Type 0} (doing : Doing V E) (own : FilledBucket V) → filled_bucket doing ≡ Some own
+own_number_of : {V E : Type 0} (doing : Doing V E) (own : OwnBucket V E) → filled_bucket doing ≡ Some own
     → own_number doing ≡ Some own.number
-own_number_of (Filled v number true) own e = ap (option_map (λ it. it.number)) e
-own_number_of (Filled v number false) own e = cc
+own_number_of (Filled create number true) own e = ap (option_map (λ it. it.number)) e
+own_number_of (Filled create number false) own e = cc
 own_number_of (Gets count) own e = cc
 own_number_of (Started create) own e = cc
 own_number_of (Private create number) own e = cc
@@ -223,41 +217,33 @@ installs_own core n local t at none =
     table_after core n InstallBucket local (λ table. number_at table here ≡ own_number local.doing) t at
     (if_then (λ after. number_at after.0 here ≡ own_number local.doing) (install_bucket core.table local)
     (filled_bucket local.doing) (λ own e.
-    either_install core.table local own (λ after. number_at after.0 here ≡ own_number local.doing)
+    let same = number_at-with_bucket_same core.table here own.number ∙ sym (own_number_of local.doing own e) in
+    either_install core.table local (λ after. number_at after.0 here ≡ own_number local.doing) own
     (λ stands. absurd (false≢true (sym none ∙ stands)))
-    (λ _.
-    number_at-with_table_slot (with_fresh_bucket core.table here own.number) local.id here _
-    ∙ number_at-with_bucket_same core.table here own.number
-    ∙ sym (own_number_of local.doing own e))))
+    (λ _ v _. number_at-with_table_slot (with_fresh_bucket core.table here own.number) local.id here _ ∙ same)
+    (λ _ x _. same)))
 
 -- and its value is published, where none stood
 pub installs_value : {V E : Type 0} (core : Core V E) (n : ℕ) (local : Local V E) (v : V) (number : ℕ) → IsReached core
-    → IsTrue (is_enabled core (OfLocal n InstallBucket)) → core.locals n ≡ Some local → local.doing ≡ Filled v number true
+    → IsTrue (is_enabled core (OfLocal n InstallBucket)) → core.locals n ≡ Some local → local.doing ≡ Filled (Ok v) number true
     → bucket_stands core.table (bucket_of local.id) ≡ false
     → shadow (happens core (OfLocal n InstallBucket))
     ≡ record (shadow core) { values = with_value (shadow core).values local.id v }
 installs_value core n local v number r t at filled none =
     by_move core (OfLocal n InstallBucket) _ r (moves.install_moves core n local v number t at filled none)
 
+-- nothing is published by a bucket that has no value
+pub installs_nothing : {V E : Type 0} (core : Core V E) (n : ℕ) (local : Local V E) (e : E) (number : ℕ) → IsReached core
+    → IsTrue (is_enabled core (OfLocal n InstallBucket)) → core.locals n ≡ Some local → local.doing ≡ Filled (Err e) number true
+    → shadow (happens core (OfLocal n InstallBucket)) ≡ shadow core
+installs_nothing core n local e number r t at filled =
+    by_move core (OfLocal n InstallBucket) None r (moves.empty_moves core n local e number t at filled)
+
 pub beside_stays : {V E : Type 0} (core : Core V E) (n : ℕ) (local : Local V E) → IsReached core
     → IsTrue (is_enabled core (OfLocal n InstallBucket)) → core.locals n ≡ Some local
     → IsTrue (bucket_stands core.table (bucket_of local.id))
     → shadow (happens core (OfLocal n InstallBucket)) ≡ shadow core
 beside_stays core n local r t at stands = by_move core (OfLocal n InstallBucket) None r (moves.beside_moves core n local t at stands)
-
--- where another bucket stands, the value is written there
-pub beside_writes : {V E : Type 0} (core : Core V E) (n : ℕ) (local : Local V E) (v : V) (number : ℕ)
-    → IsTrue (is_enabled core (OfLocal n InstallBucket)) → core.locals n ≡ Some local → local.doing ≡ Filled v number true
-    → IsTrue (bucket_stands core.table (bucket_of local.id))
-    → slot_at (happens core (OfLocal n InstallBucket)).table local.id
-    ≡ record (slot_at core.table local.id) { written = Some v }
-unfolding local_step
-beside_writes core n local v number t at filled stands =
-    let P : Table _ → Type 0 = λ table. slot_at table local.id ≡ record (slot_at core.table local.id) { written = Some v } in
-    table_after core n InstallBucket local P t at
-    (rw filled (either_install core.table local (record { value = v; number = number }) (λ after. P after.0)
-    (λ _. slot_at-with_slot_same core.table local.id _ stands)
-    (λ none. absurd (false≢true (sym none ∙ stands)))))
 
 -- a value is written into the slot of the Local's id, and then its flag is set
 writes_slot : {V E : Type 0} (table : Table V) (local : Local V E) (v : V) (o : Option (Result V E))
@@ -282,7 +268,7 @@ started_only (Started it) Standing create e other f = cc
 started_only (Started it) (Holding v) create e other f = cc
 started_only (Gets count) learnt create e other f = cc
 started_only (Private it number) learnt create e other f = cc
-started_only (Filled v number announced) learnt create e other f = cc
+started_only (Filled it number announced) learnt create e other f = cc
 started_only (Written v) learnt create e other f = cc
 
 -- a Local that may write has learnt that its bucket stands
@@ -324,7 +310,7 @@ written_stands table id (Written v) fits t = fits.0
 written_stands table id (Gets count) fits t = absurd (false≢true t)
 written_stands table id (Started create) fits t = absurd (false≢true t)
 written_stands table id (Private create number) fits t = absurd (false≢true t)
-written_stands table id (Filled v number announced) fits t = absurd (false≢true t)
+written_stands table id (Filled create number announced) fits t = absurd (false≢true t)
 
 pub sets_flag : {V E : Type 0} (core : Core V E) (n : ℕ) (local : Local V E) → CoreFits core
     → IsTrue (is_enabled core (OfLocal n SetFlag)) → core.locals n ≡ Some local
@@ -338,26 +324,30 @@ sets_flag core n local h t at =
 
 -- what a Local has learnt by an install and by a publishing
 pub installed : {V E : Type 0} (core : Core V E) (n : ℕ) (local : Local V E) (v : V) (number : ℕ)
-    → IsTrue (is_enabled core (OfLocal n InstallBucket)) → core.locals n ≡ Some local → local.doing ≡ Filled v number true
+    → IsTrue (is_enabled core (OfLocal n InstallBucket)) → core.locals n ≡ Some local → local.doing ≡ Filled (Ok v) number true
     → bucket_stands core.table (bucket_of local.id) ≡ false
     → IsSomeAnd ((happens core (OfLocal n InstallBucket)).locals n) (λ after. (after.learnt ≡ Holding v) × (after.doing ≡ Gets 0))
 unfolding local_step
 installed core n local v number t at filled none =
     step_leaves core n InstallBucket local (λ after. (after.learnt ≡ Holding v) × (after.doing ≡ Gets 0)) t at
-    (rw filled (either_install core.table local (record { value = v; number = number })
-    (λ after. (after.1.learnt ≡ Holding v) × (after.1.doing ≡ Gets 0))
-    (λ stands. absurd (false≢true (sym none ∙ stands))) (λ _. (refl, refl))))
+    (rw filled (either_install core.table local
+    (λ after. (after.1.learnt ≡ Holding v) × (after.1.doing ≡ Gets 0)) (record { create = Ok v; number = number })
+    (λ stands. absurd (false≢true (sym none ∙ stands)))
+    (λ _ x same. let one : x ≡ v = cc in (ap Holding one, refl)) (λ _ e same. absurd cc)))
 
-pub beside : {V E : Type 0} (core : Core V E) (n : ℕ) (local : Local V E) (v : V) (number : ℕ)
-    → IsTrue (is_enabled core (OfLocal n InstallBucket)) → core.locals n ≡ Some local → local.doing ≡ Filled v number true
-    → IsTrue (bucket_stands core.table (bucket_of local.id))
-    → IsSomeAnd ((happens core (OfLocal n InstallBucket)).locals n) (λ after. (after.learnt ≡ Vacant) × (after.doing ≡ Written v))
+-- a call without a value, and one that found another bucket, go on with a vacant slot
+pub installed_empty : {V E : Type 0} (core : Core V E) (n : ℕ) (local : Local V E) (create : Result V E) (number : ℕ)
+    → IsTrue (is_enabled core (OfLocal n InstallBucket)) → core.locals n ≡ Some local → local.doing ≡ Filled create number true
+    → (IsTrue (bucket_stands core.table (bucket_of local.id)) ⊎ IsErr create)
+    → IsSomeAnd ((happens core (OfLocal n InstallBucket)).locals n) (λ after. (after.learnt ≡ Vacant) × (after.doing ≡ Started create))
 unfolding local_step
-beside core n local v number t at filled stands =
-    step_leaves core n InstallBucket local (λ after. (after.learnt ≡ Vacant) × (after.doing ≡ Written v)) t at
-    (rw filled (either_install core.table local (record { value = v; number = number })
-    (λ after. (after.1.learnt ≡ Vacant) × (after.1.doing ≡ Written v))
-    (λ _. (refl, refl)) (λ none. absurd (false≢true (sym none ∙ stands)))))
+installed_empty core n local create number t at filled else =
+    step_leaves core n InstallBucket local (λ after. (after.learnt ≡ Vacant) × (after.doing ≡ Started create)) t at
+    (rw filled (either_install core.table local
+    (λ after. (after.1.learnt ≡ Vacant) × (after.1.doing ≡ Started create)) (record { create = create; number = number })
+    (λ _. (refl, refl))
+    (λ none v same. absurd (⊎_elim (λ stands. false≢true (sym none ∙ stands)) (λ err. false≢true (subst IsErr same err)) else))
+    (λ _ e same. (refl, ap Started (sym same)))))
 
 by_publish : {V : Type 0} (before learnt : Learnt V) (v : V) → learnt_by_publish before v ≡ Some learnt → learnt ≡ Holding v
 by_publish Vacant learnt v e = cc

@@ -58,14 +58,14 @@ idle_gets (Gets zero) t = refl
 idle_gets (Gets (suc count)) t = absurd (false≢true t)
 idle_gets (Started create) t = refl
 idle_gets (Private create number) t = refl
-idle_gets (Filled v number announced) t = refl
+idle_gets (Filled create number announced) t = refl
 idle_gets (Written v) t = refl
 
 idle_closure : {V E : Type 0} (doing : Doing V E) → IsTrue (is_idle doing) → closure_of doing ≡ None
 idle_closure (Gets count) t = refl
 idle_closure (Started create) t = absurd (false≢true t)
 idle_closure (Private create number) t = absurd (false≢true t)
-idle_closure (Filled v number announced) t = absurd (false≢true t)
+idle_closure (Filled create number announced) t = absurd (false≢true t)
 idle_closure (Written v) t = absurd (false≢true t)
 
 no_call_idle : {V E : Type 0} (doing : Doing V E) → gets_of doing ≡ 0 → closure_of doing ≡ None → is_idle doing ≡ true
@@ -73,7 +73,7 @@ no_call_idle (Gets zero) gets closure = refl
 no_call_idle (Gets (suc count)) gets closure = absurd (omega arith)
 no_call_idle (Started create) gets closure = cc
 no_call_idle (Private create number) gets closure = cc
-no_call_idle (Filled v number announced) gets closure = cc
+no_call_idle (Filled create number announced) gets closure = cc
 no_call_idle (Written v) gets closure = cc
 
 -- a Local gives its id back, or is forgotten, where no call of it is under way, and is gone then

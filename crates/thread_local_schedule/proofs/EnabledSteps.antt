@@ -1,5 +1,5 @@
 -- Which steps of a `Local` are enabled, and what they teach: a call under way always has one.
-use Rattle.std.proofs.Common.{◌≡◌, ◌<◌, ℕ, zero, suc, Bool, true, false, cond, Option, Some, None, Result, Ok, Err, is_some}
+use Rattle.std.proofs.Common.{◌≡◌, ◌<◌, zero, suc, Bool, true, false, cond, Option, Some, None, Result, Ok, Err, is_some}
 use Rattle.std.proofs.Common.{IsTrue, IfSome, IsSomeAnd, refl, arith}
 use Rattle.std.specs.Prelude.{option_map, option_and_then, MatchOption}
 use Rattle.std.proofs.lemmas.Bool.{false≢true}
@@ -24,7 +24,7 @@ get_begins : {V E : Type 0} (table : Table V) (local : Local V E) (doing : Doing
 get_begins table local (Gets count) none = refl
 get_begins table local (Started create) none = cc
 get_begins table local (Private create number) none = cc
-get_begins table local (Filled v number announced) none = cc
+get_begins table local (Filled create number announced) none = cc
 get_begins table local (Written v) none = cc
 
 pub begins_get : {V E : Type 0} (table : Table V) (local : Local V E)
@@ -42,7 +42,7 @@ get_or_begins table local create (Gets zero) gets none = refl
 get_or_begins table local create (Gets (suc count)) gets none = absurd (omega arith)
 get_or_begins table local create (Started other) gets none = cc
 get_or_begins table local create (Private other number) gets none = cc
-get_or_begins table local create (Filled v number announced) gets none = cc
+get_or_begins table local create (Filled other number announced) gets none = cc
 get_or_begins table local create (Written v) gets none = cc
 
 pub begins_get_or : {V E : Type 0} (table : Table V) (local : Local V E) (create : Result V E)
@@ -59,7 +59,7 @@ load-learnt table local (Gets count) (Some learnt) e = rw e tt
 load-learnt table local (Started create) None e = tt
 load-learnt table local (Started create) (Some learnt) e = rw e tt
 load-learnt table local (Private create number) o e = tt
-load-learnt table local (Filled v number announced) o e = tt
+load-learnt table local (Filled create number announced) o e = tt
 load-learnt table local (Written v) o e = tt
 
 begin_get-learnt : {V E : Type 0} (table : Table V) (local : Local V E) (doing : Doing V E)
@@ -84,23 +84,21 @@ make_bucket-learnt table local refused _ _ e = tt
 
 fill_bucket-learnt : {V E : Type 0} (table : Table V) (local : Local V E) (doing : Doing V E)
     → HasLearnt doing local.learnt
-    → IfSome (option_map (λ own. fill_bucket table local own.number own.create) (empty_bucket doing))
-    (λ after. HasLearnt after.1.doing after.1.learnt)
-fill_bucket-learnt table local (Private (Ok v) number) h = h
-fill_bucket-learnt table local (Private (Err e) number) h = tt
+    → IfSome (option_map (fill_bucket table local) (empty_bucket doing)) (λ after. HasLearnt after.1.doing after.1.learnt)
+fill_bucket-learnt table local (Private create number) h = h
 fill_bucket-learnt table local _ h = tt
 
 announce_bucket-learnt : {V E : Type 0} (table : Table V) (local : Local V E) (doing : Doing V E)
     → HasLearnt doing local.learnt
     → IfSome (option_map (announce_bucket table local) (unannounced_bucket doing)) (λ after. HasLearnt after.1.doing after.1.learnt)
-announce_bucket-learnt table local (Filled v number false) h = h
+announce_bucket-learnt table local (Filled create number false) h = h
 announce_bucket-learnt table local _ h = tt
 
 install_bucket-learnt : {V E : Type 0} (table : Table V) (local : Local V E) (doing : Doing V E)
     → IfSome (option_and_then (install_bucket table local) (filled_bucket doing)) (λ after. HasLearnt after.1.doing after.1.learnt)
-install_bucket-learnt table local (Filled v number true) =
-    either_install table local (record { value = v; number = number }) (λ after. HasLearnt after.1.doing after.1.learnt)
-    (λ _. refl) (λ _. tt)
+install_bucket-learnt table local (Filled create number true) =
+    either_install table local (λ after. HasLearnt after.1.doing after.1.learnt) (record { create = create; number = number })
+    (λ _. tt) (λ _ v _. tt) (λ _ e _. tt)
 install_bucket-learnt table local _ = tt
 
 write_value-learnt : {V E : Type 0} (table : Table V) (local : Local V E) (doing : Doing V E) (learnt : Learnt V)
@@ -191,7 +189,7 @@ asked table local refused (Started create) Vacant t = absurd (false≢true t)
 asked table local refused (Started create) (Holding v) t = absurd (false≢true t)
 asked table local refused (Gets count) before t = absurd (false≢true t)
 asked table local refused (Private create number) before t = absurd (false≢true t)
-asked table local refused (Filled v number announced) before t = absurd (false≢true t)
+asked table local refused (Filled create number announced) before t = absurd (false≢true t)
 asked table local refused (Written v) before t = absurd (false≢true t)
 
 pub asks : {V E : Type 0} (table : Table V) (local : Local V E) (refused : Bool)
@@ -213,7 +211,7 @@ asked_either table local refused other (Started create) Vacant t = absurd (false
 asked_either table local refused other (Started create) (Holding v) t = absurd (false≢true t)
 asked_either table local refused other (Gets count) before t = absurd (false≢true t)
 asked_either table local refused other (Private create number) before t = absurd (false≢true t)
-asked_either table local refused other (Filled v number announced) before t = absurd (false≢true t)
+asked_either table local refused other (Filled create number announced) before t = absurd (false≢true t)
 asked_either table local refused other (Written v) before t = absurd (false≢true t)
 
 pub asks_either : {V E : Type 0} (table : Table V) (local : Local V E) (refused other : Bool)
@@ -233,7 +231,7 @@ failed table local e (Started (Err x)) before h c v =
 failed table local e (Started (Ok x)) before h c v = cc
 failed table local e (Gets count) before h c v = cc
 failed table local e (Private create number) before h c v = cc
-failed table local e (Filled x number announced) before h c v = cc
+failed table local e (Filled create number announced) before h c v = cc
 failed table local e (Written x) before h c v = cc
 
 pub fails : {V E : Type 0} (table : Table V) (local : Local V E) (e : E)
@@ -242,17 +240,3 @@ pub fails : {V E : Type 0} (table : Table V) (local : Local V E) (e : E)
     → IsSomeAnd (local_step table local WriteValue) (λ after. EndsWith (Failed e) local after.1)
 unfolding local_step
 fails table local e h c v = failed table local e local.doing local.learnt h c v
-
--- and where the call has made a bucket, as it was
-failed_unused : {V E : Type 0} (table : Table V) (local : Local V E) (e : E) (number : ℕ) (doing : Doing V E)
-    → doing ≡ Private (Err e) number
-    → IsSomeAnd (option_map (λ own. fill_bucket table local own.number own.create) (empty_bucket doing))
-    (λ after. EndsWith (Failed e) local after.1 × (after.1.learnt ≡ local.learnt))
-failed_unused table local e number doing d = rw d (record { none = record { gets = refl; closure = refl }; answered = refl }, refl)
-
-pub fails_unused : {V E : Type 0} (table : Table V) (local : Local V E) (e : E) (number : ℕ)
-    → local.doing ≡ Private (Err e) number
-    → IsSomeAnd (local_step table local FillBucket)
-    (λ after. EndsWith (Failed e) local after.1 × (after.1.learnt ≡ local.learnt))
-unfolding local_step
-fails_unused table local e number d = failed_unused table local e number local.doing d

@@ -8,7 +8,7 @@ use Rattle.thread_local_base.specs.Held.{is_granted, HoldsAllBelow}
 use Rattle.thread_local_base.proofs.HeldLaws.{needs-refused}
 use Rattle.thread_local_base.specs.Learnt.{Unknown, Missing, Vacant}
 use Rattle.thread_local_base.specs.Answers.{Failed}
-use Rattle.thread_local_schedule.specs.Local.{Local, LocalStep, Private, BeginGet, BeginGetOr, MakeBucket, FillBucket, WriteValue, local_step}
+use Rattle.thread_local_schedule.specs.Local.{Local, LocalStep, BeginGet, BeginGetOr, MakeBucket, WriteValue, local_step}
 use Rattle.thread_local_schedule.specs.Calls.{closure_of, HasNoCall, GoesDown, EndsWith}
 use Rattle.thread_local_schedule.proofs.EnabledSteps as step
 use Rattle.thread_local_schedule.proofs.GoingOn as call
@@ -290,15 +290,6 @@ pub fails : {V E : Type 0} (core : Core V E) (n : ℕ) (local : Local V E) (e : 
 fails core n local e h going at closure vacant =
     makes_step core n local WriteValue (EndsWith (Failed e) local) going at
     (step.fails core.table local e (h.locals.each n local at).learnt closure vacant)
-
-pub fails_unused : {V E : Type 0} (core : Core V E) (n : ℕ) (local : Local V E) (e : E) (number : ℕ)
-    → core.ended ≡ false → core.locals n ≡ Some local → local.doing ≡ Private (Err e) number
-    → IsTrue (is_enabled core (OfLocal n FillBucket))
-    × IsSomeAnd ((happens core (OfLocal n FillBucket)).locals n)
-    (λ after. EndsWith (Failed e) local after × (after.learnt ≡ local.learnt))
-fails_unused core n local e number going at own =
-    makes_step core n local FillBucket (λ after. EndsWith (Failed e) local after × (after.learnt ≡ local.learnt)) going at
-    (step.fails_unused core.table local e number own)
 
 -- memory is asked for only where the bucket was missing
 asked : {V E : Type 0} (core : Core V E) (n : ℕ) (refused : Bool) (o : Option (Local V E))

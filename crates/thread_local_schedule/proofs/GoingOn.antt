@@ -6,7 +6,7 @@ use Rattle.thread_local_base.specs.Learnt.{Learnt, Unknown, Missing, Standing, V
 use Rattle.thread_local_schedule.specs.Table.{Table, published, bucket_stands}
 use Rattle.thread_local_schedule.specs.Local.{Doing, Gets, Started, Private, Filled, Written, Local, LocalStep, local_step}
 use Rattle.thread_local_schedule.specs.Local.{LoadPointer, LookAtFlag, MakeBucket, FillBucket, AnnounceBucket, InstallBucket}
-use Rattle.thread_local_schedule.specs.Local.{FilledBucket, install_bucket, WriteValue, SetFlag}
+use Rattle.thread_local_schedule.specs.Local.{OwnBucket, installed_bucket, install_bucket, WriteValue, SetFlag}
 use Rattle.thread_local_schedule.specs.Local.{Reply, learns}
 use Rattle.thread_local_schedule.specs.Calls.{gets_of, closure_of, HasNoCall, HasLearnt, GoesDown, looks_left, started_left, steps_left}
 use Rattle.std.proofs.lemmas.Bool.{cond_both}
@@ -28,7 +28,7 @@ load_get : (T F : Type 0) (count : ℕ) (stands : Bool)
 load_get T F count true = omega arith
 load_get T F count false = omega arith
 
-load_started : (T : Type 0) (stands : Bool) → let learnt : Learnt T = cond stands Standing Missing in started_left learnt < 6
+load_started : (T : Type 0) (stands : Bool) → let learnt : Learnt T = cond stands Standing Missing in started_left learnt < 7
 load_started T true = omega arith
 load_started T false = omega arith
 
@@ -44,17 +44,23 @@ look_started : {V E : Type 0} (table : Table V) (local : Local V E) (create : Re
 look_started table local create None e = rw e (omega arith)
 look_started table local create (Some v) e = rw e (omega arith)
 
--- few steps are left once a bucket was filled, and of an install at most one
-filled_few : (T F : Type 0) (v : T) (number : ℕ) (announced : Bool) (learnt : Learnt T)
-    → steps_left {E = F} (Filled v number announced) learnt ≤ 3
-filled_few T F v number true learnt = omega arith
-filled_few T F v number false learnt = omega arith
+-- few steps are left once a bucket was filled, and of an install at most two
+filled_few : (T F : Type 0) (create : Result T F) (number : ℕ) (announced : Bool) (learnt : Learnt T)
+    → steps_left (Filled create number announced) learnt ≤ 4
+filled_few T F create number true learnt = omega arith
+filled_few T F create number false learnt = omega arith
 
-install_few : {V E : Type 0} (table : Table V) (local : Local V E) (own : FilledBucket V) → local.learnt ≡ Missing
-    → IsSomeAnd (install_bucket table local own) (λ after. steps_left after.1.doing after.1.learnt < 2)
+installed_few : {V E : Type 0} (table : Table V) (local : Local V E) (number : ℕ) (create : Result V E)
+    → IsSomeAnd (installed_bucket table local number create Vacant) (λ after. steps_left after.1.doing after.1.learnt < 3)
+installed_few table local number (Ok v) = omega arith
+installed_few table local number (Err e) = omega arith
+
+install_few : {V E : Type 0} (table : Table V) (local : Local V E) (own : OwnBucket V E) → local.learnt ≡ Missing
+    → IsSomeAnd (install_bucket table local own) (λ after. steps_left after.1.doing after.1.learnt < 3)
 install_few table local own h =
     rw h (cond_both {A = Option (Table _ × Local _ _)} (bucket_stands table (bucket_of local.id)) _ _
-    (λ o. IsSomeAnd o (λ after. steps_left after.1.doing after.1.learnt < 2)) (λ _. omega arith) (λ _. omega arith))
+    (λ o. IsSomeAnd o (λ after. steps_left after.1.doing after.1.learnt < 3)) (λ _. omega arith)
+    (λ _. installed_few table local own.number own.create))
 
 goes_by : {V E : Type 0} (table : Table V) (local : Local V E) (doing : Doing V E)
     (learnt : Learnt V)
@@ -85,12 +91,11 @@ goes_by {V} {E} table local (Started create) Standing e l h busy = (
 goes_by {V} {E} table local (Started (Ok v)) Vacant e l h busy = (WriteValue, rw (e, l) (omega arith))
 goes_by {V} {E} table local (Started (Err x)) Vacant e l h busy = (WriteValue, rw (e, l) (omega arith))
 goes_by {V} {E} table local (Started create) (Holding v) e l h busy = (Reply, rw (e, l) (omega arith))
-goes_by {V} {E} table local (Private (Ok v) number) learnt e l h busy =
-    (FillBucket, rw e (omega (arith, filled_few V E v number (table.announced (bucket_of local.id)) local.learnt)))
-goes_by {V} {E} table local (Private (Err x) number) learnt e l h busy = (FillBucket, rw e (omega arith))
-goes_by {V} {E} table local (Filled v number false) learnt e l h busy = (AnnounceBucket, rw e (omega arith))
-goes_by {V} {E} table local (Filled v number true) learnt e l h busy =
-    (InstallBucket, rw e (install_few table local (record { value = v; number = number }) (l ∙ h)))
+goes_by {V} {E} table local (Private create number) learnt e l h busy =
+    (FillBucket, rw e (omega (arith, filled_few V E create number (table.announced (bucket_of local.id)) local.learnt)))
+goes_by {V} {E} table local (Filled create number false) learnt e l h busy = (AnnounceBucket, rw e (omega arith))
+goes_by {V} {E} table local (Filled create number true) learnt e l h busy =
+    (InstallBucket, rw e (install_few table local (record { create = create; number = number }) (l ∙ h)))
 goes_by {V} {E} table local (Written v) learnt e l h busy = (SetFlag, rw (e, l, h) (omega arith))
 
 pub goes_on : {V E : Type 0} (table : Table V) (local : Local V E) → HasLearnt local.doing local.learnt → (HasNoCall local → ⊥)
@@ -100,7 +105,7 @@ goes_on table local h busy =
     (λ gets closure. busy (record { gets = gets; closure = closure }))
 
 -- few steps are left of any call
-started_few : {V : Type 0} (learnt : Learnt V) → started_left learnt ≤ 6
+started_few : {V : Type 0} (learnt : Learnt V) → started_left learnt ≤ 7
 started_few Unknown = omega arith
 started_few Missing = omega arith
 started_few Standing = omega arith
@@ -114,11 +119,11 @@ looks_few Standing = omega arith
 looks_few Vacant = omega arith
 looks_few (Holding v) = omega arith
 
-pub few_steps : {V E : Type 0} (doing : Doing V E) (learnt : Learnt V) → steps_left doing learnt ≤ gets_of doing + 6
+pub few_steps : {V E : Type 0} (doing : Doing V E) (learnt : Learnt V) → steps_left doing learnt ≤ gets_of doing + 7
 few_steps (Gets zero) learnt = omega arith
 few_steps (Gets (suc count)) learnt = omega (arith, looks_few learnt)
 few_steps (Started create) learnt = started_few learnt
 few_steps (Private create number) learnt = omega arith
-few_steps (Filled v number false) learnt = omega arith
-few_steps (Filled v number true) learnt = omega arith
+few_steps (Filled create number false) learnt = omega arith
+few_steps (Filled create number true) learnt = omega arith
 few_steps (Written v) learnt = omega arith

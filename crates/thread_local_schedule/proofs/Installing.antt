@@ -1,5 +1,5 @@
 -- Only an install makes a bucket stand, and it makes its own stand.
-use Rattle.std.proofs.Common.{◌≡◌, ℕ, zero, suc, Bool, true, false, cond, Option, Some, None, Result, Ok, Err, IsTrue}
+use Rattle.std.proofs.Common.{◌≡◌, ℕ, zero, suc, Bool, true, false, cond, eqb, Option, Some, None, Result, Ok, Err, IsTrue}
 use Rattle.std.proofs.Common.{IfSome, refl, ap, sym, ◌∙◌, ⊎_elim}
 use Rattle.std.specs.Prelude.{option_map, option_and_then}
 use Rattle.std.proofs.lemmas.Bool.{cases_eq, ne_eqb, false≢true}
@@ -7,7 +7,8 @@ use Rattle.thread_local_base.specs.Place.{bucket_of}
 use Rattle.thread_local_base.specs.Learnt.{Learnt, Missing, Vacant, Holding, learnt_by_load, learnt_by_look}
 use Rattle.thread_local_base.specs.Learnt.{learnt_by_publish}
 use Rattle.thread_local_base.specs.Answers.{Answered, GetOr}
-use Rattle.thread_local_schedule.specs.Table.{Table, Slot, published, bucket_stands, with_announced, with_flag, with_table_slot}
+use Rattle.thread_local_schedule.specs.Table.{Table, Slot, published, bucket_stands, with_announced, with_fresh_bucket, with_filled_bucket}
+use Rattle.thread_local_schedule.specs.Table.{with_flag, with_table_slot}
 use Rattle.thread_local_schedule.specs.Local.{Doing, Gets, Started, Private, Filled, Local, LocalStep, local_step, BeginGet}
 use Rattle.thread_local_schedule.specs.Local.{BeginGetOr, LoadPointer, LookAtFlag, MakeBucket, FillBucket, AnnounceBucket, InstallBucket}
 use Rattle.thread_local_schedule.specs.Local.{WriteValue, SetFlag, Reply, doing_with_get, doing_with_get_or, begin_call}
@@ -15,7 +16,7 @@ use Rattle.thread_local_schedule.specs.Local.{may_look, learns, closure_at_missi
 use Rattle.thread_local_schedule.specs.Local.{unannounced_bucket, announce_bucket, filled_bucket, install_bucket, closure_at_vacant}
 use Rattle.thread_local_schedule.specs.Local.{write_value, value_written, set_flag, after_call, ending_of, reply}
 use Rattle.thread_local_schedule.proofs.TableLaws.{bucket_stands-with_filled_bucket, bucket_stands-with_table_slot, bucket_stands-made}
-use Rattle.thread_local_schedule.proofs.TableLaws.{bucket_stands-with_announced}
+use Rattle.thread_local_schedule.proofs.TableLaws.{bucket_stands-with_announced, bucket_stands-with_fresh_bucket}
 use Rattle.thread_local_schedule.proofs.CallsLaws.{whatever_is_learnt, either_install}
 
 -- a bucket that doesn't stand before a step stands after it only where the step installs it
@@ -73,10 +74,8 @@ make_bucket-installs table local bucket refused None none = tt
 fill_bucket-installs : {V E : Type 0} (table : Table V) (local : Local V E) (bucket : ℕ)
     (doing : Doing V E)
     → bucket_stands table bucket ≡ false
-    → IfSome (option_map (λ own. fill_bucket table local own.number own.create) (empty_bucket doing))
-    (λ after. Installs {E = E} FillBucket local.id bucket after.0)
-fill_bucket-installs table local bucket (Private (Ok v) number) none = leaves FillBucket table table local.id bucket none refl
-fill_bucket-installs table local bucket (Private (Err e) number) none = leaves FillBucket table table local.id bucket none refl
+    → IfSome (option_map (fill_bucket table local) (empty_bucket doing)) (λ after. Installs {E = E} FillBucket local.id bucket after.0)
+fill_bucket-installs table local bucket (Private create number) none = leaves FillBucket table table local.id bucket none refl
 fill_bucket-installs table local bucket _ none = tt
 
 announce_bucket-installs : {V E : Type 0} (table : Table V) (local : Local V E) (bucket : ℕ)
@@ -84,33 +83,43 @@ announce_bucket-installs : {V E : Type 0} (table : Table V) (local : Local V E) 
     → bucket_stands table bucket ≡ false
     → IfSome (option_map (announce_bucket table local) (unannounced_bucket doing))
     (λ after. Installs {E = E} AnnounceBucket local.id bucket after.0)
-announce_bucket-installs table local bucket (Filled v number false) none =
+announce_bucket-installs table local bucket (Filled create number false) none =
     leaves AnnounceBucket table (with_announced table (bucket_of local.id)) local.id bucket none
     (bucket_stands-with_announced table (bucket_of local.id) bucket)
 announce_bucket-installs table local bucket _ none = tt
+
+-- a table in which a bucket was installed installs that one alone
+own-installs : {V E : Type 0} (table after : Table V) (id bucket : ℕ) → bucket_stands table bucket ≡ false
+    → bucket_stands after bucket ≡ cond (eqb (bucket_of id) bucket) true (bucket_stands table bucket)
+    → Installs {E = E} InstallBucket id bucket after
+own-installs table after id bucket none stands t = let own = bucket_of id in (
+  refl,
+  ⊎_elim
+      (λ same. same)
+      (λ apart.
+      absurd
+      (false≢true (sym none
+      ∙ sym (stands ∙ ap (λ b. cond b true (bucket_stands table bucket)) (ne_eqb own bucket apart))
+      ∙ t)))
+      (cases_eq own bucket),
+)
 
 install_bucket-installs : {V E : Type 0} (table : Table V) (local : Local V E) (bucket : ℕ)
     (doing : Doing V E)
     → bucket_stands table bucket ≡ false
     → IfSome (option_and_then (install_bucket table local) (filled_bucket doing))
     (λ after. Installs {E = E} InstallBucket local.id bucket after.0)
-install_bucket-installs {V} {E} table local bucket (Filled v number true) none =
-    let own = bucket_of local.id in
-    either_install table local (record { value = v; number = number })
-    (λ after. Installs {E = E} InstallBucket local.id bucket after.0)
-    (λ _. slot-leaves InstallBucket table local.id bucket _ none)
-    (λ _ t. (
-      refl,
-      ⊎_elim
-          (λ same. same)
-          (λ apart.
-          absurd
-          (false≢true (sym none
-          ∙ sym (bucket_stands-with_filled_bucket table local.id number v bucket
-          ∙ ap (λ b. cond b true (bucket_stands table bucket)) (ne_eqb own bucket apart))
-          ∙ t)))
-          (cases_eq own bucket),
-    ))
+install_bucket-installs {V} {E} table local bucket (Filled create number true) none =
+    let here = bucket_of local.id in
+    either_install table local (λ after. Installs {E = E} InstallBucket local.id bucket after.0)
+    (record { create = create; number = number })
+    (λ _. leaves InstallBucket table table local.id bucket none refl)
+    (λ _ v _.
+    own-installs table (with_filled_bucket table local.id number v) local.id bucket none
+    (bucket_stands-with_filled_bucket table local.id number v bucket))
+    (λ _ e _.
+    own-installs table (with_fresh_bucket table here number) local.id bucket none
+    (bucket_stands-with_fresh_bucket table here number bucket))
 install_bucket-installs table local bucket _ none = tt
 
 write_value-installs : {V E : Type 0} (table : Table V) (local : Local V E) (bucket : ℕ)

@@ -3,6 +3,7 @@
 use Rattle.std.proofs.Common.{◌≡◌, ℕ, zero, suc, ◌⊎◌, Bool, true, false, cond, eqb, [], ◌∷◌, ◌++◌, Option, Some, None}
 use Rattle.std.proofs.Common.{Result, Ok, Err, IsTrue, is_some, IfSome, refl, ap, sym, ◌∙◌, subst, ⊎_elim, inl, inr}
 use Rattle.std.specs.Prelude.{option_map, option_and_then}
+use Rattle.std.specs.Result.{result_ok}
 use Rattle.std.proofs.lemmas.Bool.{cases_eq, cond_both, eq-eqb, ne_eqb, false_from_ne_true, false≢true}
 use Rattle.thread_local_base.specs.Place.{bucket_of}
 use Rattle.thread_local_base.specs.Answers.{View, Call, Get, GetOr, Answer, Found, Answered, Refused, Failed, Says, answers}
@@ -27,7 +28,8 @@ use Rattle.thread_local_schedule.proofs.TableLaws.{bucket_stands-with_filled_buc
 use Rattle.thread_local_schedule.proofs.TableLaws.{slot_at-with_slot_other, bucket_stands-with_table_slot, slot_at-made}
 use Rattle.thread_local_schedule.proofs.TableLaws.{bucket_stands-made, number_at-made, number_at-with_filled_bucket, number_at-with_table_slot}
 use Rattle.thread_local_schedule.proofs.TableLaws.{slot_at-with_announced, bucket_stands-with_announced, number_at-with_announced}
-use Rattle.thread_local_schedule.proofs.TableLaws.{announced-more, announced-own, announced-with_filled_bucket, announced-with_table_slot}
+use Rattle.thread_local_schedule.proofs.TableLaws.{announced-more, announced-own, announced-with_fresh_bucket, announced-with_filled_bucket}
+use Rattle.thread_local_schedule.proofs.TableLaws.{announced-with_table_slot, number_at-with_fresh_bucket}
 
 learnt_carried : {V : Type 0} (old new : Table V) (id : ℕ) (view : View V) (learnt : Learnt V)
     → slot_at new id ≡ slot_at old id → (IsTrue (bucket_stands old (bucket_of id)) → IsTrue (bucket_stands new (bucket_of id)))
@@ -45,7 +47,7 @@ doing_carried : {V E : Type 0} (old new : Table V) (id : ℕ) (doing : Doing V E
 doing_carried old new id (Gets count) same stays known d = d
 doing_carried old new id (Started create) same stays known d = d
 doing_carried old new id (Private create number) same stays known d = ap (λ slot. slot.flag) same ∙ d
-doing_carried old new id (Filled v number announced) same stays known d =
+doing_carried old new id (Filled create number announced) same stays known d =
     (ap (λ slot. slot.flag) same ∙ d.0, λ t. known (d.1 t))
 doing_carried old new id (Written v) same stays known d = (stays d.0, same ∙ d.1)
 
@@ -244,31 +246,27 @@ make_bucket-fits table local false (Started create) Missing written h l d =
     (ap (λ slot. slot.flag) (same local.id) ∙ l.0)
 make_bucket-fits table local refused _ _ written h l d = tt
 
--- a call fills its bucket, which nobody else sees, or ends with the closure's error
+-- a call fills its bucket, which nobody else sees
 fill_bucket-fits : {V E : Type 0} (table : Table V) (local : Local V E) (doing : Doing V E)
     → AllWritten table → LocalFits table local
     → IsDoing table local.id doing
-    → IfSome (option_map (λ own. fill_bucket table local own.number own.create) (empty_bucket doing)) (StepFits table local None)
-fill_bucket-fits table local (Private (Ok v) number) written h d =
-    stays table local local.learnt (Filled v number (table.announced (bucket_of local.id))) written h h.view.learnt_so (d, λ t. t)
-fill_bucket-fits table local (Private (Err e) number) written h d =
-    ends table local (GetOr (Err e) false) (Failed e) (view_now local) local.learnt (Gets 0) written h
-    (says.failed (view_now local) e (h.view.value ∙ published_unset table local.id d))
-    (record { value = h.view.value; known = h.view.known; learnt_so = h.view.learnt_so; doing_so = tt })
+    → IfSome (option_map (fill_bucket table local) (empty_bucket doing)) (StepFits table local None)
+fill_bucket-fits table local (Private create number) written h d =
+    stays table local local.learnt (Filled create number (table.announced (bucket_of local.id))) written h h.view.learnt_so (d, λ t. t)
 fill_bucket-fits table local _ written h d = tt
 
 -- a call announces its bucket, and no pointer and no slot changes
-announces : {V E : Type 0} (table : Table V) (local : Local V E) (v : V) (number : ℕ)
+announces : {V E : Type 0} (table : Table V) (local : Local V E) (create : Result V E) (number : ℕ)
     → AllWritten table → LocalFits table local
     → (slot_at table local.id).flag ≡ false
     → StepFits table local None
-    (with_announced table (bucket_of local.id), record local { doing = Filled v number true })
-announces table local v number written h d =
+    (with_announced table (bucket_of local.id), record local { doing = Filled create number true })
+announces table local create number written h d =
     let own = bucket_of local.id in
     let after = with_announced table own in
     let same = slot_at-with_announced table own in
     let standing = bucket_stands-with_announced table own in
-    offers table after local local.learnt (Filled v number true) written h
+    offers table after local local.learnt (Filled create number true) written h
     (record {
       same = same;
       standing = λ bucket t. (standing bucket ∙ t, number_at-with_announced table own bucket);
@@ -283,7 +281,7 @@ announce_bucket-fits : {V E : Type 0} (table : Table V) (local : Local V E) (doi
     → AllWritten table → LocalFits table local
     → IsDoing table local.id doing
     → IfSome (option_map (announce_bucket table local) (unannounced_bucket doing)) (StepFits table local None)
-announce_bucket-fits table local (Filled v number false) written h d = announces table local v number written h d.0
+announce_bucket-fits table local (Filled create number false) written h d = announces table local create number written h d.0
 announce_bucket-fits table local _ written h d = tt
 
 -- one slot changes, to one whose flag is set only over a written value
@@ -359,9 +357,10 @@ write_value-fits : {V E : Type 0} (table : Table V) (local : Local V E) (doing :
     (StepFits table local None)
 write_value-fits table local (Started (Ok v)) Vacant written h l = writes table local v written h l.0 l.1
 write_value-fits table local (Started (Err e)) Vacant written h l =
-    ends table local (GetOr (Err e) false) (Failed e) (view_now local) Vacant (Gets 0) written h
-    (says.failed (view_now local) e (h.view.value ∙ published_unset table local.id l.1))
-    (record { value = h.view.value; known = h.view.known; learnt_so = l; doing_so = tt })
+    let none = published_unset table local.id l.1 in
+    ends table local (GetOr (Err e) false) (Failed e) (record { value = None; known = true }) Vacant (Gets 0) written h
+    (says.failed (view_now local) e (h.view.value ∙ none))
+    (record { value = sym none; known = λ t. l.0; learnt_so = l; doing_so = tt })
 write_value-fits table local _ _ written h l = tt
 
 -- a filled bucket is installed where none stands, and only its value is published by that
@@ -422,16 +421,53 @@ installs table local v number written h missing empty known =
       same = record { id = refl; start = refl };
     }
 
+-- a bucket without a value is installed where none stands, and no slot changes
+installs_empty : {V E : Type 0} (table : Table V) (local : Local V E) (number : ℕ) (doing : Doing V E)
+    → AllWritten table → LocalFits table local
+    → bucket_stands table (bucket_of local.id) ≡ false → (slot_at table local.id).flag ≡ false
+    → IsTrue (table.announced (bucket_of local.id)) → ((after : Table V) → IsDoing after local.id doing)
+    → StepFits table local None (
+      with_fresh_bucket table (bucket_of local.id) number,
+      record local { learnt = Vacant; doing = doing },
+    )
+installs_empty table local number doing written h missing empty known d =
+    let own = bucket_of local.id in
+    let after = with_fresh_bucket table own number in
+    let same : (other : ℕ) → slot_at after other ≡ slot_at table other =
+    λ other. slot_at-with_fresh_bucket table own number other missing in
+    let standing = bucket_stands-with_fresh_bucket table own number in
+    let stood : IsTrue (bucket_stands after own) =
+    standing own ∙ ap (λ b. cond b true (bucket_stands table own)) (eq-eqb own own refl) in
+    offers table after local Vacant doing written h
+    (record {
+      same = same;
+      standing = λ bucket t. (
+        (standing bucket ∙ cond_both (eqb own bucket) true (bucket_stands table bucket) (λ b. b ≡ true) (λ _. refl) (λ _. t)),
+        number_at-with_fresh_bucket table own number bucket
+            (λ here. false≢true (sym missing ∙ ap (bucket_stands table) here ∙ t)),
+      );
+      installed = λ bucket t.
+          ⊎_elim
+          (λ here. inr (here, ap table.announced (sym here) ∙ known))
+          (λ apart.
+          inl (sym (standing bucket ∙ ap (λ b. cond b true (bucket_stands table bucket)) (ne_eqb own bucket apart)) ∙ t))
+          (cases_eq own bucket);
+      announced = λ bucket t. ap (λ f. f bucket) (announced-with_fresh_bucket table own number) ∙ t;
+    })
+    (stood, ap (λ slot. slot.flag) (same local.id) ∙ empty)
+    (d after)
+
 install_bucket-fits : {V E : Type 0} (table : Table V) (local : Local V E) (doing : Doing V E)
     → AllWritten table → LocalFits table local
     → IsDoing table local.id doing
-    → let set = cond (bucket_stands table (bucket_of local.id)) None (option_map (λ own. own.value) (filled_bucket doing)) in
+    → let set = cond (bucket_stands table (bucket_of local.id)) None (option_and_then (λ own. result_ok own.create) (filled_bucket doing)) in
     IfSome (option_and_then (install_bucket table local) (filled_bucket doing)) (StepFits table local set)
-install_bucket-fits table local (Filled v number true) written h d =
-    either_install table local (record { value = v; number = number })
-    (StepFits table local (cond (bucket_stands table (bucket_of local.id)) None (Some v)))
-    (λ stands. rw stands (writes table local v written h stands d.0))
-    (λ none. rw none (installs table local v number written h none d.0 (d.1 refl)))
+install_bucket-fits table local (Filled create number true) written h d =
+    either_install table local (StepFits table local (cond (bucket_stands table (bucket_of local.id)) None (result_ok create)))
+    (record { create = create; number = number })
+    (λ there. rw there (stays table local Vacant (Started create) written h (there, d.0) tt))
+    (λ none v is. rw (none, is) (installs table local v number written h none d.0 (d.1 refl)))
+    (λ none e is. rw (none, is) (installs_empty table local number (Started (Err e)) written h none d.0 (d.1 refl) (λ _. tt)))
 install_bucket-fits table local _ written h d = tt
 
 -- what a publishing teaches holds

@@ -1,6 +1,6 @@
 -- Which move each event is.
-use Rattle.std.proofs.Common.{◌≡◌, ℕ, Bool, true, false, ◌&&◌, not, cond, Option, Some, None, IsTrue, refl, sym}
-use Rattle.std.specs.Prelude.{◌≢◌}
+use Rattle.std.proofs.Common.{◌≡◌, ℕ, Bool, true, false, ◌&&◌, not, cond, Option, Some, None, Ok, Err, IsTrue, refl, sym}
+use Rattle.std.specs.Prelude.{◌≢◌, option_map}
 use Rattle.std.proofs.lemmas.Bool.{false≢true, cond_both}
 use Rattle.thread_local_base.specs.Held.{is_granted}
 use Rattle.thread_local_base.specs.Sheet.{Take, Give, Publish, Rewrite, Clear}
@@ -36,10 +36,18 @@ pub publish_moves : {V E : Type 0} (core : Core V E) (n : ℕ) (local : Local V 
 publish_moves core n local v t at written = rw (t, at, written) refl
 
 pub install_moves : {V E : Type 0} (core : Core V E) (n : ℕ) (local : Local V E) (v : V) (number : ℕ)
-    → IsTrue (is_enabled core (OfLocal n InstallBucket)) → core.locals n ≡ Some local → local.doing ≡ Filled v number true
+    → IsTrue (is_enabled core (OfLocal n InstallBucket)) → core.locals n ≡ Some local → local.doing ≡ Filled (Ok v) number true
     → bucket_stands core.table (bucket_of local.id) ≡ false
     → move core (OfLocal n InstallBucket) ≡ Some (OfSheet (Publish local.id v))
 install_moves core n local v number t at filled none = rw (t, at, none, filled) refl
+
+pub empty_moves : {V E : Type 0} (core : Core V E) (n : ℕ) (local : Local V E) (e : E) (number : ℕ)
+    → IsTrue (is_enabled core (OfLocal n InstallBucket)) → core.locals n ≡ Some local → local.doing ≡ Filled (Err e) number true
+    → move core (OfLocal n InstallBucket) ≡ None
+empty_moves {V} core n local e number t at filled =
+    rw (t, at, filled)
+    (cond_both {A = Option V} (bucket_stands core.table (bucket_of local.id)) None None
+    (λ o. option_map (λ (value : V). OfSheet (Publish local.id value)) o ≡ None) (λ _. refl) (λ _. refl))
 
 pub beside_moves : {V E : Type 0} (core : Core V E) (n : ℕ) (local : Local V E)
     → IsTrue (is_enabled core (OfLocal n InstallBucket)) → core.locals n ≡ Some local

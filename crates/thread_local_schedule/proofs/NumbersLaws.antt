@@ -8,7 +8,8 @@ use Rattle.thread_local_base.specs.Place.{bucket_of}
 use Rattle.thread_local_base.specs.Answers.{GetOr, Answered}
 use Rattle.thread_local_base.specs.Learnt.{Learnt, Missing, Vacant, Holding, learnt_by_load, learnt_by_look}
 use Rattle.thread_local_base.specs.Learnt.{learnt_by_publish}
-use Rattle.thread_local_schedule.specs.Table.{Table, Slot, published, bucket_stands, with_announced, with_fresh_bucket, with_table_slot, with_flag}
+use Rattle.thread_local_schedule.specs.Table.{Table, Slot, published, bucket_stands, with_announced, with_fresh_bucket, with_filled_bucket}
+use Rattle.thread_local_schedule.specs.Table.{with_table_slot, with_flag}
 use Rattle.thread_local_schedule.specs.Local.{Doing, Gets, Started, Private, Filled, Written, Local, after_call, may_look}
 use Rattle.thread_local_schedule.specs.Local.{learns, load_pointer, look_at_flag, make_bucket, fill_bucket, announce_bucket, install_bucket}
 use Rattle.thread_local_schedule.specs.Local.{write_value, set_flag, reply, local_step, LocalStep, BeginGet, BeginGetOr}
@@ -96,16 +97,15 @@ make_bucket-numbers table local refused _ _ = tt
 
 fill_bucket-numbers : {V E : Type 0} (table : Table V) (local : Local V E) (doing : Doing V E)
     → local.doing ≡ doing
-    → IfSome (option_map (λ own. fill_bucket table local own.number own.create) (empty_bucket doing)) (NumbersGo table local)
-fill_bucket-numbers table local (Private (Ok v) number) at =
+    → IfSome (option_map (fill_bucket table local) (empty_bucket doing)) (NumbersGo table local)
+fill_bucket-numbers table local (Private create number) at =
     same_numbers table table local _ refl (λ bucket. refl) (λ k e. ap own_number at ∙ e)
-fill_bucket-numbers table local (Private (Err x) number) at = none_own table local _ refl
 fill_bucket-numbers table local _ at = tt
 
 announce_bucket-numbers : {V E : Type 0} (table : Table V) (local : Local V E) (doing : Doing V E)
     → local.doing ≡ doing
     → IfSome (option_map (announce_bucket table local) (unannounced_bucket doing)) (NumbersGo table local)
-announce_bucket-numbers table local (Filled v number false) at =
+announce_bucket-numbers table local (Filled create number false) at =
     same_numbers table (with_announced table (bucket_of local.id)) local _
     (made-with_announced table (bucket_of local.id))
     (number_at-with_announced table (bucket_of local.id))
@@ -139,25 +139,36 @@ numbered_by_install table bucket number other k e =
     (λ apart. inl (sym (number_at-with_fresh_bucket table bucket number other apart) ∙ e))
     (cases_eq bucket other)
 
+-- the call's own bucket is installed, and is its own no longer
+own_installed : {V E : Type 0} (table after : Table V) (local then : Local V E) (number : ℕ) → own_number local.doing ≡ Some number
+    → after.made ≡ table.made
+    → ((bucket : ℕ) → number_at after bucket ≡ number_at (with_fresh_bucket table (bucket_of local.id) number) bucket)
+    → own_number then.doing ≡ None
+    → NumbersGo table local (after, then)
+own_installed table after local then number own made names none = record {
+  made = omega (arith, made);
+  standing_before = λ bucket k e.
+      ⊎_elim
+      (λ before. inl before)
+      (λ here. inr (own ∙ here.0, here.1, none))
+      (numbered_by_install table (bucket_of local.id) number bucket k (sym (names bucket) ∙ e));
+  own_before = λ k e. cc;
+}
+
 install_bucket-numbers : {V E : Type 0} (table : Table V) (local : Local V E) (doing : Doing V E)
     → local.doing ≡ doing
     → IfSome (option_and_then (install_bucket table local) (filled_bucket doing)) (NumbersGo table local)
-install_bucket-numbers table local (Filled v number true) at =
-    let own = bucket_of local.id in
-    let there = with_fresh_bucket table own number in
+install_bucket-numbers table local (Filled create number true) at =
+    let here = bucket_of local.id in
+    let there = with_fresh_bucket table here number in
+    either_install table local (NumbersGo table local) (record { create = create; number = number })
+    (λ _. none_own table local _ refl)
+    (λ _ v _.
     let slot : Slot _ = record { written = Some v; flag = true } in
-    either_install table local (record { value = v; number = number }) (NumbersGo table local)
-    (λ _. none_own-with_table_slot table local.id _ local _ refl)
-    (λ _. record {
-      made = omega (arith, made-with_table_slot there local.id slot, made-with_fresh_bucket table own number);
-      standing_before = λ bucket k e.
-          ⊎_elim
-          (λ before. inl before)
-          (λ here. inr (ap own_number at ∙ here.0, here.1, refl))
-          (numbered_by_install table own number bucket k
-          (sym (number_at-with_table_slot there local.id bucket slot) ∙ e));
-      own_before = λ k e. cc;
-    })
+    own_installed table (with_filled_bucket table local.id number v) local _ number (ap own_number at)
+    (made-with_table_slot there local.id slot ∙ made-with_fresh_bucket table here number)
+    (λ bucket. number_at-with_table_slot there local.id bucket slot) refl)
+    (λ _ e _. own_installed table there local _ number (ap own_number at) (made-with_fresh_bucket table here number) (λ bucket. refl) refl)
 install_bucket-numbers table local _ at = tt
 
 write_value-numbers : {V E : Type 0} (table : Table V) (local : Local V E) (doing : Doing V E)

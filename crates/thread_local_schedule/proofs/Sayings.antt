@@ -33,7 +33,7 @@ pub private : {V E : Type 0} (id : ℕ) (doing : Doing V E) (number : ℕ)
 private id (Gets count) number e = cc
 private id (Started create) number e = cc
 private id (Private create own) number e = refl
-private id (Filled v own announced) number e = refl
+private id (Filled create own announced) number e = refl
 private id (Written v) number e = cc
 
 pub nothing : {V E : Type 0} (core : Core V E) (events later : List (Event V E)) (event : Event V E)
@@ -149,12 +149,13 @@ stays_of before after x = (x.gets, x.closure, x.calls)
 pub calls_stay : {V E : Type 0} (before after : Local V E)
     → GoesOn LoadPointer before after
     ⊎ (GoesOn LookAtFlag before after
-    ⊎ (GoesOn (MakeBucket false) before after ⊎ GoesOn AnnounceBucket before after))
+    ⊎ (GoesOn (MakeBucket false) before after ⊎ (GoesOn FillBucket before after ⊎ GoesOn AnnounceBucket before after)))
     → Stay before after
 calls_stay before after (inl x) = stays_of before after x.calls
 calls_stay before after (inr (inl x)) = stays_of before after x.calls
 calls_stay before after (inr (inr (inl x))) = stays_of before after x.calls
-calls_stay before after (inr (inr (inr x))) = stays_of before after x.calls
+calls_stay before after (inr (inr (inr (inl x)))) = stays_of before after x.calls
+calls_stay before after (inr (inr (inr (inr x)))) = stays_of before after x.calls
 
 -- the publishing call ends
 abbrev End : {V E : Type 0} → Local V E → Local V E → Type 0
@@ -166,10 +167,6 @@ stays_or_ends : {V E : Type 0} (before after : Local V E) → CallsStay before a
     → Stay before after ⊎ End before after
 stays_or_ends before after x =
     ⊎_elim (λ stays. inl (stays_of before after stays)) (λ ends. inr (ends.none, ends.gets, ends.calls)) x
-
-pub fills : {V E : Type 0} (before after : Local V E) → GoesOn FillBucket before after
-    → Stay before after ⊎ End before after
-fills before after x = stays_or_ends before after x.calls
 
 pub installs : {V E : Type 0} (before after : Local V E) → GoesOn InstallBucket before after
     → Stay before after ⊎ End before after

@@ -1,5 +1,5 @@
 -- What each step of a `Local` and of a walk needs: it is enabled there, and nowhere else.
-use Rattle.std.proofs.Common.{◌≡◌, ℕ, zero, suc, ◌<◌, ◌⊎◌, inl, inr, Bool, true, false, not, ◌&&◌, cond, Option, Some, None, Result, is_some}
+use Rattle.std.proofs.Common.{◌≡◌, ℕ, zero, suc, ◌<◌, ◌⊎◌, inl, inr, Bool, true, false, not, ◌&&◌, cond, Option, Some, None, Result, Ok, Err, is_some}
 use Rattle.std.proofs.Common.{IsTrue, refl, ap, sym, ◌∙◌, ⊎_elim}
 use Rattle.std.specs.Prelude.{◌↔◌, ◌≢◌, nat_lt, option_map, option_and_then}
 use Rattle.std.proofs.lemmas.Bool.{false≢true, cond_both, lt-ltb, ltb-true, not-true}
@@ -11,7 +11,7 @@ use Rattle.thread_local_schedule.specs.Local.{Doing, Gets, Started, Private, Fil
 use Rattle.thread_local_schedule.specs.Local.{BeginGet, BeginGetOr, LoadPointer, LookAtFlag, MakeBucket, FillBucket, AnnounceBucket}
 use Rattle.thread_local_schedule.specs.Local.{InstallBucket, WriteValue, SetFlag, Reply, doing_with_get, doing_with_get_or, may_look}
 use Rattle.thread_local_schedule.specs.Local.{learns, closure_at_missing, empty_bucket, unannounced_bucket, filled_bucket}
-use Rattle.thread_local_schedule.specs.Local.{FilledBucket, install_bucket, closure_at_vacant}
+use Rattle.thread_local_schedule.specs.Local.{OwnBucket, installed_bucket, install_bucket, closure_at_vacant}
 use Rattle.thread_local_schedule.specs.Local.{value_written, set_flag, ending_of}
 use Rattle.thread_local_schedule.specs.Calls.{HasLearnt}
 use Rattle.thread_local_schedule.specs.SharedWalk.{SharedWalk, WalkStep, Pass, Load, Look, at_announced, walk_step}
@@ -57,7 +57,7 @@ gets : {V E : Type 0} (doing : Doing V E)
 gets (Gets count) = (λ t. (count, refl), λ p. refl)
 gets (Started create) = (λ t. absurd (false≢true t), λ p. let e = p.1 in cc)
 gets (Private create number) = (λ t. absurd (false≢true t), λ p. let e = p.1 in cc)
-gets (Filled v number announced) = (λ t. absurd (false≢true t), λ p. let e = p.1 in cc)
+gets (Filled other number announced) = (λ t. absurd (false≢true t), λ p. let e = p.1 in cc)
 gets (Written v) = (λ t. absurd (false≢true t), λ p. let e = p.1 in cc)
 
 none_under_way : {V E : Type 0} (create : Result V E) (doing : Doing V E)
@@ -66,7 +66,7 @@ none_under_way create (Gets zero) = (λ t. refl, λ e. refl)
 none_under_way create (Gets (suc count)) = (λ t. absurd (false≢true t), λ e. cc)
 none_under_way create (Started other) = (λ t. absurd (false≢true t), λ e. cc)
 none_under_way create (Private other number) = (λ t. absurd (false≢true t), λ e. cc)
-none_under_way create (Filled v number announced) = (λ t. absurd (false≢true t), λ e. cc)
+none_under_way create (Filled other number announced) = (λ t. absurd (false≢true t), λ e. cc)
 none_under_way create (Written v) = (λ t. absurd (false≢true t), λ e. cc)
 
 pub get_begins : {V E : Type 0} (core : Core V E) (n : ℕ) (local : Local V E) → core.ended ≡ false
@@ -97,7 +97,7 @@ looking : {V E A : Type 0} (doing : Doing V E) (o : Option A)
 looking (Gets count) o = (λ t. (inl (count, refl), t), λ p. p.1)
 looking (Started create) o = (λ t. (inr (create, refl), t), λ p. p.1)
 looking (Private create number) o = (λ t. absurd (false≢true t), λ p. ⊎_elim (λ x. let e = x.1 in cc) (λ x. let e = x.1 in cc) p.0)
-looking (Filled v number announced) o = (
+looking (Filled other number announced) o = (
   λ t. absurd (false≢true t),
   λ p. ⊎_elim (λ x. let e = x.1 in cc) (λ x. let e = x.1 in cc) p.0,
 )
@@ -165,7 +165,7 @@ missing (Started create) Vacant = (λ t. absurd (false≢true t), λ p. let e = 
 missing (Started create) (Holding v) = (λ t. absurd (false≢true t), λ p. let e = p.1 in cc)
 missing (Gets count) learnt = (λ t. absurd (false≢true t), λ p. let e = p.0.1 in cc)
 missing (Private create number) learnt = (λ t. absurd (false≢true t), λ p. let e = p.0.1 in cc)
-missing (Filled v number announced) learnt = (λ t. absurd (false≢true t), λ p. let e = p.0.1 in cc)
+missing (Filled other number announced) learnt = (λ t. absurd (false≢true t), λ p. let e = p.0.1 in cc)
 missing (Written v) learnt = (λ t. absurd (false≢true t), λ p. let e = p.0.1 in cc)
 
 pub asks : {V E : Type 0} (core : Core V E) (n : ℕ) (local : Local V E) (refused : Bool) → core.ended ≡ false
@@ -189,7 +189,7 @@ vacant (Started create) Standing = (λ t. absurd (false≢true t), λ p. let e =
 vacant (Started create) (Holding v) = (λ t. absurd (false≢true t), λ p. let e = p.1 in cc)
 vacant (Gets count) learnt = (λ t. absurd (false≢true t), λ p. let e = p.0.1 in cc)
 vacant (Private create number) learnt = (λ t. absurd (false≢true t), λ p. let e = p.0.1 in cc)
-vacant (Filled v number announced) learnt = (λ t. absurd (false≢true t), λ p. let e = p.0.1 in cc)
+vacant (Filled other number announced) learnt = (λ t. absurd (false≢true t), λ p. let e = p.0.1 in cc)
 vacant (Written v) learnt = (λ t. absurd (false≢true t), λ p. let e = p.0.1 in cc)
 
 pub writes : {V E : Type 0} (core : Core V E) (n : ℕ) (local : Local V E) → core.ended ≡ false
@@ -207,7 +207,7 @@ writes core n local going at =
 unfilled : {V E : Type 0} (doing : Doing V E)
     → IsTrue (is_some (empty_bucket doing)) ↔ ((create : Result V E) × (number : ℕ) × (doing ≡ Private create number))
 unfilled (Private create number) = (λ t. (create, number, refl), λ p. refl)
-unfilled (Filled v number announced) = (λ t. absurd (false≢true t), λ p. let e = p.2 in cc)
+unfilled (Filled other number announced) = (λ t. absurd (false≢true t), λ p. let e = p.2 in cc)
 unfilled (Gets count) = (λ t. absurd (false≢true t), λ p. let e = p.2 in cc)
 unfilled (Started create) = (λ t. absurd (false≢true t), λ p. let e = p.2 in cc)
 unfilled (Written v) = (λ t. absurd (false≢true t), λ p. let e = p.2 in cc)
@@ -224,9 +224,9 @@ fills core n local going at =
 
 -- a bucket is announced by the call that has filled it and doesn't know it to be announced
 unknown : {V E : Type 0} (doing : Doing V E)
-    → IsTrue (is_some (unannounced_bucket doing)) ↔ ((v : V) × (number : ℕ) × (doing ≡ Filled v number false))
-unknown (Filled v number false) = (λ t. (v, number, refl), λ p. refl)
-unknown (Filled v number true) = (λ t. absurd (false≢true t), λ p. let e = p.2 in cc)
+    → IsTrue (is_some (unannounced_bucket doing)) ↔ ((create : Result V E) × (number : ℕ) × (doing ≡ Filled create number false))
+unknown (Filled create number false) = (λ t. (create, number, refl), λ p. refl)
+unknown (Filled create number true) = (λ t. absurd (false≢true t), λ p. let e = p.2 in cc)
 unknown (Private create number) = (λ t. absurd (false≢true t), λ p. let e = p.2 in cc)
 unknown (Gets count) = (λ t. absurd (false≢true t), λ p. let e = p.2 in cc)
 unknown (Started create) = (λ t. absurd (false≢true t), λ p. let e = p.2 in cc)
@@ -235,7 +235,7 @@ unknown (Written v) = (λ t. absurd (false≢true t), λ p. let e = p.2 in cc)
 pub announces : {V E : Type 0} (core : Core V E) (n : ℕ) (local : Local V E) → core.ended ≡ false
     → core.locals n ≡ Some local
     → IsTrue (is_enabled core (OfLocal n AnnounceBucket))
-    ↔ ((v : V) × (number : ℕ) × (local.doing ≡ Filled v number false))
+    ↔ ((create : Result V E) × (number : ℕ) × (local.doing ≡ Filled create number false))
 unfolding local_step
 announces core n local going at =
     equal_tests _ _
@@ -243,17 +243,23 @@ announces core n local going at =
     (unknown local.doing)
 
 -- a bucket is offered by the call that has filled it and knows it to be announced
-offered : {V E : Type 0} (table : Table V) (local : Local V E) (own : FilledBucket V) → local.learnt ≡ Missing
+installed : {V E : Type 0} (table : Table V) (local : Local V E) (number : ℕ) (create : Result V E)
+    → IsTrue (is_some (installed_bucket table local number create Vacant))
+installed table local number (Ok v) = refl
+installed table local number (Err e) = refl
+
+offered : {V E : Type 0} (table : Table V) (local : Local V E) (own : OwnBucket V E) → local.learnt ≡ Missing
     → IsTrue (is_some (install_bucket table local own))
 offered table local own h =
     rw h (cond_both {A = Option (Table _ × Local _ _)} (bucket_stands table (bucket_of local.id)) _ _ (λ o. IsTrue (is_some o))
-    (λ _. refl) (λ _. refl))
+    (λ _. refl) (λ _. installed table local own.number own.create))
 
 own : {V E : Type 0} (table : Table V) (local : Local V E) (doing : Doing V E) → HasLearnt doing local.learnt
     → IsTrue (is_some (option_and_then (install_bucket table local) (filled_bucket doing)))
-    ↔ ((v : V) × (number : ℕ) × (doing ≡ Filled v number true))
-own table local (Filled v number true) h = (λ t. (v, number, refl), λ p. offered table local (record { value = v; number = number }) h)
-own table local (Filled v number false) h = (λ t. absurd (false≢true t), λ p. let e = p.2 in cc)
+    ↔ ((create : Result V E) × (number : ℕ) × (doing ≡ Filled create number true))
+own table local (Filled create number true) h =
+    (λ t. (create, number, refl), λ p. offered table local (record { create = create; number = number }) h)
+own table local (Filled create number false) h = (λ t. absurd (false≢true t), λ p. let e = p.2 in cc)
 own table local (Private create number) h = (λ t. absurd (false≢true t), λ p. let e = p.2 in cc)
 own table local (Gets count) h = (λ t. absurd (false≢true t), λ p. let e = p.2 in cc)
 own table local (Started create) h = (λ t. absurd (false≢true t), λ p. let e = p.2 in cc)
@@ -262,7 +268,7 @@ own table local (Written v) h = (λ t. absurd (false≢true t), λ p. let e = p.
 pub installs : {V E : Type 0} (core : Core V E) (n : ℕ) (local : Local V E) → CoreFits core → core.ended ≡ false
     → core.locals n ≡ Some local
     → IsTrue (is_enabled core (OfLocal n InstallBucket))
-    ↔ ((v : V) × (number : ℕ) × (local.doing ≡ Filled v number true))
+    ↔ ((create : Result V E) × (number : ℕ) × (local.doing ≡ Filled create number true))
 unfolding local_step
 installs core n local h going at =
     equal_tests _ _ (local_enabled core n local InstallBucket going at)
@@ -275,7 +281,7 @@ wrote table local (Written v) h = (λ t. (v, refl), λ p. rw (some_learnt _ _ (l
 wrote table local (Gets count) h = (λ t. absurd (false≢true t), λ p. let e = p.1 in cc)
 wrote table local (Started create) h = (λ t. absurd (false≢true t), λ p. let e = p.1 in cc)
 wrote table local (Private create number) h = (λ t. absurd (false≢true t), λ p. let e = p.1 in cc)
-wrote table local (Filled v number announced) h = (λ t. absurd (false≢true t), λ p. let e = p.1 in cc)
+wrote table local (Filled other number announced) h = (λ t. absurd (false≢true t), λ p. let e = p.1 in cc)
 
 pub sets : {V E : Type 0} (core : Core V E) (n : ℕ) (local : Local V E) → CoreFits core → core.ended ≡ false
     → core.locals n ≡ Some local
@@ -317,7 +323,7 @@ answer (Started create) Missing = no_answer (Started create) Missing (λ n e a b
 answer (Started create) Standing = no_answer (Started create) Standing (λ n e a b. cc) (λ c v e f. cc)
 answer (Started create) Vacant = no_answer (Started create) Vacant (λ n e a b. cc) (λ c v e f. cc)
 answer (Private create number) learnt = no_answer (Private create number) learnt (λ n e a b. cc) (λ c v e f. cc)
-answer (Filled v number announced) learnt = no_answer (Filled v number announced) learnt (λ n e a b. cc) (λ c v e f. cc)
+answer (Filled other number announced) learnt = no_answer (Filled other number announced) learnt (λ n e a b. cc) (λ c v e f. cc)
 answer (Written v) learnt = no_answer (Written v) learnt (λ n e a b. cc) (λ c w e f. cc)
 
 pub replies : {V E : Type 0} (core : Core V E) (n : ℕ) (local : Local V E) → core.ended ≡ false

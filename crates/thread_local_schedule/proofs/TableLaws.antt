@@ -198,7 +198,7 @@ announced-own table bucket =
     announced-with_announced table bucket bucket ∙ ap (λ here. cond here true (table.announced bucket)) (eq-eqb bucket bucket refl)
 
 -- an install and a changed slot announce nothing
-announced-with_fresh_bucket : {V : Type 0} (table : Table V) (bucket number : ℕ)
+pub announced-with_fresh_bucket : {V : Type 0} (table : Table V) (bucket number : ℕ)
     → (with_fresh_bucket table bucket number).announced ≡ table.announced
 unfolding with_fresh_bucket
 announced-with_fresh_bucket table bucket number = refl

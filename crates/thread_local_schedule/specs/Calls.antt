@@ -5,7 +5,7 @@ use Rattle.std.specs.Prelude.{IsSomeAnd, Result, Ok}
 use Rattle.thread_local_base.specs.Learnt.{Learnt, Unknown, Missing, Standing, Vacant, Holding}
 use Rattle.thread_local_base.specs.Answers.{Answer, Get, GetOr, Refused}
 use Rattle.thread_local_schedule.specs.Local.{Doing, Gets, Started, Private, Filled, Written, Local, LocalStep, BeginGet}
-use Rattle.thread_local_schedule.specs.Local.{BeginGetOr, MakeBucket, FillBucket, InstallBucket, WriteValue, SetFlag, Reply}
+use Rattle.thread_local_schedule.specs.Local.{BeginGetOr, MakeBucket, InstallBucket, WriteValue, SetFlag, Reply}
 
 -- how many gets are under way
 abbrev pub gets_of : {V E : Type 0} → Doing V E → ℕ
@@ -17,7 +17,7 @@ abbrev pub closure_of : {V E : Type 0} → Doing V E → Option (Result V E)
 closure_of (Gets count) = None
 closure_of (Started create) = Some create
 closure_of (Private create number) = Some create
-closure_of (Filled v number announced) = Some (Ok v)
+closure_of (Filled create number announced) = Some create
 closure_of (Written v) = Some (Ok v)
 
 -- no call of this Local is under way
@@ -66,7 +66,6 @@ abbrev pub CallsGo : {V E : Type 0} → LocalStep V E → Local V E → Local V 
 CallsGo BeginGet before after = GetBegins before after
 CallsGo (BeginGetOr create) before after = PublishingBegins create before after
 CallsGo (MakeBucket true) before after = MemoryRefused before after
-CallsGo FillBucket before after = CallsStay before after ⊎ PublishingEnds false before after
 CallsGo InstallBucket before after = CallsStay before after ⊎ PublishingEnds false before after
 CallsGo WriteValue before after = CallsStay before after ⊎ PublishingEnds false before after
 CallsGo SetFlag before after = PublishingEnds false before after
@@ -83,7 +82,7 @@ pub record GoesOn {V E : Type 0} (step : LocalStep V E) (before after : Local V 
 -- written its value found its slot vacant
 abbrev pub HasLearnt : {V E : Type 0} → Doing V E → Learnt V → Type 0
 HasLearnt (Private create number) learnt = learnt ≡ Missing
-HasLearnt (Filled v number announced) learnt = learnt ≡ Missing
+HasLearnt (Filled create number announced) learnt = learnt ≡ Missing
 HasLearnt (Written v) learnt = learnt ≡ Vacant
 HasLearnt doing learnt = ⊤
 
@@ -96,8 +95,8 @@ looks_left learnt = 0
 -- how many steps a publishing call still makes that has no bucket of its own and has written
 -- nothing
 abbrev pub started_left : {V : Type 0} → Learnt V → ℕ
-started_left Unknown = 6
-started_left Missing = 5
+started_left Unknown = 7
+started_left Missing = 6
 started_left Standing = 3
 started_left Vacant = 2
 started_left (Holding v) = 1
@@ -108,9 +107,9 @@ abbrev pub steps_left : {V E : Type 0} → Doing V E → Learnt V → ℕ
 steps_left (Gets zero) learnt = 0
 steps_left (Gets (suc count)) learnt = suc count + looks_left learnt
 steps_left (Started create) learnt = started_left learnt
-steps_left (Private create number) learnt = 4
-steps_left (Filled v number false) learnt = 3
-steps_left (Filled v number true) learnt = 2
+steps_left (Private create number) learnt = 5
+steps_left (Filled create number false) learnt = 4
+steps_left (Filled create number true) learnt = 3
 steps_left (Written v) learnt = 1
 
 -- after a step of a Local's call fewer steps are left

@@ -67,5 +67,5 @@ peak core = length core.manager.held
 -- how many slots the bucket has that a call has made and not yet offered
 abbrev pub private_slots : {V E : Type 0} → ℕ → Doing V E → ℕ
 private_slots id (Private create number) = 2 ^ bucket_of id
-private_slots id (Filled v number announced) = 2 ^ bucket_of id
+private_slots id (Filled create number announced) = 2 ^ bucket_of id
 private_slots id doing = 0

@@ -1,5 +1,7 @@
 -- The invariant of a `Local` and its table, and what a step may change of both.
-use Rattle.std.specs.Prelude.{◌≡◌, ◌≢◌, ℕ, ◌⊎◌, false, Option, Some, None, option_map, IsTrue, is_some, IfSome, ⊤, if◌then◌else◌}
+use Rattle.std.specs.Prelude.{◌≡◌, ◌≢◌, ℕ, ◌⊎◌, false, Option, Some, None, option_map, option_and_then, IsTrue, is_some, IfSome, ⊤}
+use Rattle.std.specs.Prelude.{if◌then◌else◌}
+use Rattle.std.specs.Result.{result_ok}
 use Rattle.thread_local_base.specs.Place.{bucket_of}
 use Rattle.thread_local_base.specs.Walk.{with_value}
 use Rattle.thread_local_base.specs.Answers.{View, answers, view_after_all}
@@ -38,7 +40,7 @@ abbrev pub IsDoing : {V E : Type 0} → Table V → ℕ → Doing V E → Type 0
 IsDoing table id (Gets count) = ⊤
 IsDoing table id (Started create) = ⊤
 IsDoing table id (Private create number) = (slot_at table id).flag ≡ false
-IsDoing table id (Filled v number announced) =
+IsDoing table id (Filled create number announced) =
     ((slot_at table id).flag ≡ false) × (IsTrue announced → IsTrue (table.announced (bucket_of id)))
 IsDoing table id (Written v) =
     IsTrue (bucket_stands table (bucket_of id))
@@ -76,10 +78,13 @@ pub record ChangesOnly {V : Type 0} (old new : Table V) (id : ℕ) : Type 0 wher
   pub announced : (bucket : ℕ) → IsTrue (old.announced bucket) → IsTrue (new.announced bucket)
   pub written : AllWritten new
 
--- the value that a step publishes, if any: an install publishes where no bucket stands yet
+-- the value that a step publishes, if any: an install publishes that of its bucket, where no bucket
+-- stands yet
 abbrev pub value_set : {V E : Type 0} → Table V → Local V E → LocalStep V E → Option V
 value_set table local InstallBucket =
-    if bucket_stands table (bucket_of local.id) then None else option_map (λ own. own.value) (filled_bucket local.doing)
+    if bucket_stands table (bucket_of local.id)
+    then None
+    else option_and_then (λ own. result_ok own.create) (filled_bucket local.doing)
 value_set table local SetFlag = value_written local.doing
 value_set table local step = None
 

@@ -6,18 +6,18 @@ use Rattle.thread_local_base.specs.Place.{bucket_of}
 use Rattle.thread_local_base.specs.Answers.{View, Call, Get, GetOr, Answer, Found, Answered, Refused, Failed}
 use Rattle.thread_local_base.specs.Learnt.{Learnt, Unknown, Missing, Vacant, Holding, learnt_by_load, learnt_by_look}
 use Rattle.thread_local_base.specs.Learnt.{learnt_by_install, learnt_by_publish}
-use Rattle.thread_local_schedule.specs.Table.{Table, published, bucket_stands, with_announced, with_filled_bucket}
-use Rattle.thread_local_schedule.specs.Table.{with_written, with_flag}
+use Rattle.thread_local_schedule.specs.Table.{Table, published, bucket_stands, with_announced, with_fresh_bucket}
+use Rattle.thread_local_schedule.specs.Table.{with_filled_bucket, with_written, with_flag}
 
 -- What a Local does: any number of gets are under way, or one publishing call. That one has begun,
 -- with what its closure would answer; or it has made an empty bucket of its own, with this number;
--- or it has put its value into that bucket, which it knows to be announced or not; or it has written
--- its value into the slot of a bucket that stands.
+-- or it has called its closure, and put the value into that bucket if there is one, and knows the
+-- bucket to be announced or not; or it has written its value into the slot of a bucket that stands.
 pub data Doing (V E : Type 0) : Type 0 where
   Gets : (count : ℕ) → Doing V E
   Started : (create : Result V E) → Doing V E
   Private : (create : Result V E) → (number : ℕ) → Doing V E
-  Filled : (value : V) → (number : ℕ) → (announced : Bool) → Doing V E
+  Filled : (create : Result V E) → (number : ℕ) → (announced : Bool) → Doing V E
   Written : (value : V) → Doing V E
 
 -- a Local: its id, what it has learnt and does, its view at the start, and its ended calls with
@@ -103,58 +103,57 @@ make_bucket table local true create = (table, after_call local (GetOr create tru
 make_bucket table local false create =
     (record table { made = suc table.made }, record local { doing = Private create table.made })
 
--- an empty bucket that a publishing call has made for itself, with what the closure would answer
-pub record EmptyBucket (V E : Type 0) : Type 0 where
+-- a bucket that a publishing call has made for itself, with what the closure answers
+pub record OwnBucket (V E : Type 0) : Type 0 where
   pub create : Result V E
   pub number : ℕ
 
 -- the bucket that a call has made and put nothing into, if any
-abbrev pub empty_bucket : {V E : Type 0} → Doing V E → Option (EmptyBucket V E)
+abbrev pub empty_bucket : {V E : Type 0} → Doing V E → Option (OwnBucket V E)
 empty_bucket (Private create number) = Some (record { create = create; number = number })
 empty_bucket doing = None
 
--- Such a call puts what its closure answers into its bucket, with the flag, and loads whether the
--- bucket is announced. Or it ends with the closure's error, and its bucket is gone.
-abbrev pub fill_bucket : {V E : Type 0} → Table V → Local V E → ℕ → Result V E → Table V × Local V E
-fill_bucket table local number (Ok v) =
-    (table, record local { doing = Filled v number (table.announced (bucket_of local.id)) })
-fill_bucket table local number (Err e) = (table, after_call local (GetOr (Err e) false) (Failed e) local.learnt (Gets 0))
+-- Such a call puts the closure's value into its bucket, with the flag, or nothing where the closure
+-- answers with an error. It loads whether the bucket is announced.
+abbrev pub fill_bucket : {V E : Type 0} → Table V → Local V E → OwnBucket V E → Table V × Local V E
+fill_bucket table local own =
+    (table, record local { doing = Filled own.create own.number (table.announced (bucket_of local.id)) })
 
--- a bucket of a publishing call's own, with the value in it
-pub record FilledBucket (V : Type 0) : Type 0 where
-  pub value : V
-  pub number : ℕ
-
--- the bucket into which a call has put its value, and which it doesn't know to be announced
-abbrev pub unannounced_bucket : {V E : Type 0} → Doing V E → Option (FilledBucket V)
-unannounced_bucket (Filled v number false) = Some (record { value = v; number = number })
+-- the bucket of a call that has called its closure and doesn't know the bucket to be announced
+abbrev pub unannounced_bucket : {V E : Type 0} → Doing V E → Option (OwnBucket V E)
+unannounced_bucket (Filled create number false) = Some (record { create = create; number = number })
 unannounced_bucket doing = None
 
 -- such a call announces it. Where another call has done so in the meantime, nothing changes but that
 -- this one knows it.
-abbrev pub announce_bucket : {V E : Type 0} → Table V → Local V E → FilledBucket V → Table V × Local V E
+abbrev pub announce_bucket : {V E : Type 0} → Table V → Local V E → OwnBucket V E → Table V × Local V E
 announce_bucket table local own =
-    (with_announced table (bucket_of local.id), record local { doing = Filled own.value own.number true })
+    (with_announced table (bucket_of local.id), record local { doing = Filled own.create own.number true })
 
--- the bucket into which a call has put its value, and which it knows to be announced
-abbrev pub filled_bucket : {V E : Type 0} → Doing V E → Option (FilledBucket V)
-filled_bucket (Filled v number true) = Some (record { value = v; number = number })
+-- the bucket of a call that has called its closure and knows the bucket to be announced
+abbrev pub filled_bucket : {V E : Type 0} → Doing V E → Option (OwnBucket V E)
+filled_bucket (Filled create number true) = Some (record { create = create; number = number })
 filled_bucket doing = None
 
--- What an offer leaves, where this is learnt by it. Where a bucket stood before, the call's own is gone,
--- and its value is written there. Else its own is installed, which publishes the value and ends the
--- call.
-abbrev pub offer_bucket : {V E : Type 0} → Table V → Local V E → FilledBucket V → Learnt V → Option (Table V × Local V E)
+-- what a call's own bucket leaves that is installed, where this is learnt by it: with a value in it the
+-- value is published and the call ends, and else the slot is empty
+abbrev pub installed_bucket : {V E : Type 0} → Table V → Local V E → ℕ → Result V E → Learnt V → Option (Table V × Local V E)
+installed_bucket table local number (Ok v) learnt =
+    learns (with_filled_bucket table local.id number v) (after_call local (GetOr (Ok v) false) (Answered v) learnt (Gets 0))
+    (learnt_by_publish learnt v)
+installed_bucket table local number (Err e) learnt =
+    Some (with_fresh_bucket table (bucket_of local.id) number, record local { learnt = learnt; doing = Started (Err e) })
+
+-- What an offer leaves. Where a bucket stood before, the call's own is gone, and it goes on with that
+-- one. Else its own is installed.
+abbrev pub offer_bucket : {V E : Type 0} → Table V → Local V E → OwnBucket V E → Learnt V → Option (Table V × Local V E)
 offer_bucket table local own learnt =
     if bucket_stands table (bucket_of local.id)
-    then Some (with_written table local.id own.value, record local { learnt = learnt; doing = Written own.value })
-    else
-    learns (with_filled_bucket table local.id own.number own.value)
-    (after_call local (GetOr (Ok own.value) false) (Answered own.value) learnt (Gets 0))
-    (learnt_by_publish learnt own.value)
+    then Some (table, record local { learnt = learnt; doing = Started own.create })
+    else installed_bucket table local own.number own.create learnt
 
 -- such a call offers its bucket to the pointer that it found null
-abbrev pub install_bucket : {V E : Type 0} → Table V → Local V E → FilledBucket V → Option (Table V × Local V E)
+abbrev pub install_bucket : {V E : Type 0} → Table V → Local V E → OwnBucket V E → Option (Table V × Local V E)
 install_bucket table local own = option_and_then (offer_bucket table local own) (learnt_by_install local.learnt)
 
 -- the closure of a publishing call that found its slot empty
@@ -205,8 +204,7 @@ local_step table local LoadPointer = if may_look local.doing then load_pointer t
 local_step table local LookAtFlag = if may_look local.doing then look_at_flag table local else None
 local_step table local (MakeBucket refused) =
     option_map (make_bucket table local refused) (closure_at_missing local.doing local.learnt)
-local_step table local FillBucket =
-    option_map (λ own. fill_bucket table local own.number own.create) (empty_bucket local.doing)
+local_step table local FillBucket = option_map (fill_bucket table local) (empty_bucket local.doing)
 local_step table local AnnounceBucket = option_map (announce_bucket table local) (unannounced_bucket local.doing)
 local_step table local InstallBucket = option_and_then (install_bucket table local) (filled_bucket local.doing)
 local_step table local WriteValue = option_map (write_value table local) (closure_at_vacant local.doing local.learnt)
@@ -223,5 +221,5 @@ local_steps table local (step ∷ steps) = option_and_then (λ after. local_step
 abbrev pub five_calls : {V E : Type 0} → V → V → E → List (LocalStep V E)
 five_calls v w e =
     BeginGetOr (Ok v) ∷ LoadPointer ∷ MakeBucket true ∷ []
-    ++ BeginGetOr (Err e) ∷ MakeBucket false ∷ FillBucket ∷ []
-    ++ BeginGetOr (Ok v) ∷ MakeBucket false ∷ FillBucket ∷ InstallBucket ∷ BeginGet ∷ Reply ∷ BeginGetOr (Ok w) ∷ Reply ∷ []
+    ++ BeginGetOr (Err e) ∷ MakeBucket false ∷ FillBucket ∷ InstallBucket ∷ WriteValue ∷ []
+    ++ BeginGetOr (Ok v) ∷ WriteValue ∷ SetFlag ∷ BeginGet ∷ Reply ∷ BeginGetOr (Ok w) ∷ Reply ∷ []

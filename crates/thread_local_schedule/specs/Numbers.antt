@@ -9,7 +9,7 @@ use Rattle.thread_local_schedule.specs.Fits.{number_at}
 -- the number of the bucket that a call has made and not yet offered, if any
 abbrev pub own_number : {V E : Type 0} → Doing V E → Option ℕ
 own_number (Private create number) = Some number
-own_number (Filled v number announced) = Some number
+own_number (Filled create number announced) = Some number
 own_number doing = None
 
 -- What a step does to the numbers. A bucket that stands stood here before, or was the call's own,

@@ -1,5 +1,6 @@
 //! What each event changes of what is seen.
-ghost use Rattle.std.specs.Prelude.{◌≡◌, ◌≢◌, ℕ, ◌↔◌, ◌==◌, true, false, Some, Result, Ok, IsTrue, IsSomeAnd, option_map, if◌then◌else◌};
+ghost use Rattle.std.specs.Prelude.{◌≡◌, ◌≢◌, ℕ, ◌↔◌, ◌⊎◌, ◌==◌, true, false, Some, Result, Ok, Err, IsErr, IsTrue, IsSomeAnd, option_map};
+ghost use Rattle.std.specs.Prelude.{if◌then◌else◌};
 ghost use Rattle.thread_local_base.specs.Place.{bucket_of};
 ghost use Rattle.thread_local_base.specs.Held.{with_least, without};
 ghost use Rattle.thread_local_base.specs.Walk.{with_value};
@@ -19,9 +20,9 @@ ghost use Rattle.thread_local_schedule.specs.Schedule.{is_granted_take, IsReache
 /// [`crate::every_schedule`], and what a walk's steps change in [`crate::every_walk`].
 pub fn events_change<V, E>()
     // A granted take holds the least free id, and a give back frees its Local's. The flag publishes
-    // what was written, at the Local's id. So does an install with the value of its bucket, where
-    // none stood; where one stood, nothing is published. An owner's writes replace values. No other
-    // event but a drain and a clear changes any of this.
+    // what was written, at the Local's id. So does an install with the value of its bucket, if that
+    // has one, where none stood; where one stood, nothing is published. An owner's writes replace
+    // values. No other event but a drain and a clear changes any of this.
     ensures takes { (core : Core V E) (event : Event V E)
         → IsReached core
         → IsTrue (is_granted_take core event)
@@ -44,10 +45,16 @@ pub fn events_change<V, E>()
         → IsReached core
         → IsTrue (is_enabled core (OfLocal n InstallBucket))
         → core.locals n ≡ Some local
-        → local.doing ≡ Filled v number true
+        → local.doing ≡ Filled (Ok v) number true
         → bucket_stands core.table (bucket_of local.id) ≡ false
         → shadow (happens core (OfLocal n InstallBucket))
         ≡ record (shadow core) { values = with_value (shadow core).values local.id v } }
+    ensures installs_nothing { (core : Core V E) (n : ℕ) (local : Local V E) (e : E) (number : ℕ)
+        → IsReached core
+        → IsTrue (is_enabled core (OfLocal n InstallBucket))
+        → core.locals n ≡ Some local
+        → local.doing ≡ Filled (Err e) number true
+        → shadow (happens core (OfLocal n InstallBucket)) ≡ shadow core }
     ensures installs_beside { (core : Core V E) (n : ℕ) (local : Local V E)
         → IsReached core
         → IsTrue (is_enabled core (OfLocal n InstallBucket))
@@ -75,8 +82,7 @@ pub fn events_change<V, E>()
         → shadow (happens core event) ≡ shadow core }
 
     // A value is published where it is written and its flag is set, and only there. It is written
-    // in the slot of the Local's id, and its flag set there. An install that finds a bucket standing
-    // writes its value there.
+    // in the slot of the Local's id, and its flag set there.
     ensures shows { (core : Core V E) (id : ℕ) (v : V)
         → ((shadow core).values id ≡ Some v)
         ↔ (IsTrue (slot_at core.table id).flag × ((slot_at core.table id).written ≡ Some v)) }
@@ -94,29 +100,21 @@ pub fn events_change<V, E>()
         → slot_at (happens core (OfLocal n SetFlag)).table local.id
         ≡ record (slot_at core.table local.id) { flag = true } }
 
-    ensures writes_beside { (core : Core V E) (n : ℕ) (local : Local V E) (v : V) (number : ℕ)
-        → IsTrue (is_enabled core (OfLocal n InstallBucket))
-        → core.locals n ≡ Some local
-        → local.doing ≡ Filled v number true
-        → IsTrue (bucket_stands core.table (bucket_of local.id))
-        → slot_at (happens core (OfLocal n InstallBucket)).table local.id
-        ≡ record (slot_at core.table local.id) { written = Some v } }
-
     // A call makes its bucket empty. To fill it changes nothing of the table: the call puts in the
-    // closure's value, and then knows whether the bucket is announced. Where it isn't, the call
-    // announces that bucket and no other.
+    // closure's value, if there is one, and then knows whether the bucket is announced. Where it
+    // isn't, the call announces that bucket and no other.
     ensures makes { (core : Core V E) (n : ℕ) (local : Local V E) (create : Result V E)
         → IsTrue (is_enabled core (OfLocal n (MakeBucket false)))
         → core.locals n ≡ Some local
         → local.doing ≡ Started create
         → IsSomeAnd ((happens core (OfLocal n (MakeBucket false))).locals n)
         (λ after. after.doing ≡ Private create core.table.made) }
-    ensures fills { (core : Core V E) (n : ℕ) (local : Local V E) (v : V) (number : ℕ)
+    ensures fills { (core : Core V E) (n : ℕ) (local : Local V E) (create : Result V E) (number : ℕ)
         → IsTrue (is_enabled core (OfLocal n FillBucket))
         → core.locals n ≡ Some local
-        → local.doing ≡ Private (Ok v) number
+        → local.doing ≡ Private create number
         → IsSomeAnd ((happens core (OfLocal n FillBucket)).locals n)
-        (λ after. after.doing ≡ Filled v number (core.table.announced (bucket_of local.id))) }
+        (λ after. after.doing ≡ Filled create number (core.table.announced (bucket_of local.id))) }
     ensures fill_stays { (core : Core V E) (n : ℕ) (local : Local V E)
         → IsTrue (is_enabled core (OfLocal n FillBucket))
         → core.locals n ≡ Some local
@@ -126,15 +124,15 @@ pub fn events_change<V, E>()
         → core.locals n ≡ Some local
         → (happens core (OfLocal n AnnounceBucket)).table.announced bucket
         ≡ (if bucket_of local.id == bucket then true else core.table.announced bucket) }
-    ensures announced { (core : Core V E) (n : ℕ) (local : Local V E) (v : V) (number : ℕ)
+    ensures announced { (core : Core V E) (n : ℕ) (local : Local V E) (create : Result V E) (number : ℕ)
         → IsTrue (is_enabled core (OfLocal n AnnounceBucket))
         → core.locals n ≡ Some local
-        → local.doing ≡ Filled v number false
+        → local.doing ≡ Filled create number false
         → IsSomeAnd ((happens core (OfLocal n AnnounceBucket)).locals n)
-        (λ after. after.doing ≡ Filled v number true) }
+        (λ after. after.doing ≡ Filled create number true) }
 
     // An install makes the bucket of its Local's id stand, and no other: where none stood, it is
-    // the one that the call has made and filled.
+    // the one that the call has made.
     ensures installs { (core : Core V E) (n : ℕ) (local : Local V E) (bucket : ℕ)
         → IsTrue (is_enabled core (OfLocal n InstallBucket))
         → core.locals n ≡ Some local
@@ -147,23 +145,23 @@ pub fn events_change<V, E>()
         → number_at (happens core (OfLocal n InstallBucket)).table (bucket_of local.id)
         ≡ own_number local.doing }
 
-    // After an install the slot is known to hold the value, and the call has ended. Where another
-    // bucket stood, the slot is known to be empty, and the call has written its value. After the
-    // flag is set it is known to hold that.
+    // After an install the slot is known to hold the bucket's value, and the call has ended. Where
+    // another bucket stood, or the bucket has no value, the slot is known to be empty, and the call
+    // goes on. After the flag is set it is known to hold the value.
     ensures installed { (core : Core V E) (n : ℕ) (local : Local V E) (v : V) (number : ℕ)
         → IsTrue (is_enabled core (OfLocal n InstallBucket))
         → core.locals n ≡ Some local
-        → local.doing ≡ Filled v number true
+        → local.doing ≡ Filled (Ok v) number true
         → bucket_stands core.table (bucket_of local.id) ≡ false
         → IsSomeAnd ((happens core (OfLocal n InstallBucket)).locals n)
         (λ after. (after.learnt ≡ Holding v) × (after.doing ≡ Gets 0)) }
-    ensures beside { (core : Core V E) (n : ℕ) (local : Local V E) (v : V) (number : ℕ)
+    ensures installed_empty { (core : Core V E) (n : ℕ) (local : Local V E) (create : Result V E) (number : ℕ)
         → IsTrue (is_enabled core (OfLocal n InstallBucket))
         → core.locals n ≡ Some local
-        → local.doing ≡ Filled v number true
-        → IsTrue (bucket_stands core.table (bucket_of local.id))
+        → local.doing ≡ Filled create number true
+        → IsTrue (bucket_stands core.table (bucket_of local.id)) ⊎ IsErr create
         → IsSomeAnd ((happens core (OfLocal n InstallBucket)).locals n)
-        (λ after. (after.learnt ≡ Vacant) × (after.doing ≡ Written v)) }
+        (λ after. (after.learnt ≡ Vacant) × (after.doing ≡ Started create)) }
     ensures holds { (core : Core V E) (n : ℕ) (local : Local V E) (v : V)
         → IsTrue (is_enabled core (OfLocal n SetFlag))
         → core.locals n ≡ Some local

@@ -9,7 +9,7 @@ ghost use Rattle.thread_local_schedule.specs.Table.{empty_slot, slot_at, bucket_
 ghost use Rattle.thread_local_schedule.specs.Cleared.{cleared, drained};
 ghost use Rattle.thread_local_base.specs.Capacity.{reserves_bucket};
 ghost use Rattle.thread_local_schedule.specs.Local.{Local, LocalStep, BeginGet, BeginGetOr, LoadPointer};
-ghost use Rattle.thread_local_schedule.specs.Local.{LookAtFlag, MakeBucket, Private, FillBucket, AnnounceBucket, InstallBucket, WriteValue};
+ghost use Rattle.thread_local_schedule.specs.Local.{LookAtFlag, MakeBucket, AnnounceBucket, InstallBucket, WriteValue};
 ghost use Rattle.thread_local_schedule.specs.Calls.{gets_of, closure_of, HasNoCall, steps_left, GoesDown, EndsWith};
 ghost use Rattle.thread_local_schedule.specs.SharedWalk.{WalkStep};
 ghost use Rattle.thread_local_schedule.specs.OwnerWalk.{rewritten};
@@ -66,7 +66,7 @@ pub fn events_say<V, E>()
         × IsTrue (is_enabled core (OfLocal n step))
         × IsSomeAnd ((happens core (OfLocal n step)).locals n) (GoesDown local) }
     ensures few_steps { (local : Local V E)
-        → steps_left local.doing local.learnt ≤ gets_of local.doing + 6 }
+        → steps_left local.doing local.learnt ≤ gets_of local.doing + 7 }
 
     // A load teaches whether the bucket stands, and a look what is published. Memory is asked for
     // only where the bucket was missing, and only an install makes a bucket stand, that of its
@@ -101,13 +101,6 @@ pub fn events_say<V, E>()
         → local.learnt ≡ Vacant
         → IsTrue (is_enabled core (OfLocal n WriteValue))
         × IsSomeAnd ((happens core (OfLocal n WriteValue)).locals n) (EndsWith (Failed e) local) }
-    ensures fails_unused { (core : Core V E) (n : ℕ) (local : Local V E) (e : E) (number : ℕ)
-        → core.ended ≡ false
-        → core.locals n ≡ Some local
-        → local.doing ≡ Private (Err e) number
-        → IsTrue (is_enabled core (OfLocal n FillBucket))
-        × IsSomeAnd ((happens core (OfLocal n FillBucket)).locals n)
-        (λ after. EndsWith (Failed e) local after × (after.learnt ≡ local.learnt)) }
 
     // A bucket is announced before it stands, by the step for it of a Local whose bucket it is, and
     // stays so.

@@ -6,7 +6,7 @@ ghost use Rattle.thread_local_base.specs.Learnt.{Missing, Standing, Vacant, Hold
 ghost use Rattle.thread_local_base.specs.Answers.{Found, Answered, Refused, Failed};
 ghost use Rattle.thread_local_schedule.specs.Table.{Table, made_table, published, bucket_stands};
 ghost use Rattle.thread_local_schedule.specs.Local.{Local, LocalStep, BeginGet, BeginGetOr, LoadPointer};
-ghost use Rattle.thread_local_schedule.specs.Local.{LookAtFlag, MakeBucket, Private, FillBucket, InstallBucket, WriteValue, fresh_local};
+ghost use Rattle.thread_local_schedule.specs.Local.{LookAtFlag, MakeBucket, InstallBucket, WriteValue, fresh_local};
 ghost use Rattle.thread_local_schedule.specs.Local.{local_step, local_steps, five_calls};
 ghost use Rattle.thread_local_schedule.specs.Fits.{AllWritten, LocalFits, ChangesOnly, StepFits, value_set};
 ghost use Rattle.thread_local_schedule.specs.Calls.{closure_of, HasNoCall, GoesOn, HasLearnt, GoesDown, EndsWith};
@@ -47,7 +47,7 @@ pub fn every_local_step<V, E>()
 
     // A load teaches whether the bucket stands, and a look what the slot shows. Memory is asked for
     // only where the bucket was missing, only an install makes a bucket stand, and the closure's
-    // error is handed on, also where the call has made a bucket.
+    // error is handed on.
     ensures loads { (table : Table V) (local : Local V E)
         → IfSome (local_step table local LoadPointer) (λ after.
         after.1.learnt
@@ -69,10 +69,6 @@ pub fn every_local_step<V, E>()
         → local.learnt ≡ Vacant
         → IsSomeAnd (local_step table local WriteValue) (λ after.
         EndsWith (Failed e) local after.1) }
-    ensures fails_unused { (table : Table V) (local : Local V E) (e : E) (number : ℕ)
-        → local.doing ≡ Private (Err e) number
-        → IsSomeAnd (local_step table local FillBucket)
-        (λ after. EndsWith (Failed e) local after.1 × (after.1.learnt ≡ local.learnt)) }
 
     // In a new table a Local is first refused memory, then hands on an error, then publishes, and
     // answers that value from then on.

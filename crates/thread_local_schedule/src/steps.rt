@@ -39,9 +39,9 @@ pub fn steps_happen<V, E>()
         × (local.learnt ≡ Standing)) }
 
     // A publishing call that found its bucket missing asks for memory, whatever stands by now. It
-    // fills the bucket that it has made, or hands on the closure's error; announces it, where it
-    // doesn't know that to be announced; and then offers it. One that found its slot empty writes
-    // its value or hands on the closure's error, and sets the flag over what it has written.
+    // fills the bucket that it has made, with a value or with nothing; announces it, where it doesn't
+    // know that to be announced; and then offers it. One that found its slot empty writes its value
+    // or hands on the closure's error, and sets the flag over what it has written.
     ensures asks { (core : Core V E) (n : ℕ) (local : Local V E) (refused : Bool)
         → core.ended ≡ false → core.locals n ≡ Some local
         → IsTrue (is_enabled core (OfLocal n (MakeBucket refused)))
@@ -53,11 +53,11 @@ pub fn steps_happen<V, E>()
     ensures announces { (core : Core V E) (n : ℕ) (local : Local V E)
         → core.ended ≡ false → core.locals n ≡ Some local
         → IsTrue (is_enabled core (OfLocal n AnnounceBucket))
-        ↔ ((v : V) × (number : ℕ) × (local.doing ≡ Filled v number false)) }
+        ↔ ((create : Result V E) × (number : ℕ) × (local.doing ≡ Filled create number false)) }
     ensures installs { (core : Core V E) (n : ℕ) (local : Local V E)
         → IsReached core → core.ended ≡ false → core.locals n ≡ Some local
         → IsTrue (is_enabled core (OfLocal n InstallBucket))
-        ↔ ((v : V) × (number : ℕ) × (local.doing ≡ Filled v number true)) }
+        ↔ ((create : Result V E) × (number : ℕ) × (local.doing ≡ Filled create number true)) }
     ensures writes { (core : Core V E) (n : ℕ) (local : Local V E)
         → core.ended ≡ false → core.locals n ≡ Some local
         → IsTrue (is_enabled core (OfLocal n WriteValue))

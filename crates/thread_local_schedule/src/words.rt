@@ -1,6 +1,6 @@
 //! What the words of the theorems say, each from the side on which it promises nothing.
 ghost use Rattle.std.specs.Prelude.{◌≡◌, ℕ, ◌+◌, ◌^◌, ◌<◌, ◌⊎◌, Bool, true, false, List, [], Some, None, IsTrue};
-ghost use Rattle.std.specs.Prelude.{◌≢◌, max, IsSomeAnd, ◌∷◌, ◌++◌, Result, ◌↔◌, suc, IsSome, if◌then◌else◌};
+ghost use Rattle.std.specs.Prelude.{◌≢◌, max, IsSomeAnd, ◌∷◌, ◌++◌, Result, Ok, Err, ◌↔◌, suc, IsSome, if◌then◌else◌};
 ghost use Rattle.thread_local_base.specs.Held.{held_count, HoldsAllBelow, is_held};
 ghost use Rattle.thread_local_base.specs.Walk.{walk};
 ghost use Rattle.thread_local_schedule.specs.Table.{bucket_stands, published, Table, Slot};
@@ -87,9 +87,14 @@ pub fn words_say<V, E>()
     ensures install_moves { (core : Core V E) (n : ℕ) (local : Local V E) (v : V) (number : ℕ)
         → IsTrue (is_enabled core (OfLocal n InstallBucket))
         → core.locals n ≡ Some local
-        → local.doing ≡ Filled v number true
+        → local.doing ≡ Filled (Ok v) number true
         → bucket_stands core.table (bucket_of local.id) ≡ false
         → move core (OfLocal n InstallBucket) ≡ Some (OfSheet (Publish local.id v)) }
+    ensures empty_moves { (core : Core V E) (n : ℕ) (local : Local V E) (e : E) (number : ℕ)
+        → IsTrue (is_enabled core (OfLocal n InstallBucket))
+        → core.locals n ≡ Some local
+        → local.doing ≡ Filled (Err e) number true
+        → move core (OfLocal n InstallBucket) ≡ None }
     ensures beside_moves { (core : Core V E) (n : ℕ) (local : Local V E)
         → IsTrue (is_enabled core (OfLocal n InstallBucket))
         → core.locals n ≡ Some local
@@ -173,12 +178,12 @@ pub fn words_say<V, E>()
         → IsTrue (bucket_stands new bucket) × (number_at new bucket ≡ number_at old bucket) }
     ensures own { (create : Result V E) (number : ℕ)
         → own_number (Private create number) ≡ Some number }
-    ensures own_filled { (v : V) (number : ℕ) (announced : Bool)
-        → own_number {V = V} {E = E} (Filled v number announced) ≡ Some number }
+    ensures own_filled { (create : Result V E) (number : ℕ) (announced : Bool)
+        → own_number (Filled create number announced) ≡ Some number }
     ensures own_slots { (id number : ℕ) (create : Result V E)
         → private_slots id (Private create number) ≡ 2 ^ bucket_of id }
-    ensures filled_slots { (id number : ℕ) (v : V) (announced : Bool)
-        → private_slots {V = V} {E = E} id (Filled v number announced) ≡ 2 ^ bucket_of id }
+    ensures filled_slots { (id number : ℕ) (create : Result V E) (announced : Bool)
+        → private_slots id (Filled create number announced) ≡ 2 ^ bucket_of id }
 
     // None is taken by no event, and by one more where that is no granted take. No event is a take
     // that comes too late.
@@ -251,7 +256,8 @@ pub fn words_say<V, E>()
     ensures calls_stay { (before after : Local V E)
         → GoesOn LoadPointer before after
         ⊎ (GoesOn LookAtFlag before after
-        ⊎ (GoesOn (MakeBucket false) before after ⊎ GoesOn AnnounceBucket before after))
+        ⊎ (GoesOn (MakeBucket false) before after
+        ⊎ (GoesOn FillBucket before after ⊎ GoesOn AnnounceBucket before after)))
         → (gets_of after.doing ≡ gets_of before.doing)
         × (closure_of after.doing ≡ closure_of before.doing)
         × (after.calls ≡ before.calls) }
@@ -261,15 +267,6 @@ pub fn words_say<V, E>()
         × IsSomeAnd (closure_of before.doing) (λ create.
         after.calls ≡ before.calls ++ GetOr create true ∷ [])
         × (after.answered ≡ before.answered ++ Refused ∷ []) }
-    ensures fills { (before after : Local V E) → GoesOn FillBucket before after
-        → ((gets_of after.doing ≡ gets_of before.doing)
-        × (closure_of after.doing ≡ closure_of before.doing)
-        × (after.calls ≡ before.calls))
-        ⊎
-        ((closure_of after.doing ≡ None)
-        × (gets_of after.doing ≡ gets_of before.doing)
-        × IsSomeAnd (closure_of before.doing) (λ create.
-        after.calls ≡ before.calls ++ GetOr create false ∷ [])) }
     ensures install_goes { (before after : Local V E) → GoesOn InstallBucket before after
         → ((gets_of after.doing ≡ gets_of before.doing)
         × (closure_of after.doing ≡ closure_of before.doing)

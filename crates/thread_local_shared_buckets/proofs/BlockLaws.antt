@@ -4,8 +4,8 @@ use Rattle.std.specs.Prelude.{slice_set}
 use Rattle.std.proofs.lemmas.List.{length-set, length-replicate, set-set}
 use Rattle.thread_local_buckets.specs.Slots.{empty_slots, slot_value}
 
--- an empty slot stays empty where it is emptied
-none_again : {V : Type 0} (n i : ℕ) → slice_set (empty_slots {X = V} n) i None ≡ empty_slots n
+-- a block that is empty is empty without what a slot holds
+pub none_again : {V : Type 0} (n i : ℕ) → slice_set (empty_slots {X = V} n) i None ≡ empty_slots n
 none_again zero i = refl
 none_again (suc n) zero = refl
 none_again {V = V} (suc n) (suc i) = ap (λ (cs : List (Option V)). None ∷ cs) (none_again n i)

@@ -6,9 +6,10 @@ use base.Fml.{Lft, GName, Share, Fml, ftrue, fsep, fex, fbor, flft, fres, finv}
 use base.Before.{before}
 use types.Logic.{Logic}
 use types.Na.{before_dup}
-use types.Kit.{‵, ◌⊛◌, later, ◌$◌, ◌∵◌, !, qed, move, drop, split, rewrite, group, fsplit, fjoin, fjoin3, fpick, fpack, await}
+use types.Kit.{‵, ◌⊛◌, later, ◌$◌, ◌∵◌, !, qed, by, move, keep, drop, split, rewrite, group, fsplit, fjoin, fjoin3, fpick, fpack, await}
 use types.Kit.{updating, now, use1, use2, done}
 use denote.RattleType.{RattleType}
+use denote.Param.Laws.{Laws}
 use denote.RawPtr.{Ptr, block_ptr}
 use denote.Steps.{nothing}
 use Rattle.thread_local_ids.specs.Rights.{right_owns}
@@ -20,7 +21,9 @@ use Rattle.thread_local_shared_buckets.specs.Announcing.{Announcing}
 use Rattle.thread_local_shared_buckets.specs.Shared.{BucketView, Turn, StandingBlock, Sized, block_code, len, bucket_invariant, kept, loaded}
 use Rattle.thread_local_shared_buckets.specs.Shared.{name_at, pinned, holds, by as lent_by}
 use Rattle.thread_local_shared_buckets.proofs.Loads.{part, reaches}
+use Rattle.thread_local_shared_buckets.proofs.Offers.{won_by, gained_of}
 use Rattle.thread_local_base.specs.Learnt.{Vacant, Holding}
+use Rattle.thread_local_shared_buckets.specs.Known.{found_as, state_of}
 use Rattle.thread_local_shared_buckets.specs.Claims.{ClaimFields, claim_fields, IsOf, IsStateOf, value_at, has_slot, has_at, claim_owns}
 use Rattle.thread_local_shared_buckets.proofs.ClaimSteps as steps
 use Rattle.thread_local_base.proofs.Signs.{signs}
@@ -86,7 +89,7 @@ module _ {M : Type 1} {𝓤 : Ura M} (𝓛 : Logic 𝓤) (R : RattleType) (d : B
       nothing ! $ fpack ! (IsStateOf R 1 Vacant) (λ _. ftrue) refl $ fjoin ! $ move ! (1 ∷ 0 ∷ []) $ now ! $ done !))
 
   -- the claim whose block was installed holds the value that the block came with
-  pub installs_filled : (table : ℕ) (x : R.Denot) (η : GName) (zz : StandingBlock × Share) → IsOf R table Now d
+  installs_filled : (table : ℕ) (x : R.Denot) (η : GName) (zz : StandingBlock × Share) → IsOf R table Now d
       → zz.0.at ≡ p → name_at zz.0.names i ≡ η
       → ⟦ part 𝓛 R d t p zz ⟧ ∗ ⟦ kept R d t wb (wo + 0) β ⟧
       ∗ ⟦ fsep (right_owns t.filled id) (tells R d.sharing id (Some x)) ⟧
@@ -121,3 +124,20 @@ module _ {M : Type 1} {𝓤 : Ura M} (𝓛 : Logic 𝓤) (R : RattleType) (d : B
       fpack ! (IsOf R table Now d) (λ _. ftrue) of $ fjoin ! $
       fpack ! (BucketView × Turn) (has_at R β table Now (Holding x)) (d, t) $
       nothing ! $ fpack ! (IsStateOf R 2 (Holding x)) (λ _. ftrue) refl $ fjoin ! $ now ! $ done !)
+
+  -- the claim whose own block was installed
+  pub installs_own : (table : ℕ) (L : Laws R) (v : Option R.Denot) (η : GName) (q : Share) (zz : StandingBlock × Share)
+      → IsOf R table Now d → zz.0.at ≡ p → name_at zz.0.names i ≡ η
+      → ⟦ part 𝓛 R d t p zz ⟧ ∗ ⟦ kept R d t wb (wo + 0) β ⟧ ∗ A.lft t.life q ∗ ⟦ won_by 𝓛 R t d.sharing v id ⟧
+      ∗ ⟦ gained_of 𝓛 R t pb zz.0.block_life o L v (value_offset R o i) η ⟧
+      ⊢ H.⇛ (A.lft t.life q ∗ ⟦ claim_owns R β table Now (found_as v) (state_of (found_as v)) ⟧)
+  installs_own table L None η q zz of at named =
+      qed 𝓛 (‵ (part 𝓛 R d t p zz) ∷ ‵ (kept R d t wb (wo + 0) β) ∷ ‵ (flft t.life q) ∷ ‵ (right_owns t.pass id)
+      ∷ ‵ ftrue ∷ []) ∵ keep ! (0 ∷ 1 ∷ 2 ∷ 3 ∷ []) $ by ! (installs table q zz of)
+  installs_own table L (Some x) η q zz of at named =
+      qed 𝓛 (‵ (part 𝓛 R d t p zz) ∷ ‵ (kept R d t wb (wo + 0) β) ∷ ‵ (flft t.life q)
+      ∷ ‵ (won_by 𝓛 R t d.sharing (Some x) id)
+      ∷ ‵ (gained_of 𝓛 R t pb zz.0.block_life o L (Some x) (value_offset R o i) η) ∷ []) ∵
+      updating ! $ move ! (0 ∷ 1 ∷ 3 ∷ 4 ∷ []) $ group ! 4 $
+      use1 𝓛 (later (‵ (claim_owns R β table Now (Holding x) 2))) (installs_filled table x η zz of at named) $
+      await ! tt $ move ! (1 ∷ 0 ∷ []) $ now ! $ done !

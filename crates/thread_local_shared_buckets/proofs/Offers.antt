@@ -1,10 +1,10 @@
 -- Offers a private block to a bucket that is missing: it is lent, and comes back where another
 -- block is installed first. Assumes `Logic`.
 --
--- One slot of the block is filled, for the claim that offers it. The block is lent for a lifetime of its
--- own beside the turn's life. Once it is installed, its slots are born under the turn, each with the
--- tokens that waited for it, and the filled one with its value. Else that lifetime ends, and the block
--- is its maker's again, with the value.
+-- The slot of the claim that offers the block may be filled, and no other is. The block is lent for a
+-- lifetime of its own beside the turn's life. Once it is installed, its slots are born under the turn,
+-- each with the tokens that waited for it, and a filled one with its value. Else that lifetime ends, and
+-- the block is its maker's again, with the value.
 use Rattle.std.proofs.Common.{◌≡◌, ◌∙◌, ℕ, zero, suc, ◌+◌, ◌<◌, Bool, true, false, List, [], ◌∷◌, ◌++◌, length, is_some, refl, sym}
 use Rattle.std.proofs.Common.{ap, subst, lit<, arith, Option, None, Some}
 use Rattle.std.specs.Prelude.{slice_set}
@@ -61,11 +61,11 @@ none_at zero i = get_or_past [] i None (omega arith)
 none_at (suc n) zero = refl
 none_at (suc n) (suc i) = none_at n i
 
--- n slots of which the one at an index holds a value
-abbrev pub with_first : {X : Type 0} → ℕ → X → ℕ → List (Option X)
-with_first at x rest = empty_slots at ++ (Some x ∷ empty_slots rest)
+-- n slots of which the one at an index holds this, and the others nothing
+abbrev pub with_first : {X : Type 0} → ℕ → Option X → ℕ → List (Option X)
+with_first at v rest = empty_slots at ++ (v ∷ empty_slots rest)
 
-module _ {X : Type 0} (x : X) where
+module _ {X : Type 0} (v : Option X) where
   abbrev tail_of : List (Option X) → List (Option X)
   tail_of [] = []
   tail_of (c ∷ cs) = cs
@@ -74,9 +74,9 @@ module _ {X : Type 0} (x : X) where
   head_of [] = None
   head_of (c ∷ cs) = c
 
-  -- slots are such if the one at the index is filled and they are empty without it
+  -- slots are such if the one at the index holds this and they are empty without it
   pub parted_slots : (cs : List (Option X)) (at n rest : ℕ) → at < length cs → n ≡ at + suc rest
-      → slice_set cs at None ≡ empty_slots n → slot_value cs at ≡ Some x → cs ≡ with_first at x rest
+      → slice_set cs at None ≡ empty_slots n → slot_value cs at ≡ v → cs ≡ with_first at v rest
   parted_slots [] at n rest low many none here = absurd (omega arith)
   parted_slots (c ∷ cs) zero n rest low many none here =
       let n_is : n ≡ suc rest = omega (arith, many) in
@@ -87,41 +87,41 @@ module _ {X : Type 0} (x : X) where
       let all : c ∷ slice_set cs at None ≡ empty_slots (suc (at + suc rest)) = none ∙ ap (λ (m : ℕ). empty_slots {X = X} m) n_is in
       λ k. head_of (all k) ∷ parted_slots cs at (at + suc rest) rest (omega (arith, low)) refl (ap tail_of all) here k
 
-  first_long : (at rest : ℕ) → length (with_first at x rest) ≡ at + suc rest
+  first_long : (at rest : ℕ) → length (with_first at v rest) ≡ at + suc rest
   first_long zero rest = let none : Option X = None in let many : length (empty_slots {X = X} rest) ≡ rest = length-replicate rest none in omega (arith, many)
-  first_long (suc at) rest = let many : length (with_first at x rest) ≡ at + suc rest = first_long at rest in omega (arith, many)
+  first_long (suc at) rest = let many : length (with_first at v rest) ≡ at + suc rest = first_long at rest in omega (arith, many)
 
-  first_here : (at rest : ℕ) → slot_value (with_first at x rest) at ≡ Some x
+  first_here : (at rest : ℕ) → slot_value (with_first at v rest) at ≡ v
   first_here zero rest = refl
   first_here (suc at) rest = first_here at rest
 
-  first_before : (at rest i : ℕ) → i < at → slot_value (with_first at x rest) i ≡ None
+  first_before : (at rest i : ℕ) → i < at → slot_value (with_first at v rest) i ≡ None
   first_before zero rest i low = absurd (omega (arith, low))
   first_before (suc at) rest zero low = refl
   first_before (suc at) rest (suc i) low = first_before at rest i (omega (arith, low))
 
-  first_behind : (at rest i k : ℕ) → k ≡ i + suc at → slot_value (with_first at x rest) k ≡ None
+  first_behind : (at rest i k : ℕ) → k ≡ i + suc at → slot_value (with_first at v rest) k ≡ None
   first_behind zero rest i k is =
-      let at : k ≡ suc i = omega (arith, is) in ap (slot_value (with_first 0 x rest)) at ∙ none_at {X = X} rest i
+      let at : k ≡ suc i = omega (arith, is) in ap (slot_value (with_first 0 v rest)) at ∙ none_at {X = X} rest i
   first_behind (suc at) rest i zero is = absurd (omega (arith, is))
   first_behind (suc at) rest i (suc k) is = first_behind at rest i k (omega (arith, is))
 
-module _ (R : RattleType) (x : R.Denot) (at rest : ℕ) (ns : List ℕ) (are : AreFlags ns (with_first at x rest)) where
-  here_set : is_set_in ns at ≡ true
-  here_set = are.flags at ∙ ap is_some (first_here x at rest)
+module _ (R : RattleType) (v : Option R.Denot) (at rest : ℕ) (ns : List ℕ) (are : AreFlags ns (with_first at v rest)) where
+  here_set : is_set_in ns at ≡ is_some v
+  here_set = are.flags at ∙ ap is_some (first_here v at rest)
 
   before_clear : (i : ℕ) → i < at → is_set_in ns i ≡ false
-  before_clear i low = are.flags i ∙ ap is_some (first_before x at rest i low)
+  before_clear i low = are.flags i ∙ ap is_some (first_before v at rest i low)
 
   behind_clear : (i k : ℕ) → k ≡ i + suc at → is_set_in ns k ≡ false
-  behind_clear i k is = are.flags k ∙ ap is_some (first_behind x at rest i k is)
+  behind_clear i k is = are.flags k ∙ ap is_some (first_behind v at rest i k is)
 
-  flag_words : (n : ℕ) → n ≡ at + suc rest → length ns + 0 ≡ chunks (length (with_first at x rest)) → AreFlagWords R n ns
+  flag_words : (n : ℕ) → n ≡ at + suc rest → length ns + 0 ≡ chunks (length (with_first at v rest)) → AreFlagWords R n ns
   flag_words n many long =
-      let few : length (with_first at x rest) ≡ n = first_long x at rest ∙ sym many in (
+      let few : length (with_first at v rest) ≡ n = first_long v at rest ∙ sym many in (
         omega arith ∙ long ∙ ap chunks few,
         are.words,
-        λ i past. are.flags i ∙ ap is_some (get_or_past (with_first at x rest) i None (omega (arith, past, few))),
+        λ i past. are.flags i ∙ ap is_some (get_or_past (with_first at v rest) i None (omega (arith, past, few))),
       )
 
 module _ {M : Type 1} {𝓤 : Ura M} (𝓛 : Logic 𝓤) (R : RattleType) (t : Turn) where
@@ -130,6 +130,12 @@ module _ {M : Type 1} {𝓤 : Ura M} (𝓛 : Logic 𝓤) (R : RattleType) (t : T
 
   infix 26 ◌⊢◌
   infixr 35 ◌∗◌
+  -- what the claim that offers a block gets when that is installed, by what its slot holds: an empty slot
+  -- leaves it its pass
+  abbrev pub won_by : Option GName → Option R.Denot → ℕ → Fml
+  won_by sharing None j = right_owns t.pass j
+  won_by sharing (Some x) j = fsep (right_owns t.filled j) (tells R sharing j (Some x))
+
   module _ (b ν : ℕ) where
     abbrev κ : Lft
     κ = age R t b ν
@@ -297,15 +303,11 @@ module _ {M : Type 1} {𝓤 : Ura M} (𝓛 : Logic 𝓤) (R : RattleType) (t : T
             rewrite ! 0 (λ (u : Option R.Denot). ‵ (content_at R u b e)) (sym z) refl $ now ! $ keep ! (0 ∷ []) $ done !))
 
         module _ (sharing : Option GName) (table k : ℕ) (ns : List ℕ) where
-          -- what the claim of the slot gets when the block is installed
-          abbrev pub won_of : ℕ → Fml
-          won_of j = fsep (right_owns t.filled j) (tells R sharing j (Some x))
-
           -- the slot is born with its value, for the claim that has its pass
           full_reborn : (i : ℕ) (η : GName) → is_set_in ns i ≡ true
               → ⟦ right_owns t.vacant (i + k) ⟧ ∗ ⟦ fsep (right_owns t.filled (i + k)) (untold_in sharing (i + k)) ⟧
               ∗ ⟦ right_owns table (i + k) ⟧ ∗ ⟦ right_owns t.pass (i + k) ⟧ ∗ ⟦ full (value_offset R o i) η ⟧
-              ⊢ upd 𝓤 (⟦ numbered_slot R t b ν sharing table k o ns η i ⟧ ∗ ⟦ won_of (i + k) ⟧)
+              ⊢ upd 𝓤 (⟦ numbered_slot R t b ν sharing table k o ns η i ⟧ ∗ ⟦ won_by sharing (Some x) (i + k) ⟧)
           full_reborn i η set =
               let j : ℕ = i + k in
               let e : ℕ = value_offset R o i in
@@ -313,7 +315,7 @@ module _ {M : Type 1} {𝓤 : Ura M} (𝓛 : Logic 𝓤) (R : RattleType) (t : T
               let v : Option R.Denot = Some x in
               let g = value_code R v in
               let Told : Fml = tells R sharing j v in
-              let Z : SProp 𝓤 = ⟦ numbered_slot R t b ν sharing table k o ns η i ⟧ ∗ ⟦ won_of j ⟧ in
+              let Z : SProp 𝓤 = ⟦ numbered_slot R t b ν sharing table k o ns η i ⟧ ∗ ⟦ won_by sharing v j ⟧ in
               qed 𝓛 (‵ (right_owns t.vacant j) ∷ ‵ (fsep (right_owns t.filled j) (untold_in sharing j))
               ∷ ‵ (right_owns table j) ∷ ‵ (right_owns t.pass j) ∷ ‵ (full e η) ∷ []) ∵
               move ! (1 ∷ []) $ fsplit ! $ move ! (1 ∷ []) $
@@ -332,13 +334,54 @@ module _ {M : Type 1} {𝓤 : Ura M} (𝓛 : Logic 𝓤) (R : RattleType) (t : T
           full_born : (i : ℕ) (η : GName) (w : Bool) → is_set_in ns i ≡ true
               → ⟦ right_owns t.vacant (i + k) ⟧ ∗ ⟦ fsep (right_owns t.filled (i + k)) (untold_in sharing (i + k)) ⟧
               ∗ ⟦ slots_side R w table t.pass (i + k) ⟧ ∗ ⟦ right_owns t.pass (i + k) ⟧ ∗ ⟦ full (value_offset R o i) η ⟧
-              ⊢ upd 𝓤 (⟦ numbered_slot R t b ν sharing table k o ns η i ⟧ ∗ ⟦ won_of (i + k) ⟧)
+              ⊢ upd 𝓤 (⟦ numbered_slot R t b ν sharing table k o ns η i ⟧ ∗ ⟦ won_by sharing (Some x) (i + k) ⟧)
           full_born i η false set =
               let j : ℕ = i + k in
               qed 𝓛 (‵ (right_owns t.vacant j) ∷ ‵ (fsep (right_owns t.filled j) (untold_in sharing j))
               ∷ ‵ (right_owns t.pass j) ∷ ‵ (right_owns t.pass j) ∷ ‵ (full (value_offset R o i) η) ∷ []) ∵
               keep ! (2 ∷ 3 ∷ []) $ by ! (right_once 𝓛 t.pass j _)
           full_born i η true set = full_reborn i η set
+
+      -- ---- the slot of the claim that offers the block, whatever it holds
+      module _ (L : Laws R) where
+        -- what lies with it while nobody else sees the block
+        abbrev pub mine : Option R.Denot → ℕ → GName → Fml
+        mine None e η = bare e η
+        mine (Some x) e η = full L x e η
+
+        -- what its claim has of it meanwhile
+        abbrev pub gained_of : Option R.Denot → ℕ → GName → Fml
+        gained_of None e η = ftrue
+        gained_of (Some x) e η = gained L x e η
+
+        abbrev Clothed : Option R.Denot → Toks → ℕ → GName → SProp 𝓤
+        Clothed v ts e η = ⟦ mine v e η ⟧ ∗ ⟦ gained_of v e η ⟧ ∗ lfts 𝓛 ts
+
+        lends_mine : (v : Option R.Denot) (ts : Toks) → Incl (span ts) R.lives → Incl (span ts) κ → Judged R → (e : ℕ)
+            → ⟦ content_at R v b e ⟧ ∗ lfts 𝓛 ts ⊢ H.⇛ (ex 𝓤 (Clothed v ts e))
+        lends_mine None ts inc sp j e =
+            qed 𝓛 (‵ (content_at R None b e) ∷ raw (lfts 𝓛 ts) ∷ []) ∵ updating ! $
+            use1 𝓛 (later (some (λ (η : GName). ‵ (bare e η)))) (lends_one e) $ await ! tt $
+            pick ! (λ η. nothing ! $ now ! $ show ! (Clothed None ts e) η $ move ! (1 ∷ 0 ∷ 2 ∷ []) $ done !)
+        lends_mine (Some x) ts inc sp j e = lends_full L x ts inc sp j e
+
+        takes_mine : (v : Option R.Denot) (e : ℕ) (η : GName) → A.dead κ ∗ ⟦ mine v e η ⟧ ⊢ H.⇛ ⟦ content_at R v b e ⟧
+        takes_mine None e η = takes_one e η
+        takes_mine (Some x) e η = takes_full L x e η
+
+        module _ (sharing : Option GName) (table k : ℕ) (ns : List ℕ) where
+          mine_born : (v : Option R.Denot) (i : ℕ) (η : GName) (w : Bool) → is_set_in ns i ≡ is_some v
+              → ⟦ right_owns t.vacant (i + k) ⟧ ∗ ⟦ fsep (right_owns t.filled (i + k)) (untold_in sharing (i + k)) ⟧
+              ∗ ⟦ slots_side R w table t.pass (i + k) ⟧ ∗ ⟦ right_owns t.pass (i + k) ⟧ ∗ ⟦ mine v (value_offset R o i) η ⟧
+              ⊢ upd 𝓤 (⟦ numbered_slot R t b ν sharing table k o ns η i ⟧ ∗ ⟦ won_by sharing v (i + k) ⟧)
+          mine_born None i η w clear =
+              let j : ℕ = i + k in
+              qed 𝓛 (‵ (right_owns t.vacant j) ∷ ‵ (Unborn sharing table k ns j) ∷ ‵ (slots_side R w table t.pass j) ∷ ‵ (right_owns t.pass j)
+              ∷ ‵ (bare (value_offset R o i) η) ∷ []) ∵
+              suffices ! _ (upd_i 𝓤 (⟦ numbered_slot R t b ν sharing table k o ns η i ⟧ ∗ ⟦ right_owns t.pass j ⟧)) $
+              move ! (0 ∷ 1 ∷ 2 ∷ 4 ∷ []) $ group ! 4 $
+              use1 𝓛 (‵ (numbered_slot R t b ν sharing table k o ns η i)) (born_one sharing table k ns i η w clear) $ done !
+          mine_born (Some x) i η w set = full_born L x sharing table k ns i η w set
 
   -- ---- several slots one after another
   each_apart : {X : Type 0} (F : X → ℕ → Fml) (xs ys : List X) (i j : ℕ) → j ≡ length xs + i
@@ -376,7 +419,7 @@ module _ {M : Type 1} {𝓤 : Ura M} (𝓛 : Logic 𝓤) (R : RattleType) (t : T
       (unborn_apart sharing table n m r (suc k) j (omega (arith, many)) (omega (arith, is))) $ split ! $
       move ! (2 ∷ 0 ∷ []) $ fjoin ! $ done !
 
-  -- the names of a block's slots: of those before the filled one, its own, and of those behind it
+  -- the names of a block's slots: of those before the claim's, its own, and of those behind it
   pub record Names : Type 0 where
     pub before : List ℕ
     pub here : ℕ
@@ -385,7 +428,7 @@ module _ {M : Type 1} {𝓤 : Ura M} (𝓛 : Logic 𝓤) (R : RattleType) (t : T
   abbrev pub names_of : Names → List ℕ
   names_of z = z.before ++ (z.here ∷ z.behind)
 
-  module _ (L : Laws R) (d : BucketView) (a : Global) (x : R.Denot) (at rest : ℕ) (many : len R d ≡ at + suc rest) where
+  module _ (L : Laws R) (d : BucketView) (a : Global) (v : Option R.Denot) (at rest : ℕ) (many : len R d ≡ at + suc rest) where
     abbrev n : ℕ
     n = len R d
 
@@ -393,10 +436,10 @@ module _ {M : Type 1} {𝓤 : Ura M} (𝓛 : Logic 𝓤) (R : RattleType) (t : T
     τ = block_ty R n
 
     abbrev pub cs : List (Option R.Denot)
-    cs = with_first at x rest
+    cs = with_first at v rest
 
     as_many : length cs ≡ n
-    as_many = first_long x at rest ∙ sym many
+    as_many = first_long v at rest ∙ sym many
 
     -- the block with these names, whose lifetime is ν
     abbrev pub block_as : Ptr → ℕ → Names → StandingBlock
@@ -417,7 +460,7 @@ module _ {M : Type 1} {𝓤 : Ura M} (𝓛 : Logic 𝓤) (R : RattleType) (t : T
     idle p ν z =
         fsep (flags R (block_of p) (count_of p) cs) (fsep
         (fsep (each (bare_slot (block_of p) ν (count_of p)) z.before 0)
-        (fsep (full (block_of p) ν (count_of p) L x (value_offset R (count_of p) at) z.here)
+        (fsep (mine (block_of p) ν (count_of p) L v (value_offset R (count_of p) at) z.here)
         (each (bare_slot (block_of p) ν (count_of p)) z.behind (suc at))))
         (fsep (back R (block_of p) (count_of p) n) (ghosts.dealloc_token a τ p)))
 
@@ -433,9 +476,9 @@ module _ {M : Type 1} {𝓤 : Ura M} (𝓛 : Logic 𝓤) (R : RattleType) (t : T
         qed 𝓛 (‵ (Blank p) ∷ []) ∵ fsplit ! $ fpick ! (λ so. drop ! $ check ! so.0 $ nothing ! $
         fpack ! (InBlock p × Fits R (length cs)) (λ _. ftrue) so $ fjoin ! $ done !)
 
-    -- what the claim of the filled slot has beside the private block
+    -- what the claim has beside the private block
     abbrev pub Gained : Ptr → ℕ → Names → Fml
-    Gained p ν z = gained (block_of p) ν (count_of p) L x (value_offset R (count_of p) at) z.here
+    Gained p ν z = gained_of (block_of p) ν (count_of p) L v (value_offset R (count_of p) at) z.here
 
     pub lend_out : (s : Share) (υ : Lft) (r : Share) → Incl υ R.lives → Judged R → (p : Ptr)
         → ⟦ Blank p ⟧ ∗ A.lft t.life s ∗ A.lft υ r
@@ -459,8 +502,8 @@ module _ {M : Type 1} {𝓤 : Ura M} (𝓛 : Logic 𝓤) (R : RattleType) (t : T
         learn ! (λ test. lft_new ! tt (λ ν.
         -- [its own token; the right to free; the way back; the slots; the words; the life's token; the other]
         move ! (3 ∷ []) $
-        use1 𝓛 (‵ (each (slot R b o) first_slots 0) ⊛ ‵ (each (slot R b o) (Some x ∷ empty_slots rest) at))
-        (each_apart (slot R b o) first_slots (Some x ∷ empty_slots rest) 0 at (omega (arith, long))) $ split ! $
+        use1 𝓛 (‵ (each (slot R b o) first_slots 0) ⊛ ‵ (each (slot R b o) (v ∷ empty_slots rest) at))
+        (each_apart (slot R b o) first_slots (v ∷ empty_slots rest) 0 at (omega (arith, long))) $ split ! $
         use1 𝓛 (later (some (λ (names : List ℕ).
         given (length names ≡ at) (‵ (each (bare_slot b ν o) names 0)))))
         (lends_all b ν o at 0) $
@@ -469,23 +512,23 @@ module _ {M : Type 1} {𝓤 : Ura M} (𝓛 : Logic 𝓤) (R : RattleType) (t : T
         given (length names ≡ rest) (‵ (each (bare_slot b ν o) names (suc at))))))
         (lends_all b ν o rest (suc at)) $
         await ! tt $ pick ! (λ behind. learn ! (λ long_behind.
-        -- [the slots behind; the filled slot; the slots before; its own token; the right to free; the way back; the words; the life's
+        -- [the slots behind; the claim's slot; the slots before; its own token; the right to free; the way back; the words; the life's
         -- token; the other]
         let ts : Toks = (ν ∷ [], full_share) ∷ (t.life, s) ∷ (υ, r) ∷ [] in
         move ! (3 ∷ 7 ∷ 8 ∷ []) $ group ! 3 $ move ! (2 ∷ 0 ∷ []) $
         use2 𝓛 (later (some (λ (η : GName).
-        ‵ (full b ν o L x (value_offset R o at) η) ⊛ ‵ (gained b ν o L x (value_offset R o at) η) ⊛ raw (lfts 𝓛 ts))))
-        (lends_full b ν o L x ts
+        ‵ (mine b ν o L v (value_offset R o at) η) ⊛ ‵ (gained_of b ν o L v (value_offset R o at) η) ⊛ raw (lfts 𝓛 ts))))
+        (lends_mine b ν o L v ts
         (Incl-trans (meet_⊑_right (ν ∷ []) (t.life ++ υ)) (Incl-trans (meet_⊑_right t.life υ) alive))
         (⊑_meet ((ν ∷ []) ++ (t.life ++ υ)) (ν ∷ []) t.life (meet_⊑_left (ν ∷ []) (t.life ++ υ))
         (Incl-trans (meet_⊑_right (ν ∷ []) (t.life ++ υ)) (meet_⊑_left t.life υ)))
         j (value_offset R o at)) $
         await ! tt $ pick ! (λ η. split3 ! $
         move ! (2 ∷ []) $ use1 𝓛 (‵ (flft (ν ∷ []) full_share) ⊛ ‵ (flft t.life s) ⊛ ‵ (flft υ r)) (id⊢ 𝓤 _) $ split3 ! $
-        -- [its own token; the life's; the other; the filled slot; its claim's; the slots behind; the slots before; the right to free;
+        -- [its own token; the life's; the other; the claim's slot; what the claim has; the slots behind; before; the right to free;
         -- the way back; the words]
         move ! (8 ∷ 7 ∷ []) $ fjoin ! $
-        -- [the ends; its own token; the life's; the other; the filled slot; its claim's; the slots behind; the slots before; the
+        -- [the ends; its own token; the life's; the other; the claim's slot; what the claim has; the slots behind; before; the
         -- words]
         move ! (4 ∷ 6 ∷ []) $ fjoin ! $ move ! (6 ∷ 0 ∷ []) $ fjoin ! $
         -- [the slots; the ends; its own token; the life's; the other; its claim's; the words]
@@ -511,19 +554,19 @@ module _ {M : Type 1} {𝓤 : Ura M} (𝓛 : Logic 𝓤) (R : RattleType) (t : T
         use1 𝓛 (‵ (fdead κ₀) ⊛ ‵ (fdead κ₀)) (𝓛.lfts.dead_dup κ₀) $ split ! $
         -- [its life is over, three times; the words; the slots and the ends]
         move ! (4 ∷ []) $ fsplit3 ! $ fsplit3 ! $
-        -- [the slots before; the filled one; those behind; the way back; the right to free; its life is over, three times; the words]
+        -- [the slots before; the claim's; those behind; the way back; the right to free; its life is over, three times; the words]
         move ! (5 ∷ 0 ∷ []) $
         use2 𝓛 (later (‵ (each (slot R b o) (empty_slots (length z.before)) 0))) (takes_all b ν o z.before 0) $ await ! tt $
         rewrite ! 0 (λ (m : ℕ). ‵ (each (slot R b o) (empty_slots m) 0)) so.before refl $
         move ! (5 ∷ 1 ∷ []) $
-        use2 𝓛 (later (‵ (content_at R (Some x) b (value_offset R o at)))) (takes_full b ν o L x (value_offset R o at) z.here) $
+        use2 𝓛 (later (‵ (content_at R v b (value_offset R o at)))) (takes_mine b ν o L v (value_offset R o at) z.here) $
         await ! tt $ move ! (5 ∷ 2 ∷ []) $
         use2 𝓛 (later (‵ (each (slot R b o) (empty_slots (length z.behind)) (suc at)))) (takes_all b ν o z.behind (suc at)) $
         await ! tt $ rewrite ! 0 (λ (m : ℕ). ‵ (each (slot R b o) (empty_slots m) (suc at))) so.behind refl $
-        -- [the slots behind; the filled one; those before; the way back; the right to free; the words]
+        -- [the slots behind; the claim's; those before; the way back; the right to free; the words]
         move ! (1 ∷ 0 ∷ []) $ fjoin ! $ move ! (1 ∷ 0 ∷ []) $
         use2 𝓛 (‵ (each (slot R b o) cs 0))
-        (each_together (slot R b o) first_slots (Some x ∷ empty_slots rest) 0 at (omega (arith, long))) $
+        (each_together (slot R b o) first_slots (v ∷ empty_slots rest) 0 at (omega (arith, long))) $
         -- [the slots; the way back; the right to free; the words]
         move ! (1 ∷ []) $ rewrite ! 0 (λ (m : ℕ). ‵ (back R b o m)) (sym as_many) refl $ move ! (2 ∷ []) $
         rewrite ! 0 (λ (m : ℕ). ‵ (ghosts.dealloc_token a (block_ty R m) p)) (sym as_many) refl $
@@ -531,21 +574,24 @@ module _ {M : Type 1} {𝓤 : Ura M} (𝓛 : Logic 𝓤) (R : RattleType) (t : T
         fpack ! (InBlock p × Fits R (length cs)) (λ _. ftrue) (so.sized.0, subst (Fits R) (sym as_many) so.sized.2) $
         fjoin ! $ now ! $ done !
 
-    -- the id of the filled slot
+    -- the id of the claim's slot
     abbrev pub id : ℕ
     id = at + first R d
 
-    -- the block's slots are born under the turn, the filled one for the claim that has its pass
+    -- what the claim gets when the block is installed
+    abbrev pub Won : Fml
+    Won = won_by d.sharing v id
+
+    -- the block's slots are born under the turn, the claim's for whoever has its pass
     born_block : (p : Ptr) (ν : ℕ) (z : Names) → Lies p z
         → ⟦ all_unborn R d.sharing d.table t n (first R d) ⟧ ∗ ⟦ idle p ν z ⟧ ∗ ⟦ right_owns t.pass id ⟧
         ⊢ upd 𝓤 (⟦ fsep (block_stands R d t p (block_as p ν z)) (heap_token τ p) ⟧
-        ∗ ⟦ fsep (right_owns t.filled id) (tells R d.sharing id (Some x)) ⟧)
+        ∗ ⟦ Won ⟧)
     born_block p ν z so =
         let b : ℕ = block_of p in
         let o : ℕ = count_of p in
         let k : ℕ = first R d in
         let s : StandingBlock = block_as p ν z in
-        let Won : Fml = fsep (right_owns t.filled id) (tells R d.sharing id (Some x)) in
         let Z : SProp 𝓤 = ⟦ fsep (block_stands R d t p s) (heap_token τ p) ⟧ ∗ ⟦ Won ⟧ in
         let Rest : ℕ → Fml = λ m. all_unborn R d.sharing d.table t rest m in
         let Unborn : ℕ → ℕ → Fml = λ m j. all_unborn R d.sharing d.table t m j in
@@ -554,38 +600,38 @@ module _ {M : Type 1} {𝓤 : Ura M} (𝓛 : Logic 𝓤) (R : RattleType) (t : T
         qed 𝓛 (‵ (Unborn n k) ∷ ‵ (idle p ν z) ∷ ‵ (right_owns t.pass id) ∷ []) ∵
         use1 𝓛 (‵ (Unborn at k) ⊛ ‵ (Unborn (suc rest) id)) (unborn_apart d.sharing d.table n at (suc rest) k id many refl) $ split ! $
         move ! (1 ∷ []) $ fsplit ! $
-        -- [the filled slot, unborn; the slots behind, unborn; the slots before, unborn; the block; the pass]
+        -- [the claim's slot, unborn; the slots behind, unborn; the slots before, unborn; the block; the pass]
         fsplit3 ! $ move ! (2 ∷ []) $ fpick ! (λ w. move ! (5 ∷ []) $ fsplit3 ! $ fpick ! (λ ns. fsplit3 ! $ fpick ! (λ are. drop ! $
         -- [the words; nothing; the slots; the ends; what waits; vacant; filled; the slots behind, unborn; before, unborn; the pass]
         move ! (1 ∷ []) $ drop ! $ move ! (1 ∷ []) $ fsplit3 ! $
-        -- [the slots before; the filled one; those behind; the words; the ends; what waits; vacant; filled; the slots behind, unborn;
+        -- [the slots before; the claim's; those behind; the words; the ends; what waits; vacant; filled; the slots behind, unborn;
         -- before, unborn; the pass]
         let N : GName → ℕ → Fml = numbered_slot R t b ν d.sharing d.table k o ns in
         move ! (6 ∷ 7 ∷ 5 ∷ 10 ∷ 1 ∷ []) $ group ! 5 $
         use1 𝓛 (raw (upd 𝓤 (⟦ N z.here at ⟧ ∗ ⟦ Won ⟧)))
-        (full_born b ν o L x d.sharing d.table k ns at z.here w (here_set R x at rest ns are.1)) $
+        (mine_born b ν o L d.sharing d.table k ns v at z.here w (here_set R v at rest ns are.1)) $
         settle 𝓛 Z (‵ (N z.here at) ⊛ ‵ Won) $ suffices ! _ (upd_i 𝓤 Z) $ split ! $
-        -- [the filled slot; what its claim gets; the slots before; behind; the words; the ends; behind, unborn; before, unborn]
+        -- [the claim's slot; what the claim gets; the slots before; behind; the words; the ends; behind, unborn; before, unborn]
         move ! (7 ∷ []) $ rewrite ! 0 (λ (m : ℕ). ‵ (Unborn at m)) from_first refl $
         rewrite ! 0 (λ (m : ℕ). ‵ (Unborn m (0 + k))) (sym so.before) refl $ move ! (0 ∷ 3 ∷ []) $
         use2 𝓛 (‵ (each N z.before 0))
         (born_all b ν o d.sharing d.table k ns z.before 0 (λ j near.
         let is : j ≡ j + 0 = omega arith in
         subst (λ (i : ℕ). is_set_in ns i ≡ false) is
-        (before_clear R x at rest ns are.1 j (omega (arith, near, so.before))))) $
-        -- [the slots before; the filled slot; what its claim gets; behind; the words; the ends; behind, unborn]
+        (before_clear R v at rest ns are.1 j (omega (arith, near, so.before))))) $
+        -- [the slots before; the claim's; what the claim gets; behind; the words; the ends; behind, unborn]
         move ! (6 ∷ []) $ rewrite ! 0 (λ (m : ℕ). ‵ (Rest m)) next refl $
         rewrite ! 0 (λ (m : ℕ). ‵ (Unborn m (suc at + k))) (sym so.behind) refl $ move ! (0 ∷ 4 ∷ []) $
         use2 𝓛 (‵ (each N z.behind (suc at)))
         (born_all b ν o d.sharing d.table k ns z.behind (suc at) (λ j near.
-        behind_clear R x at rest ns are.1 j (j + suc at) refl)) $
-        -- [the slots behind; before; the filled slot; what its claim gets; the words; the ends]
+        behind_clear R v at rest ns are.1 j (j + suc at) refl)) $
+        -- [the slots behind; before; the claim's; what the claim gets; the words; the ends]
         move ! (2 ∷ 0 ∷ []) $ fjoin ! $ move ! (1 ∷ 0 ∷ []) $
         use2 𝓛 (‵ (slots_stand R d t p s ns))
         (each_together N z.before (z.here ∷ z.behind) 0 at (omega (arith, so.before))) $
         -- [the slots; what its claim gets; the words; the ends]
         move ! (2 ∷ []) $ rewrite ! 0 (λ (m : ℕ). ‵ (each (flags_at R m b o) ns 0)) as_many refl $ move ! (0 ∷ 1 ∷ []) $
-        fjoin ! $ nothing ! $ fpack ! (AreFlagWords R n ns) (λ _. ftrue) (flag_words R x at rest ns are.1 n many are.0) $
+        fjoin ! $ nothing ! $ fpack ! (AreFlagWords R n ns) (λ _. ftrue) (flag_words R v at rest ns are.1 n many are.0) $
         fjoin ! $ fpack ! (List ℕ) (slots_under R n b o (slots_stand R d t p s)) ns $
         move ! (2 ∷ []) $ fsplit ! $ move ! (2 ∷ 0 ∷ []) $ fjoin ! $ move ! (1 ∷ []) $
         fpack ! Global (λ y. ghosts.dealloc_token y τ p) a $ move ! (1 ∷ 0 ∷ []) $ fjoin ! $ done !)))
@@ -606,9 +652,6 @@ module _ {M : Type 1} {𝓤 : Ura M} (𝓛 : Logic 𝓤) (R : RattleType) (t : T
 
       abbrev Pass : Fml
       Pass = right_owns t.pass id
-
-      abbrev pub Won : Fml
-      Won = fsep (right_owns t.filled id) (tells R d.sharing id (Some x))
 
       abbrev pub won : Ptr → Fml
       won p = fsep (part 𝓛 R d t new (s, right full_share)) Won

@@ -21,9 +21,3 @@ pub record IsFilledBy {V : Type 0} (makes : V → Type 0) (old new : Learnt V) :
   pub value : V
   pub holds : new ≡ Holding value
   pub made : (old ≡ Holding value) ⊎ (IsEmpty old × makes value)
-
--- the slot was empty and still is; if its bucket was found, that is known still
-pub record StaysEmpty {V : Type 0} (old new : Learnt V) : Type 0 where
-  pub was : IsEmpty old
-  pub is : IsEmpty new
-  pub vacant : old ≡ Vacant → new ≡ Vacant

@@ -6,10 +6,10 @@ ghost use Rattle.thread_local_base.specs.Learnt.{Unknown, Missing, Vacant, Holdi
 ghost use Rattle.thread_local_base.specs.Place.{IsPlaceOf};
 ghost use Rattle.thread_local_buckets.specs.Slots.{empty_slots, slot_value, flag_word_at};
 ghost use Rattle.thread_local_shared_buckets.specs.Announcing.{BeginsWithFirst};
-ghost use Rattle.thread_local_shared_buckets.specs.Known.{HasLooked};
-ghost use Rattle.thread_local_shared_buckets.specs.Room.{IsEmpty, HasRoom, IsFilledBy, StaysEmpty};
+ghost use Rattle.thread_local_shared_buckets.specs.Known.{HasLooked, found_as, state_of};
+ghost use Rattle.thread_local_shared_buckets.specs.Room.{IsEmpty, HasRoom, IsFilledBy};
 
-use crate::claimed::{ClaimedSlot, HOLDING, MISSING};
+use crate::claimed::{ClaimedSlot, HOLDING, MISSING, VACANT};
 use crate::{Announcements, SharedBucket};
 use std::alloc::{AllocError, Global};
 use std::marker::Model;
@@ -183,7 +183,8 @@ impl<'a, T> Claim<'a, T> {
         Ok(())
     }
 
-    /// `fill` by a closure that may fail. `Ok` hands its error on, and the slot is still empty.
+    /// `fill` by a closure that may fail. `Ok` hands its error on, and the slot is still empty. A
+    /// bucket that was made for it stands then.
     #[inline]
     pub fn try_fill<F: FnOnce() -> Result<T, E> + Drop, E>(
         &mut self,
@@ -197,7 +198,7 @@ impl<'a, T> Claim<'a, T> {
         ensures ok { IfOk result (λ filled.
             MatchResult filled
             (λ _. IsFilledBy (λ value. F.post create (Ok value)) self.old.learnt self.new.learnt)
-            (λ error. StaysEmpty self.old.learnt self.new.learnt × F.post create (Err error))) }
+            (λ error. IsEmpty self.old.learnt × (self.new.learnt ≡ Vacant) × F.post create (Err error))) }
         ensures err { OnErr result ((self.old.learnt ≡ Missing) × (self.new.learnt ≡ Missing)) }
         ensures learnt { HasLooked self.new.learnt }
         ensures found { self.new.learnt ≡ Missing → self.old.learnt ≡ Missing }
@@ -215,11 +216,65 @@ impl<'a, T> Claim<'a, T> {
             }
             Err(error) => {
                 if let Some(block) = block {
-                    block.release(&alloc, bucket_size(thread.bucket));
+                    self.install_empty(&alloc, thread, block);
                 }
                 Ok(Err(error))
             }
         }
+    }
+
+    /// Installs a block without a value, for a bucket that was missing. The bucket is announced
+    /// before. Where another block was installed first, that one stays, and this block is freed. It
+    /// is never inlined, so that the way of who publishes is short.
+    #[cold]
+    #[inline(never)]
+    fn install_empty(&mut self, alloc: &Global, thread: Thread, block: Block<T, Global>)
+        requires missing { self.old.learnt ≡ Missing }
+        requires place { IsPlaceOf thread.bucket thread.index self.old.id }
+        requires block { (block.heap ≡ alloc.now)
+            × (block.slots ≡ empty_slots (2 ^ thread.bucket))
+            × (block.left ≡ 0) }
+        ensures same_slot { (self.new.table ≡ self.old.table)
+            × (self.new.sharing ≡ self.old.sharing)
+            × (self.new.id ≡ self.old.id) }
+        ensures learnt { self.new.learnt ≡ Vacant }
+        ensures reserved { self.new.reserved ≡ self.old.reserved }
+    {
+        let back = self.install(thread, block, VACANT);
+        if let Some(block) = back {
+            block.release(alloc, bucket_size(thread.bucket));
+        }
+    }
+
+    /// Announces a bucket that was missing, and offers a block for it, of whose slots only the claim's
+    /// may have a value. `state` is the number of what a look at that slot finds. Where another block
+    /// was installed first, this one comes back.
+    #[inline(always)]
+    fn install(
+        &mut self,
+        thread: Thread,
+        block: Block<T, Global>,
+        state: u64,
+    ) -> Option<Block<T, Global>>
+        requires missing { self.old.learnt ≡ Missing }
+        requires place { IsPlaceOf thread.bucket thread.index self.old.id }
+        requires left { block.left ≡ 0 }
+        requires others { slice_set block.slots thread.index None ≡ empty_slots (2 ^ thread.bucket) }
+        requires state { state ≡ state_of (found_as (slot_value block.slots thread.index)) }
+        ensures same_slot { (self.new.table ≡ self.old.table)
+            × (self.new.sharing ≡ self.old.sharing)
+            × (self.new.id ≡ self.old.id) }
+        ensures learnt { MatchOption result
+            (self.new.learnt ≡ found_as (slot_value block.slots thread.index))
+            (λ _. self.new.learnt ≡ Vacant) }
+        ensures back { IfSome result (λ back.
+            (back.heap ≡ block.heap) × (back.slots ≡ block.slots) × (back.left ≡ 0)) }
+        ensures reserved { self.new.reserved ≡ self.old.reserved }
+    {
+        let announced = self.announcements.announce(thread.bucket);
+        let reached = &self.reached;
+        self.slot
+            .exchange(thread.index, block, reached, announced, state)
     }
 
     /// Publishes a value in a slot that is empty, for which a missing bucket is made. Where memory is
@@ -321,9 +376,7 @@ impl<'a, T> Claim<'a, T> {
             return self.publish_standing(thread, value);
         };
         let block = filled(block, alloc, thread, value);
-        let announced = self.announcements.announce(thread.bucket);
-        let reached = &self.reached;
-        let back = self.slot.exchange(thread.index, block, reached, announced);
+        let back = self.install(thread, block, HOLDING);
         if let Some(block) = back {
             self.publish_second(alloc, thread, block);
         }

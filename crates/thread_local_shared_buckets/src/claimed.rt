@@ -28,7 +28,7 @@ mod told;
 pub(crate) const MISSING: u64 = 0;
 
 /// The number of a claim whose slot is vacant.
-const VACANT: u64 = 1;
+pub(crate) const VACANT: u64 = 1;
 
 /// The number of a claim whose slot holds a value.
 pub(crate) const HOLDING: u64 = 2;

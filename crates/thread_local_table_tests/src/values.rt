@@ -1,6 +1,7 @@
 //! What a `Local` finds at its id, and what it publishes there.
 
-use crate::locals::{found, found_by_another, numbers, published, published_by_another};
+use crate::locals::{found, found_by_another, lends, numbers, publish_and_forget, published};
+use crate::locals::published_by_another;
 use crate::same::assert_same;
 use std::alloc::Global;
 use std::cell::{Cell, RefCell};
@@ -85,6 +86,27 @@ fn a_reused_id_finds_the_earlier_value(rt: HostRuntime) {
     );
 }
 
+#[test]
+fn a_forgotten_id_is_held_until_the_clear(rt: HostRuntime) {
+    let mut table = numbers(rt.alloc());
+    let forgotten = publish_and_forget(&table, &rt, 5);
+    let next = found_by_another(&table, &rt);
+    let are_lent = lends(&mut table, &[5]);
+    table.clear();
+    let afresh = published_by_another(&table, &rt, 8);
+    assert_same(
+        &rt,
+        (forgotten, next, are_lent, afresh, table.slots()),
+        (
+            Some(5),
+            Some(None),
+            true,
+            Some([None, Some(8), Some(8)]),
+            1,
+        ),
+    );
+}
+
 /// Whether a closure's error is told as such, and leaves the slot of a new `Local` empty.
 fn fails<R: Wait>(table: &ThreadLocal<u32>, rt: &R) -> bool {
     match table.local(rt) {
@@ -97,7 +119,7 @@ fn fails<R: Wait>(table: &ThreadLocal<u32>, rt: &R) -> bool {
 }
 
 #[test]
-fn an_error_leaves_the_slot_empty_and_installs_no_bucket(rt: HostRuntime) {
+fn an_error_leaves_the_slot_empty_in_a_bucket_that_stands(rt: HostRuntime) {
     let mut table = numbers(rt.alloc());
     let failed = fails(&table, &rt);
     let slots = table.slots();
@@ -105,7 +127,7 @@ fn an_error_leaves_the_slot_empty_and_installs_no_bucket(rt: HostRuntime) {
     assert_same(
         &rt,
         (failed, slots, next, table.slots()),
-        (true, 0, Some([None, Some(4), Some(4)]), 1),
+        (true, 1, Some([None, Some(4), Some(4)]), 1),
     );
 }
 

@@ -7,7 +7,7 @@ use std::alloc::Global;
 use std::mem::forget;
 use std::sync::Wait;
 use thread_local::ThreadLocal;
-use thread_local::local::{Local, TryError};
+use thread_local::local::Local;
 use thread_local_base::judge_sync;
 use thread_local_test_helpers::counted::{Counted, Drops, dropped};
 use thread_local_test_helpers::memory::take_all_but;
@@ -139,37 +139,6 @@ fn are_made_and_dropped(alloc: Global, count: u64) -> bool {
         }
     }
     true
-}
-
-/// Runs as many closures that fail as are asked for, each at the first slot of a missing bucket of
-/// 1024 large values. Answers whether each error is told as such.
-fn fail_at_a_large_bucket<R: Wait>(rt: &R, alloc: Global, count: u64) -> bool {
-    judge_sync::<[u64; 512]>();
-    let table = ThreadLocal::<[u64; 512]>::new(alloc);
-    for _ in 0..1023 {
-        match table.local(rt) {
-            Ok(local) => forget(local),
-            Err(_) => return false,
-        }
-    }
-    let Ok(mut local) = table.local(rt) else {
-        return false;
-    };
-    for _ in 0..count {
-        if !matches!(local.try_fill(|| Err("no")), Err(TryError::Create("no"))) {
-            return false;
-        }
-    }
-    true
-}
-
-// The blocks that were made for these values would hold more than 4 GB if none were freed, where
-// 1 GiB can be had.
-#[test]
-fn blocks_of_closures_that_fail_are_freed(rt: HostRuntime) {
-    let taken = take_all_but(rt.alloc(), 1 << 30).expect(&rt, "memory for the list");
-    assert!(rt; fail_at_a_large_bucket(&rt, rt.alloc(), 1000));
-    drop(taken);
 }
 
 /// Publishes a value in a table of its own, and drops the table. Answers whether the table had one

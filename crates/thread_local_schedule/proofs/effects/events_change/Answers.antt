@@ -17,17 +17,17 @@ returns-clause-installs_value g c = laws.installs_value
 pub returns-clause-installs_beside : goal.returns-clause-installs_beside
 returns-clause-installs_beside g c = laws.beside_stays
 
-pub returns-clause-writes_beside : goal.returns-clause-writes_beside
-returns-clause-writes_beside g c = laws.beside_writes
-
 pub returns-clause-fills : goal.returns-clause-fills
 returns-clause-fills g c = laws.fills
 
 pub returns-clause-fill_stays : goal.returns-clause-fill_stays
 returns-clause-fill_stays g c = laws.fill_stays
 
-pub returns-clause-beside : goal.returns-clause-beside
-returns-clause-beside g c = laws.beside
+pub returns-clause-installs_nothing : goal.returns-clause-installs_nothing
+returns-clause-installs_nothing g c = laws.installs_nothing
+
+pub returns-clause-installed_empty : goal.returns-clause-installed_empty
+returns-clause-installed_empty g c = laws.installed_empty
 
 pub returns-clause-rewrites : goal.returns-clause-rewrites
 returns-clause-rewrites g c = laws.rewrites

@@ -72,9 +72,6 @@ returns-clause-announced_before g c = λ core event bucket r. announcing.announc
 pub returns-clause-fails : goal.returns-clause-fails
 returns-clause-fails g c = λ core n local e r. rule.fails core n local e (clause.fits core r)
 
-pub returns-clause-fails_unused : goal.returns-clause-fails_unused
-returns-clause-fails_unused g c = rule.fails_unused
-
 pub returns-clause-slots : goal.returns-clause-slots
 returns-clause-slots g c = rule.slots
 

@@ -48,6 +48,3 @@ returns-clause-installs g c = installing.installs
 
 pub returns-clause-fails : goal.returns-clause-fails
 returns-clause-fails g c = enabled.fails
-
-pub returns-clause-fails_unused : goal.returns-clause-fails_unused
-returns-clause-fails_unused g c = enabled.fails_unused

@@ -55,17 +55,17 @@ returns-clause-publish_moves g c = moves.publish_moves
 pub returns-clause-install_moves : goal.returns-clause-install_moves
 returns-clause-install_moves g c = moves.install_moves
 
+pub returns-clause-empty_moves : goal.returns-clause-empty_moves
+returns-clause-empty_moves g c = moves.empty_moves
+
 pub returns-clause-beside_moves : goal.returns-clause-beside_moves
 returns-clause-beside_moves g c = moves.beside_moves
 
 pub returns-clause-own_filled : goal.returns-clause-own_filled
-returns-clause-own_filled g c = λ v number announced. refl
+returns-clause-own_filled g c = λ create number announced. refl
 
 pub returns-clause-filled_slots : goal.returns-clause-filled_slots
-returns-clause-filled_slots g c = λ id number v announced. refl
-
-pub returns-clause-fills : goal.returns-clause-fills
-returns-clause-fills g c = says.fills
+returns-clause-filled_slots g c = λ id number create announced. refl
 
 pub returns-clause-install_goes : goal.returns-clause-install_goes
 returns-clause-install_goes g c = says.installs

@@ -3,8 +3,7 @@ use Rattle.std.proofs.Common.{◌∙◌, ap, refl, subst}
 use Rattle.thread_local_shared_buckets.specs.Known.{HasLooked}
 use Rattle.thread_local_shared_buckets.specs.Room.{IsEmpty}
 use Rattle.thread_local_shared_buckets.specs.Views.{ClaimView}
-use Rattle.thread_local_shared_buckets.proofs.Fills.{filled_already, filled_now, empty_else, stays_empty, looked_now, looked_still}
-use Rattle.thread_local_shared_buckets.proofs.Fills.{found_now, found_still}
+use Rattle.thread_local_shared_buckets.proofs.Fills.{filled_already, filled_now, empty_else, looked_now, found_now}
 use Rattle.thread_local_shared_buckets.proofs.claim.Claim.try_fill.Goals as goal
 use Rattle.thread_local_shared_buckets.proofs.claim.Claim.try_fill.Goals.{After-new-thread}
 
@@ -45,21 +44,4 @@ returns-in-Ok g c =
       learnt = looked_now new c.in-Ok.value published.learnt;
       found = found_now old new c.in-Ok.value published.learnt;
       reserved = published.reserved ∙ room.reserved;
-    }
-
-pub returns-after-block : goal.returns-after-block
-returns-after-block g c =
-    let old = c.args.self.now.learnt in
-    let new = c.room.new.self.learnt in
-    let stays =
-    stays_empty c.args.alloc c.new-thread.result.bucket old new c.in_ok-block.block
-    (empty g (goal.at.returns-after-block g c).After-new-thread)
-    c.in_ok-block.ensures.ok c.room.ensures.vacant in
-    record {
-      same_slot = c.room.ensures.same_slot;
-      ok = (stays, c.in-Err.ensures);
-      err = tt;
-      learnt = looked_still old new stays;
-      found = found_still old new stays;
-      reserved = c.room.ensures.reserved;
     }

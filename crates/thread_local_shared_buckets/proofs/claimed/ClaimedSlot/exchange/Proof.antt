@@ -1,5 +1,5 @@
 -- `exchange` lends the block for a lifetime of its own, and ends that lifetime if another block was
--- installed first. Then the claim finds its slot empty, and else it holds the block's value.
+-- installed first. Then the claim finds its slot empty, and else as it is in the block.
 use Rattle.thread_local_base.proofs.Names.{fpack, vint, w64, usize, uint_vals, uint_Tells, yes, ◌≡◌, ℕ, ◌+◌, ◌^◌}
 use Rattle.thread_local_base.proofs.Names.{false, sem, List, [], ◌∷◌, refl, sym, ap, ◌∙◌, lit<, Option, None, Some}
 use Rattle.thread_local_base.proofs.Names.{Body, a_type, Val, vptr, vcons, vnil, inst_fn, dnil, SProp, emp, via}
@@ -16,7 +16,7 @@ use Rattle.thread_local_base.proofs.Names.{block_of, count_of, at_block, InBlock
 use Rattle.thread_local_base.proofs.Names.{layout, Stays, stay_dropped, walk_of, Goes-dropped, proved, leaves, fm, RefOf, shr_vals, shr_Tells, unhide}
 use Rattle.thread_local_base.proofs.Names.{after, u64}
 use Rattle.thread_local_base.proofs.Walking.{lends_token, returns_token}
-use Rattle.std.proofs.Common.{zero, suc, ◌++◌, ◌-◌, arith, IfSome, IsSome, length, length-set, ◌*◌, ◌<◌, ◌≤◌, subst}
+use Rattle.std.proofs.Common.{zero, suc, ◌++◌, ◌-◌, arith, IfSome, length, length-set, ◌*◌, ◌<◌, ◌≤◌, subst}
 use Rattle.std.specs.Prelude.{MatchOption, slice_set}
 use Rattle.std.proofs.lemmas.List.{length-replicate}
 use seplogic.Ra.Ura.{Ura}
@@ -77,7 +77,6 @@ use Rattle.thread_local_base.specs.Fact.{fact as said_fact}
 use Rattle.thread_local_buckets.specs.contracts.block.Block as block
 use Rattle.thread_local_buckets.proofs.BlockFields as fields
 use Rattle.thread_local_ids.specs.Rights.{right_owns, reached_owns}
-use Rattle.thread_local_ids.specs.Told.{tells}
 use Rattle.thread_local_ids.specs.contracts.rights.reached.Reached as Reached
 use Rattle.thread_local_ids.proofs.ReachedElements.{reached_less}
 use Rattle.thread_local_ids.proofs.Markers.{token}
@@ -87,17 +86,17 @@ use Rattle.thread_local_shared_buckets.specs.contracts.announcements.Announced a
 use Rattle.thread_local_shared_buckets.proofs.GrownLaws.{shown_reached}
 use Rattle.thread_local_shared_buckets.specs.Shared.{name_at, BucketView, Turn, len, bucket_invariant, shown_by, grown}
 use Rattle.thread_local_shared_buckets.specs.Shared.{first as first_id}
-use Rattle.thread_local_shared_buckets.specs.Known.{found_as}
+use Rattle.thread_local_shared_buckets.specs.Known.{found_as, state_of}
 use Rattle.thread_local_shared_buckets.proofs.Loads.{glimpse}
 use Rattle.thread_local_shared_buckets.proofs.Offers as offers
 use Rattle.thread_local_shared_buckets.proofs.Offers.{with_first, parted_slots}
 use Rattle.thread_local_shared_buckets.proofs.RowFields.{word_laws}
-use Rattle.thread_local_base.specs.Learnt.{Learnt, Missing, Vacant, Holding}
+use Rattle.thread_local_base.specs.Learnt.{Learnt, Missing, Vacant}
 use Rattle.thread_local_shared_buckets.specs.Claims.{ClaimFields, claim_fields, IsOf, value_at, has, claim_owns}
 use Rattle.thread_local_shared_buckets.specs.contracts.claimed.ClaimedSlot as claim
 use Rattle.thread_local_shared_buckets.specs.contracts.claimed.ClaimedSlot.exchange.{ended, clauses}
 use Rattle.thread_local_shared_buckets.specs.contracts.claimed.ClaimedSlot.exchange.Key.{name as #self}
-use Rattle.thread_local_shared_buckets.proofs.Installs.{installs, installs_filled}
+use Rattle.thread_local_shared_buckets.proofs.Installs.{installs, installs_own}
 use Rattle.thread_local_shared_buckets.proofs.ClaimedFields.{Kept, kept_of, value_of, FieldsType, fields_of, told, made}
 use Rattle.thread_local_shared_buckets.proofs.ClaimedFields.{lies_at, spaced, spaced_is}
 use Rattle.thread_local_shared_buckets.proofs.claimed.ClaimedSlot.exchange.Statement.{statement}
@@ -116,11 +115,6 @@ fits_so 𝓛 R token p cs n long =
     qed 𝓛 (‵ (block_owns R token p cs 0) ∷ []) ∵ fsplit ! $ fpick ! (λ so. drop ! $
     check ! (subst (Fits R) long so.1) $
     nothing ! $ fpack ! (InBlock p × Fits R (length cs)) (λ _. ftrue) so $ fjoin ! $ done !)
-
--- the value of an option that has one
-some_in : {X : Type 0} (v : Option X) → IsSome v → (x : X) × (v ≡ Some x)
-some_in None has = cc
-some_in (Some x) has = (x, refl)
 
 -- the name of the slot behind these
 name_behind : (before : List ℕ) (η : ℕ) (behind : List ℕ) (i : ℕ) → length before ≡ i → name_at (before ++ (η ∷ behind)) i ≡ η
@@ -159,7 +153,7 @@ module _ {M : Type 1} {𝓤 : Ura M} (𝓛 : Logic 𝓤) (𝓜 : Model 𝓤 𝓛
       let self = plain (λ κs. claim.the_row (named_lft 4 1 tt κs) R) in let number = plain (λ _. usize) in let lot = plain (λ _. Bl) in
       let shown = RefOf (2 ∷ []) tt (plain (λ _. Reached.the_row)) (λ _. tt) in
       let known = plain (λ _. Announced.the_row) in
-      (stay_ref (0 ∷ []) tt self, (stay_dropped number yes, (stay_dropped lot no, (stay_dropped shown yes, (stay_dropped known yes, tt)))))
+      (stay_ref (0 ∷ []) tt self, (stay_dropped number yes, (stay_dropped lot no, (stay_dropped shown yes, (stay_dropped known yes, (stay_dropped number yes, tt))))))
 
   abbrev c : Clauses 𝓤 En
   c = clauses X 𝓛 𝓜.mem 𝓡.returns
@@ -237,8 +231,15 @@ module _ {M : Type 1} {𝓤 : Ura M} (𝓛 : Logic 𝓤) (𝓜 : Model 𝓤 𝓛
     abbrev Says : Type 0
     Says = (says.by ≡ h.word) × (says.bucket ≡ bucket_of h.id)
 
+    -- the number of what a look at the claim's slot in the block finds
+    abbrev sn : ℕ
+    sn = a.1.1.1.1.1.0
+
+    abbrev IsState : Type 0
+    IsState = sn ≡ state_of (found_as (slot_value x.slots h.index))
+
     abbrev Made : Type 0
-    Made = (x.left ≡ 0) × (slice_set x.slots h.index None ≡ empty_slots (2 ^ bucket_of h.id)) × IsSome (slot_value x.slots h.index)
+    Made = (x.left ≡ 0) × (slice_set x.slots h.index None ≡ empty_slots (2 ^ bucket_of h.id))
 
     abbrev w : Ptr
     w = h.bucket
@@ -253,7 +254,7 @@ module _ {M : Type 1} {𝓤 : Ura M} (𝓛 : Logic 𝓤) (𝓜 : Model 𝓤 𝓛
     i = h.index
 
     abbrev y : (walk_of 𝓛 En stayed c).Ghost
-    y = ((κs, qs, bounds, a, (vptr rb ro ∷ [], (vint w64 ix ∷ [], (bv ∷ [], (seen ∷ [], (token ∷ [], tt)))))), gh)
+    y = ((κs, qs, bounds, a, (vptr rb ro ∷ [], (vint w64 ix ∷ [], (bv ∷ [], (seen ∷ [], (token ∷ [], (vint w64 sn ∷ [], tt))))))), gh)
 
     abbrev Post : Val → SProp 𝓤
     Post = (walk_of 𝓛 En stayed c).post y
@@ -283,7 +284,7 @@ module _ {M : Type 1} {𝓤 : Ura M} (𝓛 : Logic 𝓤) (𝓜 : Model 𝓤 𝓛
           → IfSome opt (λ was. (was.heap ≡ x.heap) × (was.slots ≡ x.slots) × (was.left ≡ 0))
           → MatchOption opt (knows ≡ found_as (slot_value x.slots h.index)) (λ _. knows ≡ Vacant)
           → Seq (Go {0}) 𝓛 (‵ (flft β q) ∷ ‵ (Owned knows k pb o) ∷ ‵ (Back.own_val opt (back ∷ [])) ∷ ‵ others
-          ∷ (opened (kept_of h) ++ holding 𝓛 Ev ((21, answer pb o k back) ∷ (1, vptr rb ro) ∷ (2, vint w64 ix) ∷ [])))
+          ∷ (opened (kept_of h) ++ holding 𝓛 Ev ((22, answer pb o k back) ∷ (1, vptr rb ro) ∷ (2, vint w64 ix) ∷ [])))
           (prop (Wp 𝓤 H 𝓣.C 𝓣.Λ Ev (after 6 fn.body) (at_return 𝓤 H Ev Post)))
       ends pb o k low back held opt knows is_index close same_back learns =
           let F₁ : G.Denot → Type 0 = λ r.
@@ -332,7 +333,7 @@ module _ {M : Type 1} {𝓤 : Ura M} (𝓛 : Logic 𝓤) (𝓜 : Model 𝓤 𝓛
           } in
           move ! (4 ∷ 0 ∷ 5 ∷ 6 ∷ 7 ∷ []) $ closes ! tt G left (value_of m ∷ []) rb ro $
           feq_i ! (List Val) (vptr rb ro ∷ []) (vptr rb ro ∷ []) refl $ fjoin3 ! $
-          nothing ! $ nothing ! $ fjoin ! $ nothing ! $ fjoin ! $ nothing ! $ fjoin ! $ nothing ! $ fjoin ! $
+          nothing ! $ nothing ! $ fjoin ! $ nothing ! $ fjoin ! $ nothing ! $ fjoin ! $ nothing ! $ fjoin ! $ nothing ! $ fjoin ! $
           move ! (1 ∷ 0 ∷ []) $ fjoin ! $
           -- [what is left of the parameters; the reference's token; the token; what comes back; the other tokens]
           move ! (2 ∷ 4 ∷ []) $ fjoin ! $ move ! (2 ∷ 0 ∷ []) $ join ! $
@@ -341,7 +342,7 @@ module _ {M : Type 1} {𝓤 : Ura M} (𝓛 : Logic 𝓤) (𝓜 : Model 𝓤 𝓛
           use0 𝓛 (raw (fact 𝓤 (F₂ left))) (fact_i 𝓤 (F₂ left) (emp 𝓤) refl) $ join ! $
           use0 𝓛 (raw (fact 𝓤 (F₁ left))) (fact_i 𝓤 (F₁ left) (emp 𝓤) (refl, refl, refl, refl, refl)) $ join ! $
           returns ! (look_at ! 0 refl) $ free_all ! refl $ keep ! (1 ∷ 2 ∷ 3 ∷ 0 ∷ []) $
-          by ! (leaves 𝓛 En stayed c y back opt (left, (tt, (tt, (tt, (tt, tt))))) (tt, (tt, (tt, (tt, (tt, tt))))))
+          by ! (leaves 𝓛 En stayed c y back opt (left, (tt, (tt, (tt, (tt, (tt, tt)))))) (tt, (tt, (tt, (tt, (tt, (tt, tt)))))))
 
     abbrev pl : ClaimFields
     pl = claim_fields h.id i w h.at h.sharing h.word h.reserved
@@ -355,13 +356,13 @@ module _ {M : Type 1} {𝓤 : Ura M} (𝓛 : Logic 𝓤) (𝓜 : Model 𝓤 𝓛
 
     -- What the exchange gives, without the function's locals: the block is lent for ν beside the turn's life, whose token is
     -- borrowed from β.
-    module _ (LR : Laws R) (d : BucketView) (t : Turn) (of : IsOf R h.table pl d) (xv : X.Denot) (rest : ℕ) (many : len R d ≡ i + suc rest) (s : Share)
-        (ν : ℕ) (names : offers.Names 𝓛 R t) (so : offers.Lies 𝓛 R t LR d x.heap xv i rest many new names) where
+    module _ (LR : Laws R) (d : BucketView) (t : Turn) (of : IsOf R h.table pl d) (v : Option X.Denot) (rest : ℕ) (many : len R d ≡ i + suc rest) (s : Share)
+        (ν : ℕ) (names : offers.Names 𝓛 R t) (so : offers.Lies 𝓛 R t LR d x.heap v i rest many new names) where
       abbrev won : Ptr → Fml
-      won u = fsep (flft t.life s) (offers.won 𝓛 R t LR d x.heap xv i rest many wb (wo + 0) s nb no' ν names so u)
+      won u = fsep (flft t.life s) (offers.won 𝓛 R t LR d x.heap v i rest many wb (wo + 0) s nb no' ν names so u)
 
       abbrev lost : Ptr → Fml
-      lost u = fsep (flft t.life s) (offers.lost 𝓛 R t LR d x.heap xv i rest many wb (wo + 0) s nb no' ν names so u)
+      lost u = fsep (flft t.life s) (offers.lost 𝓛 R t LR d x.heap v i rest many wb (wo + 0) s nb no' ν names so u)
 
       abbrev lasts : Fml
       lasts = fsep (before β t.life) (finv (fbor t.life (bucket_invariant R d t wb (wo + 0))))
@@ -370,25 +371,26 @@ module _ {M : Type 1} {𝓤 : Ura M} (𝓛 : Logic 𝓤) (𝓜 : Model 𝓤 𝓛
       way_back = raw (wand 𝓤 (𝓛.A.lft t.life s) (𝓛.H.⇛ (𝓛.A.lft β q)))
 
       abbrev gained : Fml
-      gained = offers.Gained 𝓛 R t LR d x.heap xv i rest many new ν names
+      gained = offers.Gained 𝓛 R t LR d x.heap v i rest many new ν names
 
       abbrev of_block : (u : Ptr) → IsOf R h.table (claim_fields h.id i (block_ptr wb wo) u h.sharing h.word h.reserved) d
       of_block u = (tt, of.1, of.2, of.3, of.4, of.5, of.6, of.7)
 
       -- the block stands: the claim holds its value
-      won_gives : (u : Ptr)
-          → ent 𝓤 (mean 𝓛 (‵ (won u) ⊛ ‵ lasts ⊛ way_back ⊛ ‵ gained)) (mean 𝓛 (later (‵ (flft β q) ⊛ ‵ (Owned (Holding xv) 2 nb no'))))
-      won_gives u =
+      won_gives : sn ≡ state_of (found_as v) → (u : Ptr)
+          → ent 𝓤 (mean 𝓛 (‵ (won u) ⊛ ‵ lasts ⊛ way_back ⊛ ‵ gained)) (mean 𝓛 (later (‵ (flft β q) ⊛ ‵ (Owned (found_as v) sn nb no'))))
+      won_gives is_state u =
           qed 𝓛 (‵ (won u) ∷ ‵ lasts ∷ way_back ∷ ‵ gained ∷ []) ∵ updating ! $ fsplit ! $ move ! (1 ∷ []) $ fsplit ! $ move ! (1 ∷ []) $
-          rewrite ! 0 (λ (k : ℕ). ‵ (fsep (right_owns t.filled k) (tells R d.sharing k (Some xv)))) (sym of.3) refl $
+          rewrite ! 0 (λ (k : ℕ). ‵ (offers.won_by 𝓛 R t d.sharing v k)) (sym of.3) refl $
           -- [what the claim gets; the part; the life's token; the sharing lasts; the way back; what the claim had]
-          move ! (1 ∷ 3 ∷ 0 ∷ 5 ∷ []) $ group ! 4 $
-          use1 𝓛 (later (‵ (Owned (Holding xv) 2 nb no')))
-          (installs_filled 𝓛 R d t β wb wo nb no' h.id i h.sharing h.word h.reserved h.table xv names.here
-          (offers.block_as 𝓛 R t LR d x.heap xv i rest many new ν names, _) (of_block (value_at R new i)) refl
+          move ! (1 ∷ 3 ∷ 2 ∷ 0 ∷ 5 ∷ []) $ group ! 5 $
+          use1 𝓛 (later (‵ (flft t.life s) ⊛ ‵ (Owned (found_as v) (state_of (found_as v)) nb no')))
+          (installs_own 𝓛 R d t β wb wo nb no' h.id i h.sharing h.word h.reserved h.table LR v names.here s
+          (offers.block_as 𝓛 R t LR d x.heap v i rest many new ν names, _) (of_block (value_at R new i)) refl
           (name_behind names.before names.here names.behind i so.before)) $
-          await ! tt $
-          -- [the claim; the life's token; the way back]
+          await ! tt $ split ! $
+          -- [the life's token; the claim; the way back]
+          move ! (1 ∷ []) $ rewrite ! 0 (λ (k : ℕ). ‵ (Owned (found_as v) k nb no')) (sym is_state) refl $
           move ! (1 ∷ 2 ∷ []) $ returns_token ! β t.life q s $ await ! tt $ now ! $ done !
 
       abbrev IsMet : Ptr → ℕ × ℕ → Item 𝓤
@@ -396,14 +398,14 @@ module _ {M : Type 1} {𝓤 : Ura M} (𝓛 : Logic 𝓤) (𝓜 : Model 𝓤 𝓛
           (‵ (flft β q) ⊛ ‵ (Owned Vacant 1 first.0 first.1) ⊛ ‵ (Back.own_val (Some x) (back_again ∷ [])))
 
       -- another block stands: the claim finds its slot empty there, and this block is whole again
-      lost_gives : p ≡ new → x.slots ≡ with_first i xv rest → x.left ≡ 0 → (u : Ptr)
+      lost_gives : p ≡ new → x.slots ≡ with_first i v rest → x.left ≡ 0 → (u : Ptr)
           → ent 𝓤 (mean 𝓛 (‵ (lost u) ⊛ ‵ lasts ⊛ way_back)) (mean 𝓛 (later (some (IsMet u))))
       lost_gives here slots_are all_made u =
           qed 𝓛 (‵ (lost u) ∷ ‵ lasts ∷ way_back ∷ []) ∵ updating ! $ fsplit ! $ move ! (1 ∷ []) $ fsplit ! $ fsplit ! $ move ! (2 ∷ []) $
           rewrite ! 0 (λ (k : ℕ). ‵ (right_owns t.pass k)) (sym of.3) refl $
           -- [the pass; the private block; what was seen; the life's token; the sharing lasts; the way back]
           move ! (1 ∷ 2 ∷ 3 ∷ 4 ∷ 5 ∷ 0 ∷ []) $
-          use1 𝓛 (later (‵ (Block new (with_first i xv rest) 0))) (offers.take_back 𝓛 R t LR d x.heap xv i rest many new ν names so) $
+          use1 𝓛 (later (‵ (Block new (with_first i v rest) 0))) (offers.take_back 𝓛 R t LR d x.heap v i rest many new ν names so) $
           await ! tt $ move ! (1 ∷ []) $
           in_a_block ! u (glimpse 𝓛 R d t ffalse ftrue) (snd∗ 𝓤 (sem 𝓛 (said_fact (d.reserved ≡ false))) (never 𝓤)) (λ pb o found.
           fsplit ! $ fpick ! (λ zz.
@@ -415,7 +417,7 @@ module _ {M : Type 1} {𝓤 : Ura M} (𝓛 : Logic 𝓤) (𝓜 : Model 𝓤 𝓛
           -- [the life's token; the claim; nothing; the block; the way back]
           move ! (0 ∷ 4 ∷ []) $ returns_token ! β t.life q s $ await ! tt $
           -- [the token; the claim; nothing; the block]
-          move ! (3 ∷ []) $ rewrite ! 0 (λ (v : Ptr). ‵ (Block v (with_first i xv rest) 0)) (sym here) refl $
+          move ! (3 ∷ []) $ rewrite ! 0 (λ (place : Ptr). ‵ (Block place (with_first i v rest) 0)) (sym here) refl $
           rewrite ! 0 (λ (cs : List (Option X.Denot)). ‵ (Block p cs 0)) (sym slots_are) refl $
           rewrite ! 0 (λ (n : ℕ). ‵ (Block p x.slots n)) (sym all_made) refl $
           use0 𝓛 (‵ ((fields.FieldsType R Z ghosts).own_val (p, (record {}, tt)) (bv ∷ []))) (fields.made R Z ghosts 𝓛 p) $
@@ -427,7 +429,8 @@ module _ {M : Type 1} {𝓤 : Ura M} (𝓛 : Logic 𝓤) (𝓜 : Model 𝓤 𝓛
       abbrev In_arm : (ℕ → ℕ) → Fml → Val → List (Item 𝓤)
       In_arm l given_back answered =
           ‵ given_back ∷ ‵ lasts ∷ way_back ∷ ‵ others ∷ ‵ gained
-          ∷ (opened (kept_of h) ++ holding 𝓛 (Ev l) ((16, answered) ∷ (1, vptr rb ro) ∷ (2, vint w64 ix) ∷ (3, bv) ∷ (7, vptr nb no') ∷ []))
+          ∷ (opened (kept_of h)
+          ++ holding 𝓛 (Ev l) ((17, answered) ∷ (1, vptr rb ro) ∷ (2, vint w64 ix) ∷ (3, bv) ∷ (6, vint w64 sn) ∷ (8, vptr nb no') ∷ []))
 
       abbrev Goes_on : (ℕ → ℕ) → Goal 𝓤 H
       Goes_on l = prop (Wp 𝓤 H 𝓣.C 𝓣.Λ (Ev l) (after 4 fn.body) (at_return 𝓤 H (Ev l) Post))
@@ -438,29 +441,29 @@ module _ {M : Type 1} {𝓤 : Ura M} (𝓛 : Logic 𝓤) (𝓜 : Model 𝓤 𝓛
       abbrev Then : (l : ℕ → ℕ) → Post' 𝓤 H
       Then l = any_q (after_seq 𝓤 H (Wp 𝓤 H 𝓣.C 𝓣.Λ (Ev l) (after 6 fn.body) (at_return 𝓤 H (Ev l) Post)) (at_return 𝓤 H (Ev l) Post))
 
-      won_arm : (l : ℕ → ℕ) → ix ≡ h.index → i * stride R < 2 ^ 64 → slot_value x.slots h.index ≡ Some xv → (u : Ptr)
+      won_arm : (l : ℕ → ℕ) → sn < 2 ^ 64 → sn ≡ state_of (found_as v) → ix ≡ h.index → i * stride R < 2 ^ 64 → slot_value x.slots h.index ≡ v → (u : Ptr)
           → Seq (Go {0}) 𝓛 (In_arm l (won u) (calls.answer_val (Ok u))) (Goes_on l)
-      won_arm l is_index close is_value u =
+      won_arm l low is_state is_index close is_value u =
           exec ! 𝓣.C 𝓣.Λ (Ev l) (after 4 fn.body) (at_ret (Ev l) Post) $
           sets ! (of_opd ! (get ! refl)) refl (calls.answer_good (Ok u)) $
           -- [what was won; the sharing lasts; the way back; the other tokens; what the claim had]
           move ! (0 ∷ 1 ∷ 2 ∷ 4 ∷ []) $ group ! 4 $
-          use1 𝓛 (later (‵ (flft β q) ⊛ ‵ (Owned (Holding xv) 2 nb no'))) (won_gives u) $
+          use1 𝓛 (later (‵ (flft β q) ⊛ ‵ (Owned (found_as v) sn nb no'))) (won_gives is_state u) $
           await ! tt $ split ! $ let pb : ℕ = nb in let o : ℕ = no' in
           first ! $ switches_on ! (get_tag ! (vrt ! refl (fld ! refl (stop !))) (whole !)) $ exec ! 𝓣.C 𝓣.Λ (Ev l) (arm_body 0 arms) (Then l) $
           let nothing_good : Good (layout Back) (live 0 vnil) = (tt, (record { fits = lit< tt }, tt)) in
-          let three : Val = vstruct (vcons (vptr pb o) (vcons (vint w64 2) (vcons (live 0 vnil) vnil))) in
-          let triple_good : Good (layout Triple) three = (tt, (tt, (record { fits = lit< tt }, (nothing_good.1, tt)))) in
+          let three : Val = vstruct (vcons (vptr pb o) (vcons (vint w64 sn) (vcons (live 0 vnil) vnil))) in
+          let triple_good : Good (layout Triple) three = (tt, (tt, (record { fits = low }, (nothing_good.1, tt)))) in
           sets ! (of_opd ! (get ! refl)) refl (tt, tt) $
           sets ! (agg ! (and_then ! (lit ! tt) (no_more !))) refl nothing_good $
-          sets_last ! (agg ! (and_then ! (get ! refl) (and_then ! (lit ! tt) (and_then ! (get ! refl) (no_more !))))) refl
+          sets_last ! (agg ! (and_then ! (get ! refl) (and_then ! (get ! refl) (and_then ! (get ! refl) (no_more !))))) refl
           triple_good $
-          forget_but ! (Ev l) (21 ∷ 1 ∷ 2 ∷ []) refl $
+          forget_but ! (Ev l) (22 ∷ 1 ∷ 2 ∷ []) refl $
           -- [the token; the claim; the other tokens]
           use0 𝓛 (‵ (Back.own_val None (live 0 vnil ∷ []))) (none_of 𝓛 Bl) $ move ! (1 ∷ 2 ∷ []) $
-          ends l pb o 2 (lit< tt) (live 0 vnil) nothing_good None (Holding xv) is_index close tt (sym (ap found_as is_value))
+          ends l pb o sn low (live 0 vnil) nothing_good None (found_as v) is_index close tt (sym (ap found_as is_value))
 
-      lost_arm : (l : ℕ → ℕ) → p ≡ new → x.slots ≡ with_first i xv rest → x.left ≡ 0 → ix ≡ h.index → i * stride R < 2 ^ 64 → (u : Ptr)
+      lost_arm : (l : ℕ → ℕ) → p ≡ new → x.slots ≡ with_first i v rest → x.left ≡ 0 → ix ≡ h.index → i * stride R < 2 ^ 64 → (u : Ptr)
           → Seq (Go {0}) 𝓛 (In_arm l (lost u) (calls.answer_val (Err u))) (Goes_on l)
       lost_arm l e slots_are all_made is_index close u =
           exec ! 𝓣.C 𝓣.Λ (Ev l) (after 4 fn.body) (at_ret (Ev l) Post) $
@@ -488,17 +491,17 @@ module _ {M : Type 1} {𝓤 : Ura M} (𝓛 : Logic 𝓤) (𝓜 : Model 𝓤 𝓛
           sets ! (agg ! (and_then ! (lit ! tt) (and_then ! (get ! refl) (no_more !)))) refl held $
           sets_last ! (agg ! (and_then ! (get ! refl) (and_then ! (lit ! tt) (and_then ! (get ! refl) (no_more !))))) refl
           triple_good $
-          forget_but ! (Ev l) (21 ∷ 1 ∷ 2 ∷ []) refl $
+          forget_but ! (Ev l) (22 ∷ 1 ∷ 2 ∷ []) refl $
           ends l pb o 1 (lit< tt) back held (Some x) Vacant is_index close (refl, refl, all_made) refl))
 
       -- the exchange, from the function's first statement on
-      asks : Wired 𝓡.env code.code → (l : ℕ → ℕ) → h.at ≡ block_ptr wb wo → p ≡ new → x.slots ≡ with_first i xv rest → x.left ≡ 0 → ix ≡ h.index
-          → i * stride R < 2 ^ 64 → slot_value x.slots h.index ≡ Some xv
-          → Seq (Go {0}) 𝓛 ((‵ (offers.private 𝓛 R t LR d x.heap xv i rest many new ν names) ⊛ ‵ (grown d) ⊛ ‵ (right_owns t.pass (i + first_id R d)))
+      asks : Wired 𝓡.env code.code → (l : ℕ → ℕ) → sn < 2 ^ 64 → sn ≡ state_of (found_as v) → h.at ≡ block_ptr wb wo → p ≡ new → x.slots ≡ with_first i v rest → x.left ≡ 0 → ix ≡ h.index
+          → i * stride R < 2 ^ 64 → slot_value x.slots h.index ≡ v
+          → Seq (Go {0}) 𝓛 ((‵ (offers.private 𝓛 R t LR d x.heap v i rest many new ν names) ⊛ ‵ (grown d) ⊛ ‵ (right_owns t.pass (i + first_id R d)))
           ∷ ‵ lasts ∷ ‵ (finv (fbor t.life (bucket_invariant R d t wb (wo + 0)))) ∷ ‵ (flft t.life s) ∷ way_back ∷ ‵ others ∷ ‵ gained
-          ∷ (opened (kept_of h) ++ holding 𝓛 (Ev l) ((1, vptr rb ro) ∷ (2, vint w64 ix) ∷ (3, bv) ∷ [])))
+          ∷ (opened (kept_of h) ++ holding 𝓛 (Ev l) ((1, vptr rb ro) ∷ (2, vint w64 ix) ∷ (3, bv) ∷ (6, vint w64 sn) ∷ [])))
           (runs 𝓣.C 𝓣.Λ (Ev l) fn.body (at_ret (Ev l) Post))
-      asks wired l leads e slots_are all_made is_index close is_value =
+      asks wired l low is_state leads e slots_are all_made is_index close is_value =
           sets !
           (is !
           (of_opd ! (load ! (through ! refl (fld ! refl (stop !))) (look_in ! 7 (sub ! 0 refl (whole !)))))
@@ -513,7 +516,7 @@ module _ {M : Type 1} {𝓤 : Ura M} (𝓛 : Logic 𝓤) (𝓜 : Model 𝓤 𝓛
           use3 𝓛
           (raw (𝓣.C _ (vptr wb (wo + 0) ∷ vnull ∷ vptr nb no' ∷ seq_cst ∷ seq_cst ∷ [])
           (λ u. mean 𝓛 (calls.answered 𝓛 won lost u))))
-          (via 𝓤 _ (offers.offers 𝓛 R t LR d x.heap xv i rest many wb (wo + 0) s nb no' ν names so)
+          (via 𝓤 _ (offers.offers 𝓛 R t LR d x.heap v i rest many wb (wo + 0) s nb no' ν names so)
           (calls.exchanges 𝓛 𝓜 𝓡 (code.calls-std::sync::atomic::raw::ptr::compare_exchange 𝓡.env wired)
           u64 word_laws (block_ptr wb (wo + 0)) null_ptr new won lost)) $
           Calls-last ! (fm 𝓛 𝓜 𝓡) (calls.answered 𝓛 won lost)
@@ -521,27 +524,27 @@ module _ {M : Type 1} {𝓤 : Ura M} (𝓛 : Logic 𝓤) (𝓜 : Model 𝓤 𝓛
           (and_then ! (get ! refl) (and_then ! (get ! refl) (and_then ! (get ! refl) (no_more !))))))
           (λ u.
           calls.hears ! won lost
-          (λ v. lands_last ! refl (calls.answer_good (Ok v)) $ forget_but ! (Ev l) (16 ∷ 1 ∷ 2 ∷ 3 ∷ 7 ∷ []) refl $ won_arm l is_index close is_value v)
-          (λ v. lands_last ! refl (calls.answer_good (Err v)) $ forget_but ! (Ev l) (16 ∷ 1 ∷ 2 ∷ 3 ∷ 7 ∷ []) refl $
-          lost_arm l e slots_are all_made is_index close v))
+          (λ u. lands_last ! refl (calls.answer_good (Ok u)) $ forget_but ! (Ev l) (17 ∷ 1 ∷ 2 ∷ 3 ∷ 6 ∷ 8 ∷ []) refl $ won_arm l low is_state is_index close is_value u)
+          (λ u. lands_last ! refl (calls.answer_good (Err u)) $ forget_but ! (Ev l) (17 ∷ 1 ∷ 2 ∷ 3 ∷ 6 ∷ 8 ∷ []) refl $
+          lost_arm l e slots_are all_made is_index close u))
 
-    walk : Wired 𝓡.env code.code → Laws R → ix < 2 ^ 64
+    walk : Wired 𝓡.env code.code → Laws R → ix < 2 ^ 64 → sn < 2 ^ 64
         → ent 𝓤 (sep 𝓤 (on_entry 𝓛 En.signature κs qs a y.0.4) ((c κs a).requires gh))
-        (WpFn 𝓤 H 𝓣.C 𝓣.Λ fn (vptr rb ro ∷ vint w64 ix ∷ bv ∷ seen ∷ token ∷ []) Post)
-    walk wired LR fits_index =
+        (WpFn 𝓤 H 𝓣.C 𝓣.Λ fn (vptr rb ro ∷ vint w64 ix ∷ bv ∷ seen ∷ token ∷ vint w64 sn ∷ []) Post)
+    walk wired LR fits_index fits_state =
         let pl : ClaimFields = claim_fields h.id i w h.at h.sharing h.word h.reserved in
         qed 𝓛 (((‵ (flft κs.0 qs.0) ⊛ ‵ (fsep (flft β q) others)) ⊛ ‵ (owns (types_at En.signature.params κs) a y.0.4))
         ∷ raw (fact 𝓤 (Incl υ X.lives)) ∷ raw (fact 𝓤 (h.learnt ≡ Missing)) ∷ raw (fact 𝓤 (ix ≡ i))
-        ∷ raw (fact 𝓤 Made) ∷ raw (fact 𝓤 Had) ∷ raw (fact 𝓤 Says) ∷ []) ∵
-        move ! (1 ∷ 2 ∷ 3 ∷ 4 ∷ 5 ∷ 6 ∷ 0 ∷ []) $ heard ! (Incl υ X.lives) (λ alive. heard ! (h.learnt ≡ Missing) (λ gone.
-        heard ! (ix ≡ i) (λ is_index. heard ! Made (λ blank. heard ! Had (λ evident. heard ! Says (λ told_so. split ! $ split ! $ move ! (2 ∷ []) $
+        ∷ raw (fact 𝓤 Made) ∷ raw (fact 𝓤 Had) ∷ raw (fact 𝓤 Says) ∷ raw (fact 𝓤 IsState) ∷ []) ∵
+        move ! (1 ∷ 2 ∷ 3 ∷ 4 ∷ 5 ∷ 6 ∷ 7 ∷ 0 ∷ []) $ heard ! (Incl υ X.lives) (λ alive. heard ! (h.learnt ≡ Missing) (λ gone.
+        heard ! (ix ≡ i) (λ is_index. heard ! Made (λ blank. heard ! Had (λ evident. heard ! Says (λ told_so. heard ! IsState (λ is_state. split ! $ split ! $ move ! (2 ∷ []) $
         fsplit3 ! $ fsplit3 ! $ move ! (4 ∷ []) $ fsplit ! $ fsplit ! $ move ! (2 ∷ []) $ fsplit ! $ fsplit ! $
         move ! (2 ∷ []) $ fsplit ! $ fsplit ! $
         keep ! (4 ∷ 8 ∷ 9 ∷ 11 ∷ 12 ∷ 6 ∷ 1 ∷ []) $ unhide ! $ fsplit ! $ drop ! $ move ! (1 ∷ 2 ∷ 3 ∷ 4 ∷ 5 ∷ 0 ∷ []) $
-        enter ! 𝓣.C 𝓣.Λ fn (vptr rb ro ∷ vint w64 ix ∷ bv ∷ seen ∷ token ∷ []) Post $ alloc_all ! (λ l.
+        enter ! 𝓣.C 𝓣.Λ fn (vptr rb ro ∷ vint w64 ix ∷ bv ∷ seen ∷ token ∷ vint w64 sn ∷ []) Post $ alloc_all ! (λ l.
         pass_all ! {E = env (behind_first fn.locals) (λ j. l (suc j))} refl (
           (tt, tt),
-          ((tt, record { fits = fits_index }), (fields.block_good p, ((tt, tt), ((tt, (tt, tt)), tt)))),
+          ((tt, record { fits = fits_index }), (fields.block_good p, ((tt, tt), ((tt, (tt, tt)), ((tt, record { fits = fits_state }), tt))))),
         ) $
         opens ! tt G rb ro (λ ts. move ! (1 ∷ []) $ fsplit ! $
         peeks ! D (Is D) (shows 𝓛 D) (fields_of ℓ R (kept_of h)) ts (λ is_so. drop ! $
@@ -557,11 +560,10 @@ module _ {M : Type 1} {𝓤 : Ura M} (𝓛 : Logic 𝓤) (𝓜 : Model 𝓤 𝓛
         let at : w ≡ block_ptr wb wo = at_block w of.0 in
         rewrite ! 0 (λ (k : Learnt X.Denot). ‵ (has R d t β pl k)) gone refl $ fsplit ! $ fpick ! (λ leads. drop ! $
         let J : Fml = fbor t.life (bucket_invariant R d t wb (wo + 0)) in
-        let found_value : (u : X.Denot) × (slot_value x.slots h.index ≡ Some u) = some_in (slot_value x.slots h.index) blank.2 in
-        let xv : X.Denot = found_value.0 in
+        let v : Option X.Denot = slot_value x.slots h.index in
         let rest : ℕ = len R d - suc i in
         let many : len R d ≡ i + suc rest = omega (arith, of.4) in
-        let cs : List (Option X.Denot) = with_first i xv rest in
+        let cs : List (Option X.Denot) = with_first i v rest in
         let Blank : Ptr → Fml = λ u. block_owns R (ghosts.dealloc_token x.heap) u cs 0 in
         let same : bucket_of h.id ≡ d.bucket = ap bucket_of (lies_at R d h.id i of.3) ∙ (place-id_at d.bucket i of.4).0 in
         move ! (1 ∷ []) $ fsplit ! $ use1 𝓛 (‵ (before β t.life) ⊛ ‵ (before β t.life)) (before_dup 𝓛 β t.life) $ split ! $
@@ -579,7 +581,7 @@ module _ {M : Type 1} {𝓤 : Ura M} (𝓛 : Logic 𝓤) (𝓜 : Model 𝓤 𝓛
         let all_long : length x.slots ≡ len R d =
         sym (length-set x.slots i none) ∙ ap length empty_but ∙ length-replicate (len R d) none in
         let slots_are : x.slots ≡ cs =
-        parted_slots xv x.slots i (len R d) rest (omega (arith, of.4, all_long)) many empty_but found_value.1 in
+        parted_slots v x.slots i (len R d) rest (omega (arith, of.4, all_long)) many empty_but refl in
         move ! (6 ∷ []) $ rewrite ! 0 (λ (m : ℕ). ‵ (block_owns R (ghosts.dealloc_token x.heap) p x.slots m)) blank.0 refl $
         rewrite ! 0
         (λ (ys : List (Option X.Denot)). ‵ (block_owns R (ghosts.dealloc_token x.heap) p ys 0))
@@ -588,7 +590,7 @@ module _ {M : Type 1} {𝓤 : Ura M} (𝓛 : Logic 𝓤) (𝓜 : Model 𝓤 𝓛
         (fits_so 𝓛 R (ghosts.dealloc_token x.heap) p cs (len R d) (sym (ap length slots_are) ∙ all_long)) $
         learn ! (λ fits.
         let close : i * stride R < 2 ^ 64 = value_near R (len R d) i fits of.4 in
-        use1 𝓛 (given (InBlock p) (‵ (Blank p))) (offers.placed 𝓛 R t LR d x.heap xv i rest many p) $ learn ! (λ lies.
+        use1 𝓛 (given (InBlock p) (‵ (Blank p))) (offers.placed 𝓛 R t LR d x.heap v i rest many p) $ learn ! (λ lies.
         let e : p ≡ new = at_block p lies in
         rewrite ! 0 (λ (u : Ptr). ‵ (Blank u)) e refl $
         -- [the block; the sharing lasts; the invariant; the life's token; the way back; the pass; the other tokens; how many ids were
@@ -597,10 +599,10 @@ module _ {M : Type 1} {𝓤 : Ura M} (𝓛 : Logic 𝓤) (𝓜 : Model 𝓤 𝓛
         -- [one of the other tokens; the other; the block; ..]
         move ! (2 ∷ 5 ∷ 0 ∷ []) $
         use3 𝓛 (later (some (λ (y : ℕ × offers.Names 𝓛 R t).
-        given (offers.Lies 𝓛 R t LR d x.heap xv i rest many new y.1)
-        (‵ (offers.private 𝓛 R t LR d x.heap xv i rest many new y.0 y.1)
-        ⊛ ‵ (offers.Gained 𝓛 R t LR d x.heap xv i rest many new y.0 y.1) ⊛ ‵ (flft t.life s) ⊛ ‵ (flft υ r)))))
-        (offers.lend_out 𝓛 R t LR d x.heap xv i rest many s υ r alive of.1 new) $
+        given (offers.Lies 𝓛 R t LR d x.heap v i rest many new y.1)
+        (‵ (offers.private 𝓛 R t LR d x.heap v i rest many new y.0 y.1)
+        ⊛ ‵ (offers.Gained 𝓛 R t LR d x.heap v i rest many new y.0 y.1) ⊛ ‵ (flft t.life s) ⊛ ‵ (flft υ r)))))
+        (offers.lend_out 𝓛 R t LR d x.heap v i rest many s υ r alive of.1 new) $
         await ! tt $ pick ! (λ zn. learn ! (λ so. split3 ! $ move ! (2 ∷ []) $ split ! $
         -- [the life's token; the other; the private block; what its claim has; nothing; the sharing lasts; the invariant; the way back;
         -- the pass; how many ids were held; the bucket is announced]
@@ -619,8 +621,8 @@ module _ {M : Type 1} {𝓤 : Ura M} (𝓛 : Logic 𝓤) (𝓜 : Model 𝓤 𝓛
         -- [what the block shows; the private block; the sharing lasts; the invariant; the life's token; the way back; the pass; the other
         -- tokens; what its claim has]
         move ! (6 ∷ []) $ rewrite ! 0 (λ (k : ℕ). ‵ (right_owns t.pass k)) of.3 refl $ move ! (2 ∷ 1 ∷ 0 ∷ []) $ group ! 3 $
-        forget_but ! (Ev l) (1 ∷ 2 ∷ 3 ∷ []) refl $
-        asks LR d t of xv rest many s zn.0 zn.1 so wired l (leads ∙ at) e slots_are blank.0 is_index close found_value.1)))))))))))))))))
+        forget_but ! (Ev l) (1 ∷ 2 ∷ 3 ∷ 6 ∷ []) refl $
+        asks LR d t of v rest many s zn.0 zn.1 so wired l fits_state is_state (leads ∙ at) e slots_are blank.0 is_index close refl))))))))))))))))))
 
 pub exchange_spec : {M : Type 1} → statement M
 exchange_spec 𝓤 𝓛 𝓜 𝓡 wired X L =
@@ -633,7 +635,10 @@ exchange_spec 𝓤 𝓛 𝓜 𝓡 wired X L =
           Goes-dropped 𝓛 4 (plain (λ _. Bl 𝓛 𝓜 𝓡 X)) no (λ κs x f. refl),
           (
             Goes-dropped 𝓛 4 (RefOf (2 ∷ []) tt (plain (λ _. Reached.the_row)) (λ _. tt)) yes (λ κs x f. refl),
-            (Goes-dropped 𝓛 4 (plain (λ _. Announced.the_row)) yes (λ κs x f. refl), tt),
+            (
+              Goes-dropped 𝓛 4 (plain (λ _. Announced.the_row)) yes (λ κs x f. refl),
+              (Goes-dropped 𝓛 4 number yes (λ κs x f. refl), tt),
+            ),
           ),
         ),
       ),
@@ -641,7 +646,7 @@ exchange_spec 𝓤 𝓛 𝓜 𝓡 wired X L =
     (#self (bounded (a_type ∷ []) (X, tt) dnil)) (fn 𝓛 𝓜 𝓡 X) (code.unfolded 𝓤 𝓛.H 𝓜 𝓡 wired (X, tt))
     (λ κs. (
       mut_vals,
-      (uint_vals w64, ((λ x. fields.block_val x.at ∷ []), (shr_vals, ((λ x. token ∷ []), tt)))),
+      (uint_vals w64, ((λ x. fields.block_val x.at ∷ []), (shr_vals, ((λ x. token ∷ []), (uint_vals w64, tt))))),
     ))
     (λ κs. (
       mut_Tells (named 0) κs.0 (claim.the_row (named_lft 4 1 tt κs) (param 0 X)),
@@ -649,8 +654,8 @@ exchange_spec 𝓤 𝓛 𝓜 𝓡 wired X L =
         uint_Tells w64,
         (
           (λ x vs so. fields.told (param 0 X) heap.the_row ghosts x.at vs so.0),
-          (shr_Tells (named 2) κs.1.1.0 Reached.the_row, ((λ x vs so. token_told (Announced.the_type).name vs so.0), tt)),
+          (shr_Tells (named 2) κs.1.1.0 Reached.the_row, ((λ x vs so. token_told (Announced.the_type).name vs so.0), (uint_Tells w64, tt))),
         ),
       ),
     ))
-    (λ κs qs bounds a gh are. walk 𝓛 𝓜 𝓡 X κs qs bounds a gh wired (param_laws 0 X L) are.1.0.1)
+    (λ κs qs bounds a gh are. walk 𝓛 𝓜 𝓡 X κs qs bounds a gh wired (param_laws 0 X L) are.1.0.1 are.1.1.1.1.1.0.1)
