@@ -1,6 +1,6 @@
 //! The places of ids, at both ends of the range and between.
 use crate::same::assert_same;
-use thread_local_base::{Thread, bucket_size};
+use thread_local_base::Thread;
 
 #[test]
 fn places_of_ids(rt: HostRuntime) {
@@ -26,7 +26,7 @@ fn places_of_ids(rt: HostRuntime) {
             (
                 thread.bucket,
                 thread.index,
-                bucket_size(thread.bucket),
+                thread.bucket_size(),
                 thread.id(),
             ),
             (bucket, index, size, id),
