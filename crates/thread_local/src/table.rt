@@ -138,8 +138,9 @@ impl<T> ThreadLocal<T> {
     /// `Local::is_reserved` says of a `Local` whether its slot is one of them.
     ///
     /// `TooLarge` means that the capacity is 2^63 or more, and comes before memory is asked for.
-    /// `Memory` means out of memory, for ids beyond the first 64 or for a bucket; what was obtained
-    /// before is freed, though no clause says so. Rust's crate panics where this refuses.
+    /// `Memory` means out of memory, for ids beyond the first 64 or for a bucket: it asks for the
+    /// room for ids first, and then for the buckets, from bucket 0 up. What was obtained before is
+    /// freed, though no clause says so. Rust's crate panics where this refuses.
     pub fn with_capacity(alloc: Global, capacity: usize) -> Result<ThreadLocal<T>, CapacityError>
     where
         T: Drop + Send,
@@ -151,8 +152,9 @@ impl<T> ThreadLocal<T> {
         ensures too_large { 2 ^ 63 ≤ capacity → result ≡ Err CapacityError.TooLarge }
         ensures not_too_large { result ≡ Err CapacityError.TooLarge → 2 ^ 63 ≤ capacity }
     {
-        let buckets = Buckets::with_capacity(alloc, capacity)?;
+        CapacityError::check(capacity)?;
         let ids = SharedIds::with_room(alloc, capacity)?;
+        let buckets = Buckets::with_capacity(alloc, capacity)?;
         Ok(ThreadLocal::of(alloc, buckets, ids))
     }
 

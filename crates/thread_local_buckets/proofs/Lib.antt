@@ -24,7 +24,7 @@ mod DrainLaws
 mod EntriesLaws
 mod Refilling
 mod Reserving
-mod Descending
+mod Filling
 mod Frames
 mod Reading
 mod Shapes

@@ -1,6 +1,6 @@
 //! The buckets of a table in the hands of their exclusive owner: each bucket stands or doesn't, and
 //! each slot has a value or none.
-ghost use Rattle.std.specs.Prelude.{◌≡◌, ℕ, ◌^◌, ◌<◌, ◌≤◌, nat_lt, true, false, Option, Err, OnErr};
+ghost use Rattle.std.specs.Prelude.{◌≡◌, ℕ, ◌^◌, ◌<◌, ◌≤◌, nat_lt, true, false, Option, Err, OnErr, OnOk};
 ghost use Rattle.std.specs.Prelude.{IfOk, IfErr, unwrap_or, Some, MatchOption, ◌==◌, if◌then◌else◌};
 ghost use Rattle.std.specs.Borrow.{sem};
 ghost use Rattle.thread_local_base.specs.Place.{id_at};
@@ -30,6 +30,20 @@ pub enum CapacityError {
     TooLarge,
     /// Out of memory: for a bucket or, where a whole table is made, for the bits of its ids.
     Memory(AllocError),
+}
+
+impl CapacityError {
+    /// Refuses a capacity of 2^63 or more as `TooLarge`, and no other.
+    pub fn check(capacity: usize) -> Result<(), CapacityError>
+        ensures ok { OnOk result (capacity < 2 ^ 63) }
+        ensures err { OnErr result (2 ^ 63 ≤ capacity) }
+        ensures too_large { IfErr result (λ error. error ≡ CapacityError.TooLarge) }
+    {
+        if capacity >= 1 << 63 {
+            return Err(CapacityError::TooLarge);
+        }
+        Ok(())
+    }
 }
 
 /// The buckets of a table in the hands of their exclusive owner: a map from ids to values.
@@ -82,8 +96,8 @@ impl<T> Buckets<T> {
         }
     }
 
-    /// Makes the first buckets, one for each binary digit of the capacity, and reserves their
-    /// slots. No slot has a value.
+    /// Makes the first buckets, one for each binary digit of the capacity, from bucket 0 up, and
+    /// reserves their slots. No slot has a value.
     ///
     /// `TooLarge` means a capacity of 2^63 or more, and comes before memory is asked for. `Memory`
     /// means out of memory for a bucket; those made before it are freed, though no clause says so.
@@ -98,14 +112,11 @@ impl<T> Buckets<T> {
         ensures too_large { 2 ^ 63 ≤ capacity → result ≡ Err CapacityError.TooLarge }
         ensures not_too_large { result ≡ Err CapacityError.TooLarge → 2 ^ 63 ≤ capacity }
     {
-        if capacity >= 1 << 63 {
-            return Err(CapacityError::TooLarge);
-        }
+        CapacityError::check(capacity)?;
         let first = digits(capacity);
         let mut pointers = BucketPointers::new(alloc);
-        // The largest bucket first: where its memory can't be had, no work is done for the others.
-        for made in 0..first {
-            pointers.ensure_bucket(first - 1 - made)?;
+        for bucket in 0..first {
+            pointers.ensure_bucket(bucket)?;
         }
         Ok(Buckets {
             pointers,

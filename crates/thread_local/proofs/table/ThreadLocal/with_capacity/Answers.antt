@@ -1,14 +1,13 @@
 use Rattle.std.proofs.Common.{◌∙◌, ℕ, ◌<◌, ◌≤◌, ◌-◌, ◌^◌, sym, subst, lit<, arith}
-use Rattle.std.proofs.Math.Nat.{lt_of_not-le, min-eq_left}
+use Rattle.std.proofs.Math.Nat.{min-eq_left}
 use Rattle.std.specs.Prelude.{min}
 use Rattle.thread_local.proofs.Told.{ok_not_err}
 use Rattle.thread_local.proofs.table.ThreadLocal.with_capacity.Goals as goal
 use Rattle.thread_local.proofs.Grown.{grown_with_capacity}
 
 -- room for as many ids as a capacity that isn't too large, or for all, is room for the capacity
-fits : (capacity room : ℕ) → (2 ^ 63 ≤ capacity → ⊥) → min capacity (2 ^ 63 - 1) ≤ room → capacity ≤ room
-fits capacity room large least =
-    let small : capacity < 2 ^ 63 = lt_of_not-le large in
+fits : (capacity room : ℕ) → capacity < 2 ^ 63 → min capacity (2 ^ 63 - 1) ≤ room → capacity ≤ room
+fits capacity room small least =
     let low : capacity ≤ 2 ^ 63 - 1 = omega (arith, small) in
     subst (λ (n : ℕ). n ≤ room) (min-eq_left low) least
 
@@ -16,17 +15,10 @@ fits capacity room large least =
 pub of-requires : goal.of-requires
 of-requires g c = (lit< tt, (lit< tt, (c.requires.judged, c.in_ok-ids.ensures.new)))
 
-pub returns-clause-too_large : goal.returns-clause-too_large
-returns-clause-too_large g c = λ large. absurd (ok_not_err (c.in_ok-buckets.ensures.too_large large))
-
-pub returns-in_err-ids-clause-too_large : goal.returns-in_err-ids-clause-too_large
-returns-in_err-ids-clause-too_large g c = λ large. absurd (ok_not_err (c.in_ok-buckets.ensures.too_large large))
-
 pub returns-clause-room : goal.returns-clause-room
 returns-clause-room g c =
     subst (λ (room : ℕ). c.args.capacity ≤ room) (sym c.of.ensures.room)
-    (fits c.args.capacity c.in_ok-ids.ids.3.ids (λ large. ok_not_err (c.in_ok-buckets.ensures.too_large large))
-    c.in_ok-ids.ensures.room)
+    (fits c.args.capacity c.in_ok-ids.ids.3.ids c.in_ok-check.ensures.ok c.in_ok-ids.ensures.room)
 
 pub returns-clause-not_too_large : goal.returns-clause-not_too_large
 returns-clause-not_too_large g c = λ told. absurd (ok_not_err told)
