@@ -9,29 +9,17 @@ use std::sync::atomic::AtomicU32;
 use std::sync::atomic::Ordering::SeqCst;
 use std::test::Fail;
 use std::thread;
-use std::thread::{Threads, yield_now};
+use std::thread::Threads;
 use thread_local::ThreadLocal;
 use thread_local::local::Local;
 use thread_local_base::LocalError;
-use thread_local_test_helpers::signals::LOOKS;
+use thread_local_test_helpers::signals::passes;
 
 /// How many walks are made beside a race at most.
 const WALKS: u32 = 100_000;
 
 /// How many threads race.
 const RACERS: u32 = 64;
-
-/// Comes to a gate, and waits until all racers have. Answers false where it gives up.
-fn passes(gate: &AtomicU32) -> bool {
-    gate.fetch_add(1, SeqCst);
-    for _ in 0..LOOKS {
-        if gate.load(SeqCst) >= RACERS {
-            return true;
-        }
-        yield_now();
-    }
-    false
-}
 
 /// Publishes a number once all racers are there, and counts that it did.
 fn publish_together<R: Wait>(
@@ -41,7 +29,7 @@ fn publish_together<R: Wait>(
     published: &AtomicU32,
 ) {
     let mut local = local;
-    if passes(gate) && local.get_or(|| number).is_ok() {
+    if passes(gate, RACERS) && local.get_or(|| number).is_ok() {
         published.fetch_add(1, SeqCst);
     }
 }

@@ -247,6 +247,18 @@ fn out_of_memory_never_stands_for_a_capacity_that_is_too_large(rt: HostRuntime) 
     assert!(rt; matches!(too_large, Err(CapacityError::TooLarge)));
 }
 
+// No machine gives room for all ids, so the call is refused at its first request. The second request
+// is the test's own: the call asks for no bucket.
+#[test]
+fn the_room_for_ids_is_asked_for_before_any_bucket(rt: HostRuntime) -> Result<(), Fail> {
+    let refused = ThreadLocal::<u64>::with_capacity(rt.alloc(), 9223372036854775807);
+    assert!(rt; matches!(refused, Err(CapacityError::Memory(_))));
+    if Vec::<u64>::with_capacity(rt.alloc(), 1).is_err() {
+        println!(rt; "refused: next")?;
+    }
+    Ok(())
+}
+
 /// Which of four `Local`s that are held at once aren't refused memory when they publish.
 fn four_held_publish<R: Wait + Print>(
     table: &ThreadLocal<u32>,

@@ -30,3 +30,16 @@ fn a_refused_capacity_says_so(rt: HostRuntime) -> Result<(), Fail> {
     }
     Ok(())
 }
+
+// The last bucket of this capacity would have 2^58 bytes, so it is refused with no request. Buckets
+// are asked for from bucket 0 up, so the first request is the call's: else it would be the test's
+// own.
+#[test]
+fn the_last_bucket_of_a_capacity_is_not_asked_for_first(rt: HostRuntime) -> Result<(), Fail> {
+    let refused = Buckets::<[u64; 8192]>::with_capacity(rt.alloc(), (1 << 43) - 1);
+    assert!(rt; matches!(refused, Err(CapacityError::Memory(_))));
+    if Vec::<u64>::with_capacity(rt.alloc(), 1).is_err() {
+        println!(rt; "refused: next")?;
+    }
+    Ok(())
+}
