@@ -9,39 +9,41 @@ use std::thread::yield_now;
 /// How often a thread looks for another's signal before it gives up.
 const LOOKS: u64 = 100_000_000;
 
-/// After each so many looks a thread lets others run. A yield after each look would take minutes
-/// where nobody gives the signal.
-const STRETCH: u64 = 1024;
-
-/// Lets other threads run, after the first look of each stretch.
-fn yield_after(look: u64) {
-    if look % STRETCH == 0 {
+/// Lets time pass after a look: the thread yields, or goes on after a moment or at once. It yields
+/// after each of the first looks, and then ever more seldom: a hundred million yields would take
+/// half a minute, and far longer where the processors are busy. `next` is the look after which it
+/// yields next.
+fn pass_time(look: u64, next: &mut u64) {
+    if look >= *next {
         yield_now();
+        *next = look.saturating_add(look / 128).saturating_add(1);
+    } else if look % 2 == 0 {
+        spin_loop();
     }
 }
 
-/// Looks for a signal until it is given, or gives up. Answers whether it was seen. A moment passes
-/// between two looks, so that the other thread has a second or more.
+/// Looks for a signal until it is given, or gives up. Answers whether it was seen.
 pub fn is_seen(signal: &AtomicBool) -> bool {
+    let mut next = 0;
     for look in 0..LOOKS {
         if signal.load(SeqCst) {
             return true;
         }
-        yield_after(look);
-        spin_loop();
+        pass_time(look, &mut next);
     }
     false
 }
 
 /// Comes to a gate, and looks until so many threads have come, or gives up. Answers whether they
-/// have. No moment passes between two looks, since all that wait there take turns.
+/// have.
 pub fn passes(gate: &AtomicU32, threads: u32) -> bool {
     gate.fetch_add(1, SeqCst);
+    let mut next = 0;
     for look in 0..LOOKS {
         if gate.load(SeqCst) >= threads {
             return true;
         }
-        yield_after(look);
+        pass_time(look, &mut next);
     }
     false
 }
