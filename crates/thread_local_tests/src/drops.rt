@@ -141,6 +141,22 @@ fn are_made_and_dropped(alloc: Global, count: u64) -> bool {
     true
 }
 
+// Where 1 GiB can be had, the table's largest buckets are refused, and those before them take half of
+// it and more. Where they weren't freed, the block at the end wouldn't be had.
+#[test]
+fn a_refused_capacity_frees_its_buckets(rt: HostRuntime) {
+    let taken = take_all_but(rt.alloc(), 1 << 30).expect(&rt, "memory for the list");
+    assert!(rt; is_refused_and_freed(rt.alloc()));
+    drop(taken);
+}
+
+/// Whether a table is refused, and three quarters of a GiB are had then.
+fn is_refused_and_freed(alloc: Global) -> bool {
+    judge_sync::<[u64; 512]>();
+    let refused = ThreadLocal::<[u64; 512]>::with_capacity(alloc, (1 << 20) - 1).is_err();
+    refused && Vec::<u8>::with_capacity(alloc, 3 << 28).is_ok()
+}
+
 /// Publishes a value in a table of its own, and drops the table. Answers whether the table had one
 /// value. At a type with references in it the check doesn't find that `new` is given a judged type,
 /// but in a function that is generic as this one it does.
