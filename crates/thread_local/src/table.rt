@@ -6,7 +6,9 @@ ghost use Rattle.std.specs.Prelude.{Option, true, false, None, Some, Err, alloc_
 ghost use Rattle.std.specs.List.Sorted.{IsStrictlyIncreasing};
 ghost use Rattle.thread_local_base.specs.Capacity.{reserved_slots};
 ghost use Rattle.thread_local_buckets.specs.IterMut.{iter_mut_given, entries_mut_given, entries_mut_rest};
+ghost use Rattle.thread_local_base.specs.Buckets.{values};
 ghost use Rattle.thread_local_base.specs.Judged.{Judged};
+ghost use Rattle.thread_local_base.specs.Walk.{walk};
 ghost use Rattle.thread_local_base.specs.Held.{least, held_count, HoldsAllBelow};
 ghost use Rattle.thread_local_base.specs.IdMoves.{Take, held_after, noted};
 ghost use mathlib.Core.List.{IsPrefix};
@@ -305,6 +307,28 @@ impl<T> ThreadLocal<T> {
         (Buckets::from_parts(pointers, reserved), book)
     }
 
+    /// The values by ascending id, each moved out, with the book of the sharing that ends: the walk
+    /// that a loop over the table makes, which is this one without its book. The ids are dropped.
+    #[inline]
+    pub fn into_iter_and_book(self) -> (IntoIter<T>, Book<T>)
+    where
+        T: Drop,
+        ensures walk { result.0 ≡ walk (values result.1.contents) }
+        ensures sharing { result.1.sharing ≡ self.sharing }
+    {
+        // Taken apart here, so that the pointers are copied once.
+        let Self {
+            buckets,
+            ids: _,
+            table_right: _,
+            first: _,
+            room: _,
+            alloc: _,
+        } = self;
+        let (pointers, reserved, book) = buckets.into_parts();
+        (Buckets::from_parts(pointers, reserved).into_iter(), book)
+    }
+
     /// Begins another sharing of the same buckets, with a name: an owner who has the table alone
     /// ends the one before. Ids and values stay.
     pub fn renew(&mut self)
@@ -440,17 +464,9 @@ impl<T: Drop> IntoIterator for ThreadLocal<T> {
     type IntoIter = IntoIter<T>;
 
     /// The values by ascending id, each moved out. A walk that is dropped early drops the rest.
+    #[inline]
     fn into_iter(self) -> IntoIter<T> {
-        let Self {
-            buckets,
-            ids: _,
-            table_right: _,
-            first: _,
-            room: _,
-            alloc: _,
-        } = self;
-        let (pointers, reserved, _) = buckets.into_parts();
-        Buckets::from_parts(pointers, reserved).into_iter()
+        self.into_iter_and_book().0
     }
 }
 

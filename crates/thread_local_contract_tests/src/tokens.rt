@@ -14,7 +14,7 @@ use thread_local::ThreadLocal;
 use thread_local::local::{Local, SetError};
 use thread_local_base::{Judge, Thread, judge_sync};
 use thread_local_buckets::Buckets;
-use thread_local_ids::Token;
+use thread_local_ids::{Book, Token};
 use thread_local_shared_buckets::Tokens;
 
 /// Publishes a value with a new `Local`, and answers a token of what the slot holds.
@@ -80,6 +80,16 @@ fn owned<T>(table: ThreadLocal<T>, one: &Token<T>, other: &Token<T>) -> Buckets<
     book.tells(one);
     book.tells(other);
     buckets
+}
+
+/// What a token says is what the book has a token of.
+fn told_again<T>(book: &Book<T>, token: &Token<T>) -> Token<T>
+    requires sharing { token.now.sharing ≡ book.now.sharing }
+    requires named { IsSome book.now.sharing }
+    ensures { result ≡ token.now }
+{
+    book.tells(token);
+    book.token(token.id())
 }
 
 /// What an owner's buckets hold at a token's id.
@@ -261,6 +271,21 @@ fn threads_read_each_other_by_tokens(rt: HostRuntime) {
         (answers, ids, owned),
         (((5, 3), (true, true)), (0, 1), (Some(3), Some(5))),
     );
+}
+
+/// The id that a book tells once more, and what the walk beside it gives first.
+fn told_again_and_first(table: ThreadLocal<u32>, token: &Token<u32>) -> (usize, Option<u32>)
+    requires { (token.now.sharing ≡ table.sharing) × IsSome table.sharing }
+{
+    let (mut walk, book) = table.into_iter_and_book();
+    (told_again(&book, token).id(), walk.next())
+}
+
+#[test]
+fn a_book_tells_what_a_token_told(rt: HostRuntime) {
+    let table = ThreadLocal::<u32>::new(rt.alloc());
+    let token = told(&table, &rt, 8).expect(&rt, "a token");
+    assert_same(&rt, told_again_and_first(table, &token), (0, Some(8)));
 }
 
 // What a `Local` of another thread has by a token, and then one beside another, with the other's id.

@@ -472,23 +472,30 @@ module _ {M : Type 1} {𝓤 : Ura M} (𝓛 : Logic 𝓤) (R : RattleType) (L : L
   IsLent s y = Judged R × (y.reserved ≡ s.reserved) × IsOwned y
 
   abbrev pub Lies : TableView → ℕ → ℕ → Owner.Denot → SProp 𝓤
-  Lies s b o y = guard 𝓤 (IsLent s y) (⟦ part_at Owner full_share y b o ⟧ ∗ ⟦ AllGrown s y ⟧)
+  Lies s b o y =
+      guard 𝓤 (IsLent s y) (⟦ part_at Owner full_share y b o ⟧ ∗ ⟦ AllGrown s y ⟧ ∗ ⟦ book_owns R s.sharing y.contents ⟧)
 
-  pub lies_plain : (s : TableView) (b o : ℕ) → ⟦ part_at Row full_share s b o ⟧ ⊢ H.⇛ (ex 𝓤 (Lies s b o))
+  pub lies_told : (s : TableView) (b o : ℕ) → ⟦ part_at Row full_share s b o ⟧ ⊢ H.⇛ (ex 𝓤 (Lies s b o))
   unfolding part_of
-  lies_plain s b o = qed 𝓛 (‵ (part_at Row full_share s b o) ∷ []) ∵ updating ! $ fpick ! (λ vs. fsplit3 ! $ move ! (2 ∷ []) $
+  lies_told s b o = qed 𝓛 (‵ (part_at Row full_share s b o) ∷ []) ∵ updating ! $ fpick ! (λ vs. fsplit3 ! $ move ! (2 ∷ []) $
       use1 𝓛 (later (some (λ (y : Owner.Denot).
       given (Judged R × (y.reserved ≡ s.reserved)) (‵ (Owner.own_val y vs) ⊛ ‵ (AllTold s y) ⊛ ‵ (Shown s y)))))
       (turns_plain s vs) $
       await ! tt $ pick ! (λ y. learn ! (λ so. split3 ! $
       use1 𝓛 (given (IsOwned y) (‵ (Owner.own_val y vs))) (fit_together y vs) $ learn ! (λ owned.
       -- [the buckets; what is told of them; what they show; the memory]
+      move ! (1 ∷ []) $
+      use1 𝓛 (later (‵ (rows_tell R s.sharing 0 y.contents.rows)))
+      (via 𝓤 _ (rows_end 𝓛 R s.sharing 0 y.contents.rows) (basic 𝓛 ⟦ rows_tell R s.sharing 0 y.contents.rows ⟧)) $
+      await ! tt $ nothing ! $ fpack ! (IsTable y.contents) (λ _. ftrue) owned.table $ fjoin ! $ move ! (1 ∷ 0 ∷ 2 ∷ 3 ∷ []) $
+      -- [the buckets; the book; what they show; the memory]
       move ! (3 ∷ 0 ∷ []) $ fjoin ! $
       fpack ! (List Val) (λ us. fsep (cell_at full_share Owner.mir us b o) (Owner.own_val y us))
       vs $
       use0 𝓛 (later (‵ new_rights)) (via 𝓤 _ (rights_new 𝓛) (basic 𝓛 _)) $ await ! tt $
+      -- [new rights; the memory; the book; what they show]
       move ! (3 ∷ 0 ∷ []) $ fjoin ! $
-      now ! $ show ! (Lies s b o) y $ check ! (so.0, so.1, owned) $ keep ! (1 ∷ 0 ∷ []) $ done !))))
+      now ! $ show ! (Lies s b o) y $ check ! (so.0, so.1, owned) $ keep ! (1 ∷ 0 ∷ 2 ∷ []) $ done !))))
 
   pub lies_shared : (s : TableView) (w : Owner.Denot) → IsLent s w → (b o : ℕ) (y : Owner.Denot)
       → ⟦ part_at Owner full_share y b o ⟧ ∗ ⟦ AllGrown s w ⟧ ⊢ ⟦ part_at Row full_share (view_with s w y) b o ⟧

@@ -1,5 +1,7 @@
 //! What single `Local`s of numbers find and publish, and what an owner's walk lends.
 
+ghost use Rattle.std.specs.Prelude.{IsSome};
+
 use std::alloc::Global;
 use std::mem::forget;
 use std::sync::Wait;
@@ -7,7 +9,9 @@ use thread_local::ThreadLocal;
 use thread_local::local::Local;
 
 /// A table of numbers.
-pub fn numbers(alloc: Global) -> ThreadLocal<u32> {
+pub fn numbers(alloc: Global) -> ThreadLocal<u32>
+    ensures { IsSome result.sharing }
+{
     ThreadLocal::new(alloc)
 }
 

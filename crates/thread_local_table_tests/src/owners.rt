@@ -1,16 +1,20 @@
-//! What an owner finds in the buckets that a table lends.
-ghost use Rattle.std.specs.Prelude.{◌≡◌, true, length, sum};
+//! What an owner finds in a table and in the buckets that it lends.
+ghost use Rattle.std.specs.Prelude.{◌≡◌, ◌≢◌, [], true, All, IfSome, IsPermutation, IsSome, length, map, sum};
+ghost use Rattle.std.specs.List.{AllPairs};
 ghost use Rattle.thread_local_base.specs.Buckets.{values};
 ghost use Rattle.thread_local_base.specs.Walk.{walk};
+ghost use Rattle.thread_local_buckets.specs.Drain.{drain_rest};
 ghost use Rattle.thread_local_buckets.specs.IterMut.{iter_mut_rest};
 
 use crate::locals::{lends, numbers, publish_and_forget, published_by_another};
 use crate::same::assert_same;
 use std::alloc::{AllocError, Global};
+use std::sync::Wait;
 use std::test::Fail;
 use thread_local::ThreadLocal;
+use thread_local::table::Token;
 use thread_local_base::Thread;
-use thread_local_buckets::{Buckets, IterMut};
+use thread_local_buckets::{Buckets, Drain, IntoIter, IterMut};
 
 /// How many values a walk lends, and their sum.
 fn lent(walk: IterMut<'_, u32>) -> (usize, u128)
@@ -247,4 +251,149 @@ fn an_owner_reaches_a_value_by_its_id(rt: HostRuntime) -> Result<(), Fail> {
         ([Ok(30), Err(40), Err(40), Err(40)], Ok(40), true, (1, 50)),
     );
     Ok(())
+}
+
+/// A walk by value gives the values of the tokens, where there are as many.
+fn walked<T: Drop>(table: ThreadLocal<T>, tokens: &[Token<T>]) -> Option<IntoIter<T>>
+    requires sharing { All (λ token. token.sharing ≡ table.sharing) tokens.now }
+    requires named { IsSome table.sharing }
+    requires different { AllPairs (λ one other. one.id ≢ other.id) tokens.now }
+    ensures { IfSome result (λ walked. IsPermutation (map (λ token. token.value) tokens.now) walked) }
+{
+    let (walked, book) = table.into_iter_and_book();
+    if walked.len() != tokens.len() {
+        return None;
+    }
+    book.tells_all(tokens);
+    Some(walked)
+}
+
+/// So does a drain.
+fn drained_as_told<'a, T: Drop>(
+    table: &'a mut ThreadLocal<T>,
+    tokens: &[Token<T>],
+) -> Option<Drain<'a, T>>
+    requires sharing { All (λ token. token.sharing ≡ table.old.sharing) tokens.now }
+    requires named { IsSome table.old.sharing }
+    requires different { AllPairs (λ one other. one.id ≢ other.id) tokens.now }
+    ensures { IfSome result (λ drain.
+        IsPermutation (map (λ token. token.value) tokens.now) (drain_rest drain)) }
+{
+    let (buckets, book) = table.buckets_mut_and_book();
+    let drain = buckets.drain();
+    if drain.len() != tokens.len() {
+        return None;
+    }
+    book.tells_all(tokens);
+    Some(drain)
+}
+
+/// And a walk that lends them for writing.
+fn lent_as_told<'a, T>(table: &'a mut ThreadLocal<T>, tokens: &[Token<T>]) -> Option<IterMut<'a, T>>
+    requires sharing { All (λ token. token.sharing ≡ table.old.sharing) tokens.now }
+    requires named { IsSome table.old.sharing }
+    requires different { AllPairs (λ one other. one.id ≢ other.id) tokens.now }
+    ensures { IfSome result (λ walk.
+        IsPermutation (map (λ token. token.value) tokens.now) (iter_mut_rest walk)) }
+{
+    let (buckets, book) = table.buckets_mut_and_book();
+    let walk = buckets.iter_mut();
+    if walk.len() != tokens.len() {
+        return None;
+    }
+    book.tells_all(tokens);
+    Some(walk)
+}
+
+/// Writes 0 over each value that a walk lends, and answers the sum of those that stood there.
+fn zeroed(walk: IterMut<'_, u32>) -> u128
+    ensures { result ≡ sum (iter_mut_rest walk.entry) }
+{
+    // So the count fits.
+    let _ = walk.len();
+    let mut total = 0u128;
+    for value in walk {
+        total += u128::from(*value);
+        *value = 0;
+    }
+    total
+}
+
+/// So an owner says which values it changed: they are those of the tokens.
+fn zeroed_as_told(table: &mut ThreadLocal<u32>, tokens: &[Token<u32>]) -> Option<u128>
+    requires sharing { All (λ token. token.sharing ≡ table.old.sharing) tokens.now }
+    requires named { IsSome table.old.sharing }
+    requires different { AllPairs (λ one other. one.id ≢ other.id) tokens.now }
+    ensures { IfSome result (λ total. total ≡ sum (map (λ token. token.value) tokens.now)) }
+{
+    Some(zeroed(lent_as_told(table, tokens)?))
+}
+
+/// A table whose slots were cleared in one loan gives nothing in that loan.
+fn emptied<T: Drop>(table: &mut ThreadLocal<T>) -> IterMut<'_, T>
+    ensures { iter_mut_rest result ≡ [] }
+{
+    let buckets = table.buckets_mut();
+    buckets.clear();
+    buckets.iter_mut()
+}
+
+// Two `Local`s that are held at once publish a number each. Answers the tokens.
+fn two_told<R: Wait>(
+    table: &ThreadLocal<u32>,
+    rt: &R,
+    first: u32,
+    second: u32,
+) -> Option<(Token<u32>, Token<u32>)>
+    ensures sharing { IfSome result (λ told.
+        (told.0.sharing ≡ table.now.sharing) × (told.1.sharing ≡ table.now.sharing)) }
+    ensures different { IfSome result (λ told. told.0.id ≢ told.1.id) }
+{
+    let mut one = table.local(rt).ok()?;
+    let mut other = table.local(rt).ok()?;
+    one.apart(&mut other);
+    Some((one.publish(first).ok()?, other.publish(second).ok()?))
+}
+
+// The sum of two numbers that an owner writes 0 over, and whether these lie there then.
+fn zeroed_of_two<R: Wait>(alloc: Global, rt: &R) -> Option<(Option<u128>, bool)> {
+    let mut table = numbers(alloc);
+    let (one, other) = two_told(&table, rt, 7, 8)?;
+    let total = zeroed_as_told(&mut table, &[one, other]);
+    Some((total, lends(&mut table, &[0, 0])))
+}
+
+// How many values a drain gives, where two are told.
+fn drained_of_two<R: Wait>(alloc: Global, rt: &R) -> Option<usize> {
+    let mut table = numbers(alloc);
+    let (one, other) = two_told(&table, rt, 7, 8)?;
+    Some(drained_as_told(&mut table, &[one, other])?.len())
+}
+
+// How many a walk by value gives.
+fn walked_of_two<R: Wait>(alloc: Global, rt: &R) -> Option<usize> {
+    let table = numbers(alloc);
+    let (one, other) = two_told(&table, rt, 7, 8)?;
+    Some(walked(table, &[one, other])?.len())
+}
+
+// How many are left in a cleared table, where two were told.
+fn left_of_two<R: Wait>(alloc: Global, rt: &R) -> Option<usize> {
+    let mut table = numbers(alloc);
+    two_told(&table, rt, 7, 8)?;
+    Some(emptied(&mut table).len())
+}
+
+#[test]
+fn an_owner_finds_what_tokens_tell(rt: HostRuntime) {
+    assert_same(
+        &rt,
+        (
+            zeroed_of_two(rt.alloc(), &rt),
+            drained_of_two(rt.alloc(), &rt),
+            walked_of_two(rt.alloc(), &rt),
+            left_of_two(rt.alloc(), &rt),
+        ),
+        (Some((Some(15), true)), Some(2), Some(2), Some(0)),
+    );
 }

@@ -1,7 +1,8 @@
 //! What a `Local` finds at its id, and what it publishes there.
 
-use crate::locals::{found, found_by_another, lends, numbers, publish_and_forget, published};
-use crate::locals::published_by_another;
+use crate::locals::{
+    found, found_by_another, lends, numbers, publish_and_forget, published, published_by_another,
+};
 use crate::same::assert_same;
 use std::alloc::Global;
 use std::cell::{Cell, RefCell};
@@ -97,13 +98,7 @@ fn a_forgotten_id_is_held_until_the_clear(rt: HostRuntime) {
     assert_same(
         &rt,
         (forgotten, next, are_lent, afresh, table.slots()),
-        (
-            Some(5),
-            Some(None),
-            true,
-            Some([None, Some(8), Some(8)]),
-            1,
-        ),
+        (Some(5), Some(None), true, Some([None, Some(8), Some(8)]), 1),
     );
 }
 

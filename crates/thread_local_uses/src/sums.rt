@@ -83,8 +83,7 @@ fn total(sums: ThreadLocal<u64>, tokens: &[Token<u64>]) -> Result<u128, SumError
     requires named { IsSome sums.sharing }
     ensures { IfOk result (λ total. total ≡ sum (map (λ token. token.value) tokens.now)) }
 {
-    let (buckets, book) = sums.into_buckets_and_book();
-    let values = buckets.into_iter();
+    let (values, book) = sums.into_iter_and_book();
     if values.len() != tokens.len() || !differ(tokens) {
         return Err(SumError::Mixed);
     }

@@ -14,6 +14,7 @@ use super::ThreadLocal;
 use thread_local_base::Thread;
 use thread_local_base::manager::IDS;
 use thread_local_buckets::{Buckets, Drain};
+use thread_local_ids::Book;
 
 impl<T> ThreadLocal<T> {
     /// The buckets, for the exclusive owner. A contract knows the number of reserved slots, and not
@@ -24,7 +25,20 @@ impl<T> ThreadLocal<T> {
             (view_with self.old result.now)) }
         ensures reserved { result.now.reserved ≡ self.old.reserved }
     {
-        self.buckets.owner()
+        self.buckets_mut_and_book().0
+    }
+
+    /// `buckets_mut`, with the book of the sharing that ends. So the walks `iter_mut`, `entries_mut`
+    /// and `drain` of the buckets give the values that the book tells.
+    pub fn buckets_mut_and_book(&mut self) -> (&mut Buckets<T>, Book<T>)
+        ensures* writes_back { sem 𝓛
+            (follows (the_row T.row) (owner_row T.row) self.entry.ghost_name result.0.ghost_name
+            (view_with self.old result.0.now)) }
+        ensures reserved { result.0.now.reserved ≡ self.old.reserved }
+        ensures book { (result.1.sharing ≡ self.old.sharing)
+            × (result.1.contents ≡ result.0.now.contents) }
+    {
+        self.buckets.owner_and_book()
     }
 
     /// The values by ascending id, each moved out, while buckets and ids stay. `drain` of the

@@ -12,8 +12,8 @@ use crate::tokens::token::Token;
 use crate::tokens::witness::Witness;
 use std::marker::{Model, PhantomData};
 
-/// What each slot of a table held when a sharing ended: a published value or none. An owner who takes
-/// the buckets gets it beside them. It has no bytes, and no call waits or takes memory.
+/// What each slot of a table held when a sharing ended: a published value or none. An owner gets it
+/// beside a walk by value, or beside the buckets. It has no bytes, and no call waits or takes memory.
 pub struct Book<T> {
     pub marker: PhantomData<T>,
     pub ghost sharing: { Option ℕ } by { coded_option coded_ℕ },
@@ -52,6 +52,31 @@ impl<T> Book<T> {
     {
         for index in 0..tokens.len() {
             self.tells(&tokens[index]);
+        }
+    }
+
+    /// A token of the value that the slot of an id had when the sharing ended. So a value is in the
+    /// buckets exactly where there is a token of it.
+    pub fn token(&self, id: usize) -> Token<T>
+        requires in_range { id < 2 ^ 63 - 1 }
+        requires published { IsSome (values self.now.contents id) }
+        ensures id { (result.sharing ≡ self.now.sharing) × (result.id ≡ id) }
+        ensures value { values self.now.contents id ≡ Some result.value }
+    {
+        Token::new(id, self.witness(id))
+    }
+
+    /// What shows the value that the slot of an id had.
+    fn witness(&self, id: usize) -> Witness<T>
+        requires in_range { id < 2 ^ 63 - 1 }
+        requires published { IsSome (values self.now.contents id) }
+        ensures { (result.sharing ≡ self.now.sharing)
+            × (result.id ≡ id)
+            × (values self.now.contents id ≡ Some result.value) }
+    {
+        let _ = id;
+        Witness {
+            marker: PhantomData,
         }
     }
 

@@ -8,7 +8,9 @@ ghost use Rattle.thread_local_shared_buckets.specs.contracts.shared.Shared.{the_
 ghost use Rattle.thread_local_shared_buckets.specs.Lent.{view_with};
 
 use super::Shared;
+use std::marker::PhantomData;
 use thread_local_buckets::Buckets;
+use thread_local_ids::Book;
 
 impl<T> Shared<T> {
     /// The buckets, lent to an owner with all that was lent while they were shared. Once the loan
@@ -20,6 +22,22 @@ impl<T> Shared<T> {
             (view_with self.old result.now)) }
         ensures reserved { result.now.reserved ≡ self.old.reserved }
     {
-        unsafe { &mut *(self as *mut Shared<T> as *mut Buckets<T>) }
+        self.owner_and_book().0
+    }
+
+    /// `owner`, with what the slots were published with in the sharing that ends.
+    pub fn owner_and_book(&mut self) -> (&mut Buckets<T>, Book<T>)
+        ensures* writes_back { sem 𝓛
+            (follows (the_row T.row) (owner_row T.row) self.entry.ghost_name result.0.ghost_name
+            (view_with self.old result.0.now)) }
+        ensures reserved { result.0.now.reserved ≡ self.old.reserved }
+        ensures book { (result.1.sharing ≡ self.old.sharing)
+            × (result.1.contents ≡ result.0.now.contents) }
+    {
+        let book = Book {
+            marker: PhantomData,
+        };
+        let owner = unsafe { &mut *(self as *mut Shared<T> as *mut Buckets<T>) };
+        (owner, book)
     }
 }

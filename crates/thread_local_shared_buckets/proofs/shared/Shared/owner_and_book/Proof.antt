@@ -1,4 +1,4 @@
--- `owner` takes back what is due from the sharing, and lends the same memory as an owner's buckets.
+-- `owner_and_book` does what `owner` does, and hands out what is told of the slots.
 use Rattle.std.proofs.Common.{◌≡◌, ℕ, [], ◌∷◌, refl}
 use mir.Syntax.{a_type, named}
 use mir.Val.{Val, vptr}
@@ -30,17 +30,25 @@ use Rattle.thread_local_buckets.specs.contracts.buckets.Buckets as buckets
 use Rattle.thread_local_shared_buckets.specs.TableView.{TableView}
 use Rattle.thread_local_shared_buckets.specs.Lent.{view_with}
 use Rattle.thread_local_shared_buckets.specs.contracts.shared.Shared as shared
-use Rattle.thread_local_shared_buckets.specs.contracts.shared.Shared.owner.{ended, clauses, Key.name as #self}
-use Rattle.thread_local_shared_buckets.proofs.Turned.{IsLent, AllGrown, lies_plain, lies_shared}
-use Rattle.thread_local_shared_buckets.proofs.shared.Shared.owner.Statement.{statement}
-use Rattle.thread_local_shared_buckets.proofs.shared.Shared.owner.Code as code
+use Rattle.thread_local_shared_buckets.specs.contracts.shared.Shared.owner_and_book.{ended, clauses, Key.name as #self}
+use Rattle.thread_local_shared_buckets.proofs.Turned.{IsLent, AllGrown, lies_told, lies_shared}
+use Rattle.thread_local_ids.specs.Told.{book_owns}
+use Rattle.thread_local_ids.specs.contracts.tokens.book.Book as Book
+use Rattle.thread_local_ids.proofs.Made.{token_val, book_made}
+use Rattle.thread_local_base.proofs.Pairs.{both, pair_in}
+use types.Part.{agg}
+use types.Run.{no_more, and_then}
+use Rattle.std.proofs.Common.{Option}
+use Rattle.thread_local_shared_buckets.proofs.shared.Shared.owner_and_book.Statement.{statement}
+use Rattle.thread_local_shared_buckets.proofs.shared.Shared.owner_and_book.Code as code
 use Rattle.thread_local_base.proofs.Walking.{knows}
 
-pub owner_spec : {M : Type 1} → statement M
-owner_spec 𝓤 𝓛 𝓜 𝓡 wired T L =
+pub owner_and_book_spec : {M : Type 1} → statement M
+owner_and_book_spec 𝓤 𝓛 𝓜 𝓡 wired T L =
     let 𝓣 = tables 𝓤 𝓛.H 𝓜 𝓡 𝓡.env in let R : RattleType = param 0 T in let LR : Laws R = param_laws 0 T L in
     let Sh : RattleType = shared.the_row R in
     let Ow : RattleType = buckets.the_row R in
+    let Bk : RattleType = Book.the_row R in
     let En = ended T in let c = clauses T 𝓛 𝓜.mem 𝓡.returns in let inst = layouts (a_type ∷ []) (T, tt) in
     let fn = inst_fn inst code.function in let row = plain (λ _. Sh) in let self = RefMutOf (0 ∷ []) tt row (λ _. tt) in
     let hs : Stays En.signature.params En.kept = (stay_dropped self no, tt) in
@@ -58,16 +66,22 @@ owner_spec 𝓤 𝓛 𝓜 𝓡 wired T L =
     let Ev = env fn.locals l in
     open_ref ! tt (mem Sh) $
     use1 𝓛 (later (some (λ (w : Ow.Denot).
-    given (IsLent 𝓛 R LR d w) (‵ (part_at Ow full_share w b o) ⊛ ‵ (AllGrown 𝓛 R LR d w)))))
-    (lies_plain 𝓛 R LR d b o) $
-    await ! tt $ pick ! (λ w. learn ! (λ so. split ! $
+    given (IsLent 𝓛 R LR d w) (‵ (part_at Ow full_share w b o) ⊛ ‵ (AllGrown 𝓛 R LR d w) ⊛ ‵ (book_owns R d.sharing w.contents)))))
+    (lies_told 𝓛 R LR d b o) $
+    await ! tt $ pick ! (λ w. learn ! (λ so. split3 ! $
+    let told_of : Bk.Denot = record { marker = record {}; sharing = d.sharing; contents = w.contents } in
+    move ! (2 ∷ []) $ use1 𝓛 (‵ (Bk.own_val told_of (token_val ∷ []))) (book_made 𝓛 R told_of) $ move ! (1 ∷ 2 ∷ 3 ∷ 4 ∷ 5 ∷ 0 ∷ []) $
+    sets ! (agg ! (no_more !)) refl (tt, tt) $ sets ! (agg ! (and_then ! (get ! refl) (no_more !))) refl (tt, (tt, tt)) $
     let F : Ow.Denot → TableView = view_with d w in
     let Shown : Fml = AllGrown 𝓛 R LR d w in
     -- [an owner's buckets; what they show; the open borrow, and its name; the other tokens]
     first ! $ blocks ! $ sets ! (addr ! (through ! refl (stop !))) refl (tt, tt) $
     sets ! (of_opd ! (get ! refl)) refl (tt, tt) $
     sets_last ! (addr ! (through ! refl (stop !))) refl (tt, tt) $
-    exec ! 𝓣.C 𝓣.Λ Ev (after 1 fn.body) (at_ret Ev Post) $ sets ! (of_opd ! (get ! refl)) refl (tt, tt) $
+    exec ! 𝓣.C 𝓣.Λ Ev (after 3 fn.body) (at_ret Ev Post) $ sets ! (of_opd ! (get ! refl)) refl (tt, tt) $
+    sets ! (addr ! (through ! refl (stop !))) refl (tt, tt) $
+    sets ! (of_opd ! (get ! refl)) refl (tt, (tt, tt)) $
+    sets ! (agg ! (and_then ! (get ! refl) (and_then ! (get ! refl) (no_more !)))) refl (tt, (tt, ((tt, tt), tt))) $
     let Rest : SProp 𝓤 = sem 𝓛 Shown in
     let back = λ (u : Ow.Denot). lies_shared 𝓛 R LR d w so b o u in
     move ! (2 ∷ 3 ∷ 4 ∷ 0 ∷ 1 ∷ []) $ group ! 5 $
@@ -81,8 +95,12 @@ owner_spec 𝓤 𝓛 𝓜 𝓡 wired T L =
     ⊛ ‵ (follows Sh Ow γ δ F))
     (id⊢ 𝓤 _) $
     split3 ! $
+    -- [the reference; the token; that it follows; the book; the other tokens]
+    let Alike : Type 0 = (◌≡◌ {A = Option ℕ} d.sharing d.sharing) × (w.contents ≡ w.contents) in
+    move ! (0 ∷ 3 ∷ []) $ pair_in (MutRef (named 0) κ Ow) Bk ! r told_of (vptr b o) token_val $
     move ! (1 ∷ 3 ∷ []) $ join ! $
-    knows ! (w.reserved ≡ d.reserved) so.1 $
+    knows ! Alike (refl, refl) $
+    knows ! (w.reserved ≡ d.reserved) so.1 $ join ! $
     move ! (3 ∷ 0 ∷ []) $ join ! $ nothing ! $ nothing ! $ fjoin ! $
     returns ! (look_at ! 0 refl) $ free_all ! refl $ keep ! (2 ∷ 0 ∷ 3 ∷ 1 ∷ []) $
-    by ! (leaves 𝓛 En hs c y (vptr b o) r (tt, tt) (tt, tt)))))))
+    by ! (leaves 𝓛 En hs c y (both (vptr b o) token_val) (r, told_of) (tt, tt) (tt, tt)))))))
