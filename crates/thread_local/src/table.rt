@@ -2,17 +2,20 @@
 //! the type of its values has to show, and tokens that say what its slots were published with, have
 //! their names here too.
 ghost use Rattle.std.specs.Prelude.{◌≡◌, ◌≢◌, ◌≤◌, ◌<◌, ◌-◌, ◌*◌, ◌^◌, ℕ, max, length};
-ghost use Rattle.std.specs.Prelude.{Option, true, false, None, Some, Err, alloc_error, IfOk, IsSome, map, []};
+ghost use Rattle.std.specs.Prelude.{Option, true, false, None, Some, Err, alloc_error, IfOk, IsSome, map, [], All};
+ghost use Rattle.std.specs.List.{AllPairs};
 ghost use Rattle.std.specs.List.Sorted.{IsStrictlyIncreasing};
 ghost use Rattle.thread_local_base.specs.Capacity.{reserved_slots};
 ghost use Rattle.thread_local_buckets.specs.IterMut.{iter_mut_given, entries_mut_given, entries_mut_rest};
 ghost use Rattle.thread_local_base.specs.Buckets.{values};
 ghost use Rattle.thread_local_base.specs.Judged.{Judged};
+ghost use Rattle.thread_local_base.specs.Place.{bucket_of};
 ghost use Rattle.thread_local_base.specs.Walk.{walk};
 ghost use Rattle.thread_local_base.specs.Held.{least, held_count, HoldsAllBelow};
 ghost use Rattle.thread_local_base.specs.IdMoves.{Take, held_after, noted};
 ghost use mathlib.Core.List.{IsPrefix};
 ghost use Rattle.thread_local_ids.specs.SharedIds.{AreNew};
+ghost use Rattle.thread_local_ids.specs.TokenLists.{AllOf};
 ghost use Rattle.thread_local_shared_buckets.specs.Grown.{only_reserved};
 ghost use Rattle.thread_local_shared_buckets.specs.Walks.{fresh, fresh_with};
 
@@ -21,6 +24,7 @@ use std::alloc::Global;
 use std::default::MadeWith;
 use std::marker::Model;
 use std::sync::Wait;
+use thread_local_base::held::a_history_leaves_ids_held;
 use thread_local_base::walk::walk_lists_the_map;
 use thread_local_base::{LocalError, Thread};
 pub use thread_local_base::{Judge, judge_sync, judge_value};
@@ -231,23 +235,34 @@ impl<T> ThreadLocal<T> {
         ensures reserved { self.old.reserved ≤ result }
         ensures same { self.new ≡ self.old }
     {
-        self.buckets.slots_reached().0
+        self.buckets.slots_reached(&Told::new()).0
     }
 
-    /// How many slots the table's buckets have together, the most ids that were held at once since
-    /// the table was made or cleared, and the page of all that was done with the ids by then, which
-    /// has no bytes and says that this is their peak. Where contracts see that each bucket which
-    /// isn't reserved was made for an id of the table, there are fewer than two slots for each of
-    /// these ids, or no more than the reserved ones. It takes the table's lock, so it may wait.
-    /// Others may use the table meanwhile.
-    pub fn slots_and_peak<R: Wait>(&self, rt: &R) -> (usize, usize, Page)
+    /// How many slots the table's buckets have together, and the most ids that were held at once
+    /// since the table was made or cleared. Others may use the table meanwhile: a bucket that is made
+    /// then may be counted or not. It takes the table's lock, so it may wait.
+    ///
+    /// The page and the list of tokens are for contracts alone, and have no bytes: `table.page()` and
+    /// `Told::new()` serve every caller. The slots have an upper bound by the peak where each bucket
+    /// that isn't reserved was made for an id of the table, and a lower one by what tokens say.
+    pub fn slots_and_peak<R: Wait>(&self, rt: &R, page: &mut Page, told: &Told<T>) -> (usize, usize)
+        requires { page.old.table ≡ self.now.table }
         ensures reserved { self.now.reserved ≤ result.0 }
         ensures slots { self.now.grown_by_ids ≡ true → result.0 ≤ max self.now.reserved (2 * result.1 - 1) }
-        ensures peak { (result.2.table ≡ self.now.table) × (result.1 ≡ length (held_after result.2.moves)) }
+        ensures told { AllOf self.now.sharing (λ token. 2 ^ bucket_of token.id ≤ result.0) told.now }
+        ensures values { IsSome self.now.sharing
+            → All (λ token. token.sharing ≡ self.now.sharing) told.now
+            → AllPairs (λ one other. one.id ≢ other.id) told.now
+            → length told.now ≤ result.0 }
+        ensures page { page.new.table ≡ page.old.table }
+        ensures early { IsPrefix page.old.moves page.new.moves }
+        ensures peak { result.1 ≡ length (held_after page.new.moves) }
+        ensures shown { length (held_after page.old.moves) ≤ result.1 }
     {
-        let (slots, reached) = self.buckets.slots_reached();
-        let (peak, page) = self.ids.peak(rt, reached, &self.first);
-        (slots, peak, page)
+        let (slots, reached) = self.buckets.slots_reached(told);
+        // That a later page has no lower peak.
+        a_history_leaves_ids_held();
+        (slots, self.ids.peak(rt, reached, page))
     }
 
     /// The values by ascending id, each lent as `&mut`. It is the walk `iter_mut` of the buckets

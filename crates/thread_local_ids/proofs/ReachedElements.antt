@@ -1,18 +1,22 @@
 -- How many ids of a table were held at once, by a page of it: a later page has no lower peak.
 -- Assumes `Logic`.
 use Rattle.std.proofs.Common.{ℕ, ◌+◌, ◌≤◌, Bool, true, false, List, [], ◌∷◌, length, sym, subst, arith}
+use mathlib.Core.List.{IsPrefix}
+use mathlib.Core.Logic.{◌∨₁◌, ∥∥₁_elim, inl, inr}
+use seplogic.Bi.Basic.{Entails-prop}
 use seplogic.Ra.Ura.{Ura}
 use base.Logic.{SProp, ex, guard, emp, id⊢}
 use base.Fml.{ftrue}
 use base.Shift.{Keyless}
 use types.Logic.{Logic}
-use types.Kit.{‵, ◌⊛◌, ◌$◌, ◌∵◌, !, qed, by, show, move, keep, drop, split, fsplit, fjoin, fpick, fpack, check, use1, done}
+use types.Kit.{‵, ◌⊛◌, ◌$◌, ◌∵◌, !, qed, by, show, move, keep, drop, split, fsplit, fjoin, fpick, fpack, check, given, learn, use1, use2, done}
 use denote.Steps.{nothing}
 use Rattle.thread_local_base.specs.Held.{least, with_least}
 use Rattle.thread_local_base.specs.IdMoves.{IdMove, Take, held_after, noted}
-use Rattle.thread_local_base.proofs.IdMoveLaws.{after_take}
+use Rattle.thread_local_base.proofs.IdMoveLaws.{after_take, peak_grows}
 use Rattle.thread_local_ids.specs.Rights.{page_owns, page_if, reached_by, reached_owns, taken_id}
-use Rattle.thread_local_ids.proofs.MoveElements.{page_twice, page_keyless}
+use Rattle.thread_local_ids.proofs.Logs.{O}
+use Rattle.thread_local_ids.proofs.MoveElements.{page_twice, page_keyless, in_line}
 use Rattle.thread_local_base.proofs.Signs.{signs}
 
 taken_in : (held : List Bool) → least held + 1 ≤ length (with_least held)
@@ -82,22 +86,49 @@ module _ {M : Type 1} {𝓤 : Ura M} (𝓛 : Logic 𝓤) where
       fpack ! (n ≤ length (held_after moves)) (λ _. ftrue) so $ fjoin ! $
       fpack ! (List IdMove) (reached_by table n) moves $ done !))
 
-  -- the page by which so many were held at once
-  pub reached_page : (table n : ℕ)
-      → ⟦ reached_owns table n ⟧ ∗ ⟦ page_owns table [] ⟧
-      ⊢ ex 𝓤 (λ (moves : List IdMove). guard 𝓤 (n ≤ length (held_after moves)) ⟦ page_owns table moves ⟧)
-  unfolding reached_owns
-  reached_page table n =
-      let F : List IdMove → SProp 𝓤 = λ moves. guard 𝓤 (n ≤ length (held_after moves)) ⟦ page_owns table moves ⟧ in
-      qed 𝓛 (‵ (reached_owns table n) ∷ ‵ (page_owns table []) ∷ []) ∵ fpick ! (λ seen. fsplit ! $ fpick ! (λ so. drop ! $
-      by ! (page_at table n seen so)))
-    where
-      page_at : (table n : ℕ) (seen : List IdMove) → n ≤ length (held_after seen)
-          → ⟦ page_if table seen ⟧ ∗ ⟦ page_owns table [] ⟧
-          ⊢ ex 𝓤 (λ (moves : List IdMove). guard 𝓤 (n ≤ length (held_after moves)) ⟦ page_owns table moves ⟧)
-      page_at table n [] so =
-          qed 𝓛 (‵ ftrue ∷ ‵ (page_owns table []) ∷ []) ∵ drop ! $
-          show ! (λ (moves : List IdMove). guard 𝓤 (n ≤ length (held_after moves)) ⟦ page_owns table moves ⟧) [] $ check ! so $ done !
-      page_at table n (move ∷ moves) so =
-          qed 𝓛 (‵ (page_owns table (move ∷ moves)) ∷ ‵ (page_owns table []) ∷ []) ∵ keep ! (0 ∷ []) $
-          show ! (λ (m : List IdMove). guard 𝓤 (n ≤ length (held_after m)) ⟦ page_owns table m ⟧) (move ∷ moves) $ check ! so $ done !
+  -- what a page shows that extends another one, and by which so many were held at once
+  unfoldable Shows : ℕ → ℕ → List IdMove → SProp 𝓤
+  Shows table n early =
+      ex 𝓤 (λ (moves : List IdMove). guard 𝓤 ((n ≤ length (held_after moves)) × IsPrefix early moves) ⟦ page_owns table moves ⟧)
+
+  -- of two pages the later one
+  later_of : (table n : ℕ) (early seen : List IdMove) → n ≤ length (held_after seen) → IsPrefix seen early ∨₁ IsPrefix early seen
+      → ⟦ page_owns table seen ⟧ ∗ ⟦ page_owns table early ⟧ ⊢ Shows table n early
+  unfolding Shows
+  later_of table n early seen so line =
+      ∥∥₁_elim line (Entails-prop 𝓤.op _ _) (λ which.
+      elim which [
+        | inl before ↦ (let grows = peak_grows seen early before in
+            let enough : n ≤ length (held_after early) = omega (arith, so, grows) in
+            qed 𝓛 (‵ (page_owns table seen) ∷ ‵ (page_owns table early) ∷ []) ∵ drop ! $
+            show ! (λ (m : List IdMove). guard 𝓤 ((n ≤ length (held_after m)) × IsPrefix early m) ⟦ page_owns table m ⟧) early $
+            check ! (enough, O.same early) $ done !)
+        | inr after ↦
+            (qed 𝓛 (‵ (page_owns table seen) ∷ ‵ (page_owns table early) ∷ []) ∵ keep ! (0 ∷ []) $
+            show ! (λ (m : List IdMove). guard 𝓤 ((n ≤ length (held_after m)) × IsPrefix early m) ⟦ page_owns table m ⟧) seen $
+            check ! (so, after) $ done !)
+      ])
+
+  page_at : (table n : ℕ) (early seen : List IdMove) → n ≤ length (held_after seen)
+      → ⟦ page_if table seen ⟧ ∗ ⟦ page_owns table early ⟧ ⊢ Shows table n early
+  unfolding Shows
+  page_at table n early [] so =
+      let enough : n ≤ length (held_after early) = omega (arith, so) in
+      qed 𝓛 (‵ ftrue ∷ ‵ (page_owns table early) ∷ []) ∵ drop ! $
+      show ! (λ (m : List IdMove). guard 𝓤 ((n ≤ length (held_after m)) × IsPrefix early m) ⟦ page_owns table m ⟧) early $
+      check ! (enough, O.same early) $ done !
+  page_at table n early (move ∷ moves) so =
+      let seen : List IdMove = move ∷ moves in
+      qed 𝓛 (‵ (page_owns table seen) ∷ ‵ (page_owns table early) ∷ []) ∵
+      use2 𝓛 (given (IsPrefix seen early ∨₁ IsPrefix early seen) (‵ (page_owns table seen) ⊛ ‵ (page_owns table early)))
+      (in_line 𝓛 table seen early) $
+      learn ! (λ line. split ! $ by ! (later_of table n early seen so line))
+
+  -- the page by which so many were held at once, which extends a page at hand
+  pub reached_page : (table n : ℕ) (early : List IdMove)
+      → ⟦ reached_owns table n ⟧ ∗ ⟦ page_owns table early ⟧
+      ⊢ ex 𝓤 (λ (moves : List IdMove). guard 𝓤 ((n ≤ length (held_after moves)) × IsPrefix early moves) ⟦ page_owns table moves ⟧)
+  unfolding reached_owns Shows
+  reached_page table n early =
+      qed 𝓛 (‵ (reached_owns table n) ∷ ‵ (page_owns table early) ∷ []) ∵ fpick ! (λ seen. fsplit ! $ fpick ! (λ so. drop ! $
+      by ! (page_at table n early seen so)))

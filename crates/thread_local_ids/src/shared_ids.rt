@@ -165,17 +165,19 @@ impl SharedIds {
     }
 
     /// The most ids that were held at once since the table was made or cleared, which is no less than
-    /// was reached, and the page of all that was done by then. It takes the lock, so it may wait.
-    pub fn peak<R: Wait>(&self, rt: &R, reached: Reached, start: &Page) -> (usize, Page)
-        requires tables { (reached.table ≡ self.now.table) × (start.now.table ≡ self.now.table) }
-        requires start { start.now.moves ≡ [] }
-        ensures table { result.1.table ≡ self.now.table }
-        ensures peak { result.0 ≡ length (held_after result.1.moves) }
-        ensures reached { reached.ids ≤ result.0 }
+    /// was reached. It extends the page by all that was done by then. It takes the lock, so it may
+    /// wait.
+    pub fn peak<R: Wait>(&self, rt: &R, reached: Reached, page: &mut Page) -> usize
+        requires tables { (reached.table ≡ self.now.table) × (page.old.table ≡ self.now.table) }
+        ensures table { page.new.table ≡ self.now.table }
+        ensures early { IsPrefix page.old.moves page.new.moves }
+        ensures peak { result ≡ length (held_after page.new.moves) }
+        ensures reached { reached.ids ≤ result }
     {
-        self.further
-            .lock(rt)
-            .peak(&self.first, &reached.into_page(start))
+        let seen = reached.into_page(page);
+        let (peak, later) = self.further.lock(rt).peak(&self.first, &seen);
+        *page = later;
+        peak
     }
 
     /// Takes every id back, those of forgotten holders too, and counts the peak anew. The room stays.

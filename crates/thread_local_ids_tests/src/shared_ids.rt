@@ -57,7 +57,7 @@ impl Table {
     /// Takes an id, and never gives it back. Answers it, and how many ids were held at once by then.
     fn take_and_peak<R: Wait>(&self, rt: &R) -> Result<(usize, usize), LocalError> {
         let (held, _, tenure) = self.take(rt)?;
-        let (peak, _) = self.ids.peak(rt, tenure.reached(), &self.start);
+        let peak = self.ids.peak(rt, tenure.reached(), &mut self.start.again());
         Ok((held.id, peak))
     }
 

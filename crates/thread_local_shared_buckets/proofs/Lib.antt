@@ -32,6 +32,7 @@ pub mod Moves
 pub mod Sent
 pub mod ClaimSteps
 pub mod Surrender
+pub mod RoomForTokens
 pub mod RowFields
 pub mod SeenFields
 pub mod Lent

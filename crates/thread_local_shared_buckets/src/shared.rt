@@ -1,10 +1,12 @@
 //! A table's buckets while threads share them through a `&`. By value or through a `&mut` they are
 //! an owner's `Buckets` again.
-ghost use Rattle.std.specs.Prelude.{◌≡◌, ◌≢◌, ◌+◌, ◌-◌, ◌*◌, ◌^◌, ◌<◌, ◌≤◌, ℕ, max, true, Option, IsSome};
+ghost use Rattle.std.specs.Prelude.{◌≡◌, ◌≢◌, ◌+◌, ◌-◌, ◌*◌, ◌^◌, ◌<◌, ◌≤◌, ℕ, max, length, true, Option, IsSome, All};
+ghost use Rattle.std.specs.List.{AllPairs};
 ghost use Rattle.thread_local_base.specs.Learnt.{Unknown, Missing, Finds};
 ghost use Rattle.thread_local_base.specs.Owned.{IsOwned, AreOfFirstBuckets};
 ghost use Rattle.thread_local_base.specs.Place.{bucket_of, id_at};
 ghost use Rattle.thread_local_base.specs.Judged.{Judged};
+ghost use Rattle.thread_local_ids.specs.TokenLists.{AllOf};
 ghost use Rattle.thread_local_shared_buckets.specs.Known.{HasLooked};
 ghost use Rattle.thread_local_shared_buckets.specs.Grown.{only_reserved};
 ghost use Rattle.thread_local_shared_buckets.specs.TableView.{TableView, table_view_coded, IsBucketOf};
@@ -160,13 +162,20 @@ impl<T> Shared<T> {
     /// How many slots the buckets have that stand, and that so many ids of the table were held at
     /// once, as these slots show. It loads which buckets are announced, and then the pointers of
     /// those that aren't reserved, one after another. So a bucket that is installed meanwhile may
-    /// be counted or not.
-    pub fn slots_reached(&self) -> (usize, Reached)
+    /// be counted or not. The bucket of a token of `told` is counted, and so there are no fewer slots
+    /// than values of which there are tokens.
+    pub fn slots_reached(&self, told: &Told<T>) -> (usize, Reached)
         ensures reserved { self.now.reserved ≤ result.0 }
         ensures most { result.0 < 2 ^ 63 }
         ensures table { result.1.table ≡ self.now.table }
         ensures grown { self.now.grown_by_ids ≡ true → result.0 ≤ max self.now.reserved (2 * result.1.ids - 1) }
+        ensures told { AllOf self.now.sharing (λ token. 2 ^ bucket_of token.id ≤ result.0) told.now }
+        ensures values { IsSome self.now.sharing
+            → All (λ token. token.sharing ≡ self.now.sharing) told.now
+            → AllPairs (λ one other. one.id ≢ other.id) told.now
+            → length told.now ≤ result.0 }
     {
+        told.in_range();
         let mut slots = self.reserved();
         let mut reached = self.bucket(0).none_reached();
         // The reserved buckets stand. They are the first ones, so the number of their slots is the
@@ -175,12 +184,12 @@ impl<T> Shared<T> {
         let announced = load_announced(
             &pointers.announced,
             &pointers.pointers.pointers,
-            Told::new().list(),
+            told.list(),
         );
         let mut left = announced & !(slots as u64);
         'buckets: while left != 0 {
             let (bucket, size) = take_first_bucket(&mut left);
-            if let Some(shown) = self.bucket(bucket).reached() {
+            if let Some(shown) = self.bucket(bucket).reached(told.list()) {
                 slots += size;
                 reached = shown;
             }

@@ -56,12 +56,15 @@ impl<T> SharedBucket<T> {
     }
 
     /// How many ids of the table were held at once for sure, since the bucket stands, or `None`
-    /// where it is missing. It is one atomic load.
-    pub fn reached(&self) -> Option<Reached>
+    /// where it is missing. A bucket with the slot of a token of `told`, which proofs alone use,
+    /// isn't missing. It is one atomic load.
+    pub fn reached(&self, told: &TokenList<T>) -> Option<Reached>
         ensures shown { IfSome result (λ reached.
             (reached.table ≡ self.now.table) × (reached.ids ≡ shown_by self.now)) }
         ensures reserved { self.now.reserved ≡ true → IsSome result }
+        ensures told { result ≡ None → NoneIn self.now.sharing self.now.bucket told.now.tokens }
     {
+        let _ = told;
         let block = unsafe {
             ptr::load::<u64, Brand>(&raw const self.at as *const *mut u64, SeqCst)
         };

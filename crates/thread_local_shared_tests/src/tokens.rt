@@ -11,7 +11,7 @@ use std::cell::Cell;
 use std::test::Fail;
 use thread_local_base::{Judge, Thread, judge_sync};
 use thread_local_buckets::Buckets;
-use thread_local_ids::{HeldId, Right, Tenure, Token};
+use thread_local_ids::{HeldId, Right, Tenure, Token, Told};
 use thread_local_shared_buckets::{Claim, Shared};
 
 /// Publishes a value, and answers a token of what the slot was published with.
@@ -198,7 +198,7 @@ fn renewed_buckets_keep_their_values(rt: HostRuntime) -> Result<(), Fail> {
     let (held, first) = told(&shared, (held, right), &tenure, rt.alloc(), Cell::new(3));
     renewed(&mut shared, &table.right);
     let (_, second) = told(&shared, held, &tenure, rt.alloc(), Cell::new(4));
-    let slots = shared.slots_reached().0;
+    let slots = shared.slots_reached(&Told::new()).0;
     let values = take_back(shared).0.into_iter().next().map(|c| c.get());
     assert_same(&rt, (first.is_some(), second.is_some()), (true, true));
     assert_same(&rt, (slots, values), (1, Some(3)));

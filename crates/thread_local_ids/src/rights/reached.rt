@@ -1,5 +1,6 @@
 //! How many ids of a table were held at once. No call does anything at run time.
-ghost use Rattle.std.specs.Prelude.{◌≡◌, ◌+◌, ◌≤◌, ℕ, length, []};
+ghost use Rattle.std.specs.Prelude.{◌≡◌, ◌+◌, ◌≤◌, ℕ, length};
+ghost use mathlib.Core.List.{IsPrefix};
 ghost use denote.Sharing.{said};
 ghost use Rattle.thread_local_base.specs.IdMoves.{held_after};
 ghost use Rattle.thread_local_ids.specs.Rights.{reached_owns, taken_id};
@@ -33,15 +34,15 @@ impl Tenure {
 }
 
 impl Reached {
-    /// The page by which so many ids were held at once. It needs the page from before any was taken.
-    pub fn into_page(self, start: &Page) -> Page
-        requires table { self.table ≡ start.now.table }
-        requires start { start.now.moves ≡ [] }
+    /// The page by which so many ids were held at once. It extends a page of the table.
+    pub fn into_page(self, early: &Page) -> Page
+        requires table { self.table ≡ early.now.table }
         ensures table { result.table ≡ self.table }
         ensures peak { self.ids ≤ length (held_after result.moves) }
+        ensures early { IsPrefix early.now.moves result.moves }
     {
         let Self { marker: _ } = self;
-        let _ = start;
+        let _ = early;
         Page {
             marker: PhantomData,
         }

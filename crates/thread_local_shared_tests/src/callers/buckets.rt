@@ -66,7 +66,7 @@ fn cell_row(shared: &Shared<Cell<u64>>) -> Option<Row<'_, Cell<u64>>> {
 fn slots(shared: &Shared<RefCell<String>>) -> usize
     ensures { shared.now.reserved ≤ result }
 {
-    shared.slots_reached().0
+    shared.slots_reached(&Told::new()).0
 }
 
 fn owner_slots(shared: &mut Shared<RefCell<String>>) -> usize

@@ -1,20 +1,54 @@
-use Rattle.std.proofs.Common.{◌≤◌, ◌<◌, ◌^◌, ◌+◌, arith, lit<, ◌-◌, ◌*◌, ℕ, Bool, sym, ap, ◌∙◌, subst, bit_and}
-use Rattle.std.specs.Prelude.{max, nat_lt}
+use Rattle.std.proofs.Common.{◌≡◌, ◌≤◌, ◌<◌, ◌^◌, ◌+◌, arith, lit<, ◌-◌, ◌*◌, ℕ, Bool, List, Option, true, false, refl, sym, ap, ◌∙◌, subst, bit_and, ⊎_elim}
+use Rattle.std.specs.Prelude.{max, nat_lt, All}
 use Rattle.std.specs.Int.{w64, bit_not}
 use Rattle.std.proofs.Math.Nat.{le-max_left}
-use Rattle.thread_local_base.specs.Place.{id_at}
+use Rattle.std.proofs.lemmas.Bool.{cases_Bool}
+use Rattle.thread_local_base.specs.Bits.{is_set}
+use Rattle.thread_local_base.specs.Place.{id_at, bucket_of}
+use Rattle.thread_local_base.proofs.PlaceLaws.{bucket_of-below}
+use Rattle.thread_local_ids.specs.TokenLists.{NoneIn}
+use Rattle.thread_local_ids.specs.Views.{TokenView}
 use Rattle.thread_local_shared_buckets.specs.Shared.{ids_shown}
-use Rattle.thread_local_shared_buckets.proofs.CountedSlots.{Counted, begins, more, missed, allowed, counted_below}
+use Rattle.thread_local_shared_buckets.specs.TableView.{TableView}
+use Rattle.thread_local_shared_buckets.proofs.CountedSlots.{Counted, begins, more, missed, allowed, counted_below, all_counted}
+use Rattle.thread_local_shared_buckets.proofs.RoomForTokens.{IsTold, no_token, tokens_fit}
 use Rattle.thread_local_shared_buckets.proofs.shared.Shared.slots_reached.Goals as goal
+
+in_table : {V : Type 0} (sharing : Option ℕ) (tokens : List (TokenView V)) → All (λ p. p.id < 2 ^ 63 - 1) tokens
+    → (id : ℕ) → IsTold sharing tokens id → bucket_of id < 63
+in_table sharing tokens all id told = bucket_of-below id (subst (λ (n : ℕ). n < 2 ^ 63 - 1) told.is (all told.at told.some told.near))
+
+-- the bucket of each token is announced
+are_announced : {V : Type 0} (sharing : Option ℕ) (tokens : List (TokenView V)) (word : ℕ)
+    → All (λ p. p.id < 2 ^ 63 - 1) tokens
+    → ((bucket : ℕ) → bucket < 63 → is_set word bucket ≡ false → NoneIn sharing bucket tokens)
+    → (id : ℕ) → IsTold sharing tokens id → (bucket_of id < 63) × (is_set word (bucket_of id) ≡ true)
+are_announced sharing tokens word all none id told =
+    let low = in_table sharing tokens all id told in (
+      low,
+      ⊎_elim (λ (set : is_set word (bucket_of id) ≡ true). set)
+          (λ (unset : is_set word (bucket_of id) ≡ false).
+          absurd (no_token sharing tokens (bucket_of id) id (none (bucket_of id) low unset) told refl))
+          (cases_Bool (is_set word (bucket_of id))),
+    )
 
 pub buckets-init : goal.buckets-init
 buckets-init g c =
     let slots : ℕ = c.reserved-slots.result in
     let word : ℕ = c.load_announced-announced.result in
-    let reserved : ℕ = c.args.self.now.reserved in record {
+    let reserved : ℕ = c.args.self.now.reserved in
+    let sharing : Option ℕ = c.args.self.now.sharing in
+    let tokens : List (TokenView _) = c.args.told.now in
+    let none : (bucket : ℕ) → bucket < 63 → is_set word bucket ≡ false → NoneIn sharing bucket tokens =
+    subst (λ (ts : List (TokenView _)). (bucket : ℕ) → bucket < 63 → is_set word bucket ≡ false
+    → NoneIn sharing bucket ts) c.list.ensures
+    (subst (λ (s : Option ℕ). (bucket : ℕ) → bucket < 63 → is_set word bucket ≡ false
+    → NoneIn s bucket c.list.result.now.tokens)
+    (ap (λ (s : TableView). s.sharing) (c.behind-self.view_is ∙ c.parts.ensures)) c.load_announced-announced.ensures.told) in record {
       counted =
-          subst (λ (n : ℕ). Counted n (bit_and word (bit_not w64 slots)) slots) c.reserved-slots.ensures.reserved
-          (begins slots word c.reserved-slots.ensures.first c.load_announced-announced.ensures.none_past);
+          subst (λ (n : ℕ). Counted (IsTold sharing tokens) n (bit_and word (bit_not w64 slots)) slots) c.reserved-slots.ensures.reserved
+          (begins (IsTold sharing tokens) slots word c.reserved-slots.ensures.first c.load_announced-announced.ensures.none_past
+          (are_announced sharing tokens word c.in_range.ensures none));
       table = c.none_reached-reached.ensures.0 ∙ c.bucket.ensures.table;
       grown = λ _.
           subst (λ (n : ℕ). n ≤ max reserved (2 * c.none_reached-reached.result.ids - 1)) (sym c.reserved-slots.ensures.reserved)
@@ -24,25 +58,38 @@ buckets-init g c =
 pub buckets-preserved-in-Some : goal.buckets-preserved-in-Some
 buckets-preserved-in-Some g c =
     let reserved : ℕ = c.args.self.now.reserved in
+    let sharing : Option ℕ = c.args.self.now.sharing in
+    let tokens : List (TokenView _) = c.args.told.now in
     let first = c.take_first_bucket-bucket in
     let at = c.bucket-in-buckets.ensures in record {
       counted =
-          more reserved c.buckets.left first.new.left c.buckets.slots first.result.0 c.buckets.invariant.counted
-          first.ensures.first first.ensures.rest first.result.1 first.ensures.size;
+          more (IsTold sharing tokens) (in_table sharing tokens c.in_range.ensures) reserved c.buckets.left first.new.left
+          c.buckets.slots first.result.0 c.buckets.invariant.counted first.ensures.first first.ensures.rest first.result.1
+          first.ensures.size;
       table = c.in-Some.ensures.shown.0 ∙ at.table;
       grown = λ grown.
-          allowed reserved c.buckets.left first.new.left c.buckets.slots first.result.0 c.buckets.invariant.counted
-          first.ensures.first first.ensures.rest first.result.1 c.in-Some.shown.ids first.ensures.size
+          allowed (IsTold sharing tokens) (in_table sharing tokens c.in_range.ensures) reserved c.buckets.left first.new.left
+          c.buckets.slots first.result.0 c.buckets.invariant.counted first.ensures.first first.ensures.rest first.result.1
+          c.in-Some.shown.ids first.ensures.size
           (c.in-Some.ensures.shown.1 ∙ (λ j. ids_shown (at.grown j) (at.reserved j) (at.number j))
           ∙ ap (λ (t : Bool). ids_shown t (nat_lt (id_at first.result.0 0) reserved) first.result.0) grown);
     }
 
 pub buckets-preserved : goal.buckets-preserved
 buckets-preserved g c =
-    let first = c.take_first_bucket-bucket in record {
+    let sharing : Option ℕ = c.args.self.now.sharing in
+    let tokens : List (TokenView _) = c.args.told.now in
+    let first = c.take_first_bucket-bucket in
+    let at = c.bucket-in-buckets in
+    let none : NoneIn sharing first.result.0 tokens =
+    subst (λ (ts : List (TokenView _)). NoneIn sharing first.result.0 ts) c.list-in-buckets.ensures
+    (subst (λ (s : Option ℕ). NoneIn s first.result.0 c.list-in-buckets.result.now.tokens) at.ensures.sharing
+    (subst (λ (b : ℕ). NoneIn at.result.now.sharing b c.list-in-buckets.result.now.tokens) at.ensures.number
+    (c.reached.ensures.told c.in_default.is))) in record {
       counted =
-          missed c.args.self.now.reserved c.buckets.left first.new.left c.buckets.slots first.result.0
-          c.buckets.invariant.counted first.ensures.first first.ensures.rest;
+          missed (IsTold sharing tokens) (in_table sharing tokens c.in_range.ensures) c.args.self.now.reserved c.buckets.left
+          first.new.left c.buckets.slots first.result.0 c.buckets.invariant.counted first.ensures.first first.ensures.rest
+          (λ id told. no_token sharing tokens first.result.0 id none told);
       table = c.buckets.invariant.table;
       grown = c.buckets.invariant.grown;
     }
@@ -56,9 +103,12 @@ buckets-smaller-in-Some g c = c.take_first_bucket-bucket.ensures.fewer
 pub overflow_add-slots : goal.overflow_add-slots
 overflow_add-slots g c =
     let first = c.take_first_bucket-bucket in
+    let sharing : Option ℕ = c.args.self.now.sharing in
+    let tokens : List (TokenView _) = c.args.told.now in
     let below : c.buckets.slots + first.result.1 < 2 ^ 63 =
-    counted_below (more c.args.self.now.reserved c.buckets.left first.new.left c.buckets.slots first.result.0
-    c.buckets.invariant.counted first.ensures.first first.ensures.rest first.result.1 first.ensures.size) in
+    counted_below (more (IsTold sharing tokens) (in_table sharing tokens c.in_range.ensures) c.args.self.now.reserved
+    c.buckets.left first.new.left c.buckets.slots first.result.0 c.buckets.invariant.counted first.ensures.first
+    first.ensures.rest first.result.1 first.ensures.size) in
     omega (arith, below)
 
 pub returns-clause-reserved : goal.returns-clause-reserved
@@ -72,6 +122,19 @@ returns-clause-table g c = c.buckets.invariant.table
 
 pub returns-clause-grown : goal.returns-clause-grown
 returns-clause-grown g c = c.buckets.invariant.grown
+
+pub returns-clause-told : goal.returns-clause-told
+returns-clause-told g c = λ named k d near same.
+    let counted = c.buckets.invariant.counted in
+    let told : IsTold c.args.self.now.sharing c.args.told.now _ =
+    record { named = named; at = k; some = d; near = near; of_it = same; is = refl } in
+    counted.room.whole _ told (all_counted counted c.buckets-test.false _ told)
+
+pub returns-clause-values : goal.returns-clause-values
+returns-clause-values g c =
+    let counted = c.buckets.invariant.counted in
+    tokens_fit c.args.self.now.sharing c.args.told.now counted.from c.buckets.slots counted.room
+    (all_counted counted c.buckets-test.false)
 
 pub load_announced-announced-requires : goal.load_announced-announced-requires
 load_announced-announced-requires g c =

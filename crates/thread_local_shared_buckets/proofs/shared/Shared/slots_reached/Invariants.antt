@@ -1,12 +1,14 @@
 use Rattle.std.proofs.Common.{◌≡◌, ◌≤◌, ◌-◌, ◌*◌, true}
 use Rattle.std.specs.Prelude.{max}
 use Rattle.thread_local_shared_buckets.proofs.CountedSlots.{Counted}
+use Rattle.thread_local_shared_buckets.proofs.RoomForTokens.{IsTold}
 use Rattle.thread_local_shared_buckets.proofs.shared.Shared.slots_reached.Given as goal
 
--- the reserved slots and those of the buckets so far, for which what the last bucket shows allows
+-- the reserved slots and those of the buckets so far, with those of the tokens there, for which what
+-- the last bucket shows allows
 abbrev pub invariant-buckets : goal.invariant-buckets
 invariant-buckets g l = record {
-  counted : Counted l.self.reserved l.left l.slots;
+  counted : Counted (IsTold l.self.sharing l.told) l.self.reserved l.left l.slots;
   table : l.reached.table ≡ l.self.table;
   grown : l.self.grown_by_ids ≡ true → l.slots ≤ max l.self.reserved (2 * l.reached.ids - 1);
 }

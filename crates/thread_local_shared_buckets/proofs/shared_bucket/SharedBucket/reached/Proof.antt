@@ -1,4 +1,5 @@
--- `reached` is one load of the pointer, which copies what the block shows.
+-- `reached` is one load of the pointer, which copies what the block shows, or shows that no token is
+-- of a slot of the bucket.
 use Rattle.thread_local_base.proofs.Names.{◌≡◌, ℕ, ◌+◌, [], ◌∷◌, refl, sym, ◌∙◌, lit<, true, false, Option, None}
 use Rattle.thread_local_base.proofs.Names.{Some, a_type, named, Val, vptr, vcons, vnil, inst_fn, SProp}
 use Rattle.thread_local_base.proofs.Names.{via, sem, Lft, Share, Fml, ftrue, fsep, flft, fbor, ‵, raw, ◌⊛◌}
@@ -10,11 +11,14 @@ use Rattle.thread_local_base.proofs.Names.{get, through, sets, sets_last, lands_
 use Rattle.thread_local_base.proofs.Names.{yes, RattleType, owns, types_at, plain, Ptr, block_ptr, null_ptr}
 use Rattle.thread_local_base.proofs.Names.{nothing, param, layouts, RefOf, u64, shr_vals, shr_Tells, Stays}
 use Rattle.thread_local_base.proofs.Names.{stay_dropped, walk_of, Goes-dropped, proved, leaves, fm, after}
-use Rattle.std.proofs.Common.{IfSome, IsSome}
-use base.Logic.{id⊢}
+use Rattle.std.proofs.lemmas.Option.{none-some}
+use Rattle.std.proofs.Common.{IfSome, IsSome, List, arith}
+use Rattle.thread_local_ids.specs.Views.{TokenView}
+use Rattle.thread_local_ids.specs.TokenLists.{NoneIn, tell_each}
+use Rattle.thread_local_ids.specs.contracts.tokens.token_list.TokenList as TokenList
+use Rattle.thread_local_base.specs.Fact.{fact as said_fact}
 use Rattle.thread_local_ids.specs.contracts.rights.reached.Reached as Reached
 use Rattle.thread_local_ids.proofs.Markers.{token, Mark, made}
-use base.Logic.{sep}
 use types.Run.{Calls-last}
 use denote.RawPtr.{tests_null}
 use denote.Opens.{unhide}
@@ -23,12 +27,11 @@ use Rattle.std.proofs.raw_atomic.Calls.{seq_cst}
 use Rattle.std.proofs.raw_atomic.PtrCalls as calls
 use Rattle.std.proofs.raw_atomic.PtrCalls.{seq_cst_good}
 use Rattle.std.specs.contracts.option.Option as Opt
-use Rattle.thread_local_shared_buckets.specs.Shared.{BucketView, bucket_invariant, all_unborn, len, shown_by}
-use Rattle.thread_local_shared_buckets.specs.Shared.{first as first_id}
+use Rattle.thread_local_shared_buckets.specs.Shared.{BucketView, bucket_invariant, shown_by}
 use Rattle.thread_local_shared_buckets.specs.contracts.shared_bucket.SharedBucket as one_bucket
 use Rattle.thread_local_shared_buckets.specs.contracts.shared_bucket.SharedBucket.reached.{ended, clauses, Key.name as #self}
 use Rattle.thread_local_shared_buckets.proofs.RowFields.{word_laws}
-use Rattle.thread_local_shared_buckets.proofs.Loads.{glimpse, reads}
+use Rattle.thread_local_shared_buckets.proofs.Loads.{glimpse, reads, NoneThere, none_there, forgets}
 use Rattle.thread_local_shared_buckets.proofs.shared_bucket.SharedBucket.reached.Statement.{statement}
 use Rattle.thread_local_shared_buckets.proofs.shared_bucket.SharedBucket.reached.Code as code
 use Rattle.thread_local_buckets.proofs.Slots.{ptr_good}
@@ -40,35 +43,40 @@ reached_spec 𝓤 𝓛 𝓜 𝓡 wired T L =
     let c = clauses T 𝓛 𝓜.mem 𝓡.returns in
     let inst = layouts (a_type ∷ []) (T, tt) in let fn = inst_fn inst code.function in let W : RattleType = one_bucket.the_row R in
     let self = RefOf (0 ∷ []) tt (plain (λ _. W)) (λ _. tt) in
-    let hs : Stays En.signature.params En.kept = (stay_dropped self yes, tt) in
-    proved 𝓛 En hs c 𝓜 𝓡 (Goes-dropped 𝓛 2 self yes (λ κs x f. refl), tt) (#self inst) fn
-    (code.unfolded 𝓤 H 𝓜 𝓡 wired (T, tt)) (λ κs. (shr_vals, tt))
-    (λ κs. (shr_Tells (named 0) κs.0 W, tt)) (λ κs qs bounds a gh are.
+    let tolds = RefOf (1 ∷ []) tt (plain (λ _. TokenList.the_row R)) (λ _. tt) in
+    let hs : Stays En.signature.params En.kept = (stay_dropped self yes, (stay_dropped tolds yes, tt)) in
+    proved 𝓛 En hs c 𝓜 𝓡
+    (Goes-dropped 𝓛 3 self yes (λ κs x f. refl), (Goes-dropped 𝓛 3 tolds yes (λ κs x f. refl), tt)) (#self inst) fn
+    (code.unfolded 𝓤 H 𝓜 𝓡 wired (T, tt)) (λ κs. (shr_vals, (shr_vals, tt)))
+    (λ κs. (shr_Tells (named 0) κs.0 W, (shr_Tells (named 1) κs.1.0 (TokenList.the_row R), tt))) (λ κs qs bounds a gh are.
     let b : ℕ = a.0.ref_ptr.0 in let o : ℕ = a.0.ref_ptr.1 in let κ : Lft = κs.0 in let q : Share = qs.0 in
-    let d : BucketView = a.0.now in let others : Fml = fsep (flft κs.1.0 qs.1.0) ftrue in
+    let d : BucketView = a.0.now in let others : Fml = fsep (flft κs.1.0 qs.1.0) (fsep (flft κs.1.1.0 qs.1.1.0) ftrue) in
+    let ts : List (TokenView R.Denot) = a.1.0.now.tokens in
+    let pt : Val = vptr a.1.0.ref_ptr.0 a.1.0.ref_ptr.1 in
     let G : RattleType = Reached.the_row in
     let Of : Option G.Denot → Type 0 = λ r. IfSome r (λ reached. (reached.table ≡ d.table) × (reached.ids ≡ shown_by d)) in
     let There : Option G.Denot → Type 0 = λ r. d.reserved ≡ true → IsSome r in
-    let y : (walk_of 𝓛 En hs c).Ghost = ((κs, qs, bounds, a, (vptr b o ∷ [], tt)), gh) in
+    let Absent : Option G.Denot → Type 0 = λ r. r ≡ None → NoneIn d.sharing d.bucket ts in
+    let y : (walk_of 𝓛 En hs c).Ghost = ((κs, qs, bounds, a, (vptr b o ∷ [], (pt ∷ [], tt))), gh) in
     let Post : Val → SProp 𝓤 = (walk_of 𝓛 En hs c).post y in
     qed 𝓛 (((‵ (flft κ q) ⊛ ‵ others) ⊛ ‵ (owns (types_at En.signature.params κs) a y.0.4))
     ∷ raw ((c κs a).requires gh) ∷ []) ∵
-    split ! $ split ! $ move ! (2 ∷ []) $ fsplit ! $ fsplit ! $ keep ! (1 ∷ 3 ∷ 4 ∷ []) $
-    -- [what the `&` holds; κ's token; the other token]
-    enter ! _ _ _ _ _ $ alloc_all ! (λ l. pass_all ! refl ((tt, tt), tt) $ let Ev = env fn.locals l in
+    split ! $ split ! $ move ! (2 ∷ []) $ fsplit3 ! $ fsplit ! $ move ! (2 ∷ []) $ fsplit ! $
+    keep ! (1 ∷ 3 ∷ 5 ∷ 6 ∷ []) $ unhide ! $ fsplit ! $ drop ! $ move ! (1 ∷ 2 ∷ 3 ∷ []) $
+    -- [what the `&` holds; κ's token; the others; what the tokens tell]
+    enter ! _ _ _ _ _ $ alloc_all ! (λ l. pass_all ! refl ((tt, tt), ((tt, tt), tt)) $ let Ev = env fn.locals l in
     unhide ! $ fsplit ! $ fpick ! (λ j. drop ! $ fpick ! (λ t. let J : Fml = fbor t.life (bucket_invariant R d t b (o + 0)) in fsplit ! $
-    -- [before; the invariant; κ's token; the other token]
+    -- [before; the invariant; κ's token; the other tokens; what is told]
     move ! (0 ∷ 2 ∷ []) $
     lends_token ! 𝓜 𝓡 κ t.life q $ await ! tt $ pick ! (λ s. split ! $
-    -- [the life's token; the way back; the invariant; the other token]
-    let out : Ptr → Fml = λ p. fsep (flft t.life s) (glimpse 𝓛 R d t ftrue ftrue p) in
-    let Waits : Fml = all_unborn R d.sharing d.table t (len R d) (first_id R d) in
+    -- [the life's token; the way back; the invariant; the other tokens; what is told]
+    let out : Ptr → Fml = λ p. fsep (flft t.life s) (glimpse 𝓛 R d t (said_fact (NoneThere 𝓛 R d t ts)) ftrue p) in
     first ! $ blocks ! $ sets ! (addr ! (through ! refl (fld ! refl (stop !)))) refl (tt, tt) $
     sets ! (agg ! (and_then ! (lit ! tt) (no_more !))) refl seq_cst_good $
-    nothing ! $ move ! (3 ∷ 1 ∷ 0 ∷ []) $
+    move ! (2 ∷ 0 ∷ 4 ∷ []) $
     use3 𝓛 (raw (𝓣.C _ (vptr b (o + 0) ∷ seq_cst ∷ []) (λ u. mean 𝓛 (calls.found 𝓛 out u))))
-    (via 𝓤 _ (reads 𝓛 R d t b (o + 0) s (sem 𝓛 ftrue) ftrue ftrue (id⊢ 𝓤 (sep 𝓤 (sem 𝓛 Waits) (sem 𝓛 ftrue)))
-    (id⊢ 𝓤 (sem 𝓛 ftrue)))
+    (via 𝓤 _ (reads 𝓛 R d t b (o + 0) s (sem 𝓛 (tell_each R ts)) (said_fact (NoneThere 𝓛 R d t ts)) ftrue
+    (none_there 𝓛 R d t ts) (forgets 𝓛 R d t ts))
     (calls.loads 𝓛 𝓜 𝓡 (code.calls-std::sync::atomic::raw::ptr::load 𝓡.env wired) u64 word_laws
     (block_ptr b (o + 0)) out)) $
     Calls-last ! (fm 𝓛 𝓜 𝓡) (calls.found 𝓛 out)
@@ -77,7 +85,7 @@ reached_spec 𝓤 𝓛 𝓜 𝓡 wired T L =
     (lands_last ! refl (ptr_good null_ptr) $
     exec ! 𝓣.C 𝓣.Λ Ev (after 1 fn.body) (at_ret Ev Post) $ fsplit ! $ move ! (0 ∷ 2 ∷ []) $
     returns_token ! κ t.life q s $ await ! tt $
-    move ! (1 ∷ []) $ fsplit ! $ fpick ! (λ free. drop ! $ drop ! $
+    move ! (1 ∷ []) $ fsplit ! $ fpick ! (λ free. drop ! $ fpick ! (λ absent. drop ! $
     sets ! (of_opd ! (get ! refl)) refl (ptr_good null_ptr) $
     sets ! (bin ! (get ! refl) (lit ! tt) tt) refl (tt, tt) $ first ! $ branches ! (get ! refl)
     (λ _.
@@ -85,22 +93,24 @@ reached_spec 𝓤 𝓛 𝓜 𝓡 wired T L =
     (tt, (record { fits = lit< tt }, tt)) $
     exec ! 𝓣.C 𝓣.Λ Ev (after 4 fn.body) (at_ret Ev Post) $
     sets ! (of_opd ! (get ! refl)) refl (tt, (record { fits = lit< tt }, tt)) $
-    -- [κ's token; the other token]
+    -- [κ's token; the other tokens]
     join ! $ use0 𝓛 (‵ ((Opt.the_row G).own_val None (live 0 vnil ∷ []))) (none_of 𝓛 G) $
-    knows ! (There None) (λ r. let never : true ≡ false = sym r ∙ free in cc) $
+    knows ! (Absent None) (λ _ name k x low same i near at.
+    absent i near name k x low same (omega (arith, at))) $
+    knows ! (There None) (λ r. let never : true ≡ false = sym r ∙ free in cc) $ join ! $
     knows ! (Of None) tt $ join ! $ nothing ! $
-    nothing ! $ fjoin ! $
+    nothing ! $ fjoin ! $ nothing ! $ fjoin ! $
     returns ! (look_at ! 0 refl) $ free_all ! refl $ keep ! (3 ∷ 0 ∷ 2 ∷ 1 ∷ []) $
-    by ! (leaves 𝓛 En hs c y (live 0 vnil) None (tt, tt) (tt, tt))) (λ wrong. absurd wrong)))
+    by ! (leaves 𝓛 En hs c y (live 0 vnil) None (tt, (tt, tt)) (tt, (tt, tt)))) (λ wrong. absurd wrong))))
     (λ pb po.
     let p : Ptr = block_ptr pb po in
     lands_last ! refl (ptr_good p) $ exec ! 𝓣.C 𝓣.Λ Ev (after 1 fn.body) (at_ret Ev Post) $
     fsplit ! $ move ! (0 ∷ 2 ∷ []) $
     returns_token ! κ t.life q s $ await ! tt $
-    -- [κ's token; what was seen; the other token]
+    -- [κ's token; what was seen; the other tokens]
     move ! (1 ∷ []) $ fsplit ! $ fpick ! (λ z. fsplit3 ! $ fpick ! (λ so. drop ! $ move ! (1 ∷ []) $ fsplit ! $
     -- [a part of the token of the block's life; what it shows; which block it is; nothing; κ's
-    -- token; the other token]
+    -- token; the other tokens]
     move ! (0 ∷ 2 ∷ 3 ∷ []) $ drop ! $ drop ! $ drop ! $ fsplit ! $ move ! (1 ∷ []) $ drop ! $
     sets ! (of_opd ! (get ! refl)) refl (tt, tt) $
     sets ! (bin ! (get ! refl) (lit ! tt) (tests_null p so.2.1)) refl (tt, tt) $ first ! $
@@ -114,8 +124,9 @@ reached_spec 𝓤 𝓛 𝓜 𝓡 wired T L =
     use0 𝓛 (‵ ((Mark (Reached.the_type).name).own_val (tt, tt) (token ∷ []))) (made (Reached.the_type).name 𝓛) $
     fjoin ! $ use1 𝓛 (‵ ((Opt.the_row G).own_val (Some r) (v ∷ []))) (Some-of 𝓛 G r token) $
     move ! (1 ∷ 2 ∷ []) $ join ! $ move ! (1 ∷ []) $
-    knows ! (There (Some r)) (λ _. refl) $
+    knows ! (Absent (Some r)) (λ e. absurd (none-some r (sym e))) $
+    knows ! (There (Some r)) (λ _. refl) $ join ! $
     knows ! (Of (Some r)) (refl, refl) $ join ! $ nothing ! $
-    nothing ! $ fjoin ! $
+    nothing ! $ fjoin ! $ nothing ! $ fjoin ! $
     returns ! (look_at ! 0 refl) $ free_all ! refl $ keep ! (3 ∷ 0 ∷ 2 ∷ 1 ∷ []) $
-    by ! (leaves 𝓛 En hs c y v (Some r) (tt, tt) (tt, tt))))))))))))
+    by ! (leaves 𝓛 En hs c y v (Some r) (tt, (tt, tt)) (tt, (tt, tt)))))))))))))
