@@ -15,7 +15,8 @@ use thread_local::table::CapacityError;
 use thread_local_base::{Judge, judge_sync};
 use thread_local_shared_buckets::Iter;
 
-fn crosses<X: Send + Sync>(_: &X) {}
+/// Takes what may go to another thread and be shared by threads.
+pub fn crosses<X: Send + Sync>(_: &X) {}
 
 /// Takes what may go to another thread.
 pub fn is_sent<X: Send>(_: &X) {}

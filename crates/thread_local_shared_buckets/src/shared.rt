@@ -162,8 +162,7 @@ impl<T> Shared<T> {
     /// How many slots the buckets have that stand, and that so many ids of the table were held at
     /// once, as these slots show. It loads which buckets are announced, and then the pointers of
     /// those that aren't reserved, one after another. So a bucket that is installed meanwhile may
-    /// be counted or not. The bucket of a token of `told` is counted, and so there are no fewer slots
-    /// than values of which there are tokens.
+    /// be counted or not. Proofs alone use `told`.
     pub fn slots_reached(&self, told: &Told<T>) -> (usize, Reached)
         ensures reserved { self.now.reserved ≤ result.0 }
         ensures most { result.0 < 2 ^ 63 }

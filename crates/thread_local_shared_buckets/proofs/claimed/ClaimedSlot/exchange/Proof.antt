@@ -152,8 +152,22 @@ module _ {M : Type 1} {𝓤 : Ura M} (𝓛 : Logic 𝓤) (𝓜 : Model 𝓤 𝓛
   stayed =
       let self = plain (λ κs. claim.the_row (named_lft 4 1 tt κs) R) in let number = plain (λ _. usize) in let lot = plain (λ _. Bl) in
       let shown = RefOf (2 ∷ []) tt (plain (λ _. Reached.the_row)) (λ _. tt) in
-      let known = plain (λ _. Announced.the_row) in
-      (stay_ref (0 ∷ []) tt self, (stay_dropped number yes, (stay_dropped lot no, (stay_dropped shown yes, (stay_dropped known yes, (stay_dropped number yes, tt))))))
+      let known = plain (λ _. Announced.the_row) in (
+        stay_ref (0 ∷ []) tt self,
+        (
+          stay_dropped number yes,
+          (
+            stay_dropped lot no,
+            (
+              stay_dropped shown yes,
+              (
+                stay_dropped known yes,
+                (stay_dropped number yes, tt),
+              ),
+            ),
+          ),
+        ),
+      )
 
   abbrev c : Clauses 𝓤 En
   c = clauses X 𝓛 𝓜.mem 𝓡.returns
@@ -495,7 +509,8 @@ module _ {M : Type 1} {𝓤 : Ura M} (𝓛 : Logic 𝓤) (𝓜 : Model 𝓤 𝓛
           ends l pb o 1 (lit< tt) back held (Some x) Vacant is_index close (refl, refl, all_made) refl))
 
       -- the exchange, from the function's first statement on
-      asks : Wired 𝓡.env code.code → (l : ℕ → ℕ) → sn < 2 ^ 64 → sn ≡ state_of (found_as v) → h.at ≡ block_ptr wb wo → p ≡ new → x.slots ≡ with_first i v rest → x.left ≡ 0 → ix ≡ h.index
+      asks : Wired 𝓡.env code.code → (l : ℕ → ℕ) → sn < 2 ^ 64 → sn ≡ state_of (found_as v) → h.at ≡ block_ptr wb wo → p ≡ new
+          → x.slots ≡ with_first i v rest → x.left ≡ 0 → ix ≡ h.index
           → i * stride R < 2 ^ 64 → slot_value x.slots h.index ≡ v
           → Seq (Go {0}) 𝓛 ((‵ (offers.private 𝓛 R t LR d x.heap v i rest many new ν names) ⊛ ‵ (grown d) ⊛ ‵ (right_owns t.pass (i + first_id R d)))
           ∷ ‵ lasts ∷ ‵ (finv (fbor t.life (bucket_invariant R d t wb (wo + 0)))) ∷ ‵ (flft t.life s) ∷ way_back ∷ ‵ others ∷ ‵ gained
@@ -524,7 +539,8 @@ module _ {M : Type 1} {𝓤 : Ura M} (𝓛 : Logic 𝓤) (𝓜 : Model 𝓤 𝓛
           (and_then ! (get ! refl) (and_then ! (get ! refl) (and_then ! (get ! refl) (no_more !))))))
           (λ u.
           calls.hears ! won lost
-          (λ u. lands_last ! refl (calls.answer_good (Ok u)) $ forget_but ! (Ev l) (17 ∷ 1 ∷ 2 ∷ 3 ∷ 6 ∷ 8 ∷ []) refl $ won_arm l low is_state is_index close is_value u)
+          (λ u. lands_last ! refl (calls.answer_good (Ok u)) $ forget_but ! (Ev l) (17 ∷ 1 ∷ 2 ∷ 3 ∷ 6 ∷ 8 ∷ []) refl $
+          won_arm l low is_state is_index close is_value u)
           (λ u. lands_last ! refl (calls.answer_good (Err u)) $ forget_but ! (Ev l) (17 ∷ 1 ∷ 2 ∷ 3 ∷ 6 ∷ 8 ∷ []) refl $
           lost_arm l e slots_are all_made is_index close u))
 
@@ -537,7 +553,8 @@ module _ {M : Type 1} {𝓤 : Ura M} (𝓛 : Logic 𝓤) (𝓜 : Model 𝓤 𝓛
         ∷ raw (fact 𝓤 (Incl υ X.lives)) ∷ raw (fact 𝓤 (h.learnt ≡ Missing)) ∷ raw (fact 𝓤 (ix ≡ i))
         ∷ raw (fact 𝓤 Made) ∷ raw (fact 𝓤 Had) ∷ raw (fact 𝓤 Says) ∷ raw (fact 𝓤 IsState) ∷ []) ∵
         move ! (1 ∷ 2 ∷ 3 ∷ 4 ∷ 5 ∷ 6 ∷ 7 ∷ 0 ∷ []) $ heard ! (Incl υ X.lives) (λ alive. heard ! (h.learnt ≡ Missing) (λ gone.
-        heard ! (ix ≡ i) (λ is_index. heard ! Made (λ blank. heard ! Had (λ evident. heard ! Says (λ told_so. heard ! IsState (λ is_state. split ! $ split ! $ move ! (2 ∷ []) $
+        heard ! (ix ≡ i) (λ is_index. heard ! Made (λ blank. heard ! Had (λ evident. heard ! Says (λ told_so. heard ! IsState (λ is_state.
+        split ! $ split ! $ move ! (2 ∷ []) $
         fsplit3 ! $ fsplit3 ! $ move ! (4 ∷ []) $ fsplit ! $ fsplit ! $ move ! (2 ∷ []) $ fsplit ! $ fsplit ! $
         move ! (2 ∷ []) $ fsplit ! $ fsplit ! $
         keep ! (4 ∷ 8 ∷ 9 ∷ 11 ∷ 12 ∷ 6 ∷ 1 ∷ []) $ unhide ! $ fsplit ! $ drop ! $ move ! (1 ∷ 2 ∷ 3 ∷ 4 ∷ 5 ∷ 0 ∷ []) $
