@@ -37,6 +37,7 @@ mod error;
 pub mod iter;
 pub mod local;
 pub mod padded;
+mod seat;
 pub mod table;
 pub mod thread_id;
 

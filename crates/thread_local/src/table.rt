@@ -19,10 +19,10 @@ ghost use Rattle.thread_local_ids.specs.TokenLists.{AllOf};
 ghost use Rattle.thread_local_shared_buckets.specs.Grown.{only_reserved};
 ghost use Rattle.thread_local_shared_buckets.specs.Walks.{fresh, fresh_with};
 
-use crate::local::Local;
+use crate::local::{By, Local, Seat, Seated};
 use std::alloc::Global;
 use std::default::MadeWith;
-use std::marker::Model;
+use std::marker::{Model, PhantomData};
 use std::sync::Wait;
 use thread_local_base::held::a_history_leaves_ids_held;
 use thread_local_base::walk::walk_lists_the_map;
@@ -222,12 +222,16 @@ impl<T> ThreadLocal<T> {
             → HoldsAllBelow (2 ^ 63 - 1) (held_after page.new.moves) }
     {
         let (held, right, tenure) = self.ids.take(rt, page, &self.room)?;
-        Ok(Local {
-            rt,
+        let seat = Seat {
             table: self,
             claim: self.buckets.claim(held, right, tenure.reached()),
             tenure,
-        })
+        };
+        let by = By {
+            rt,
+            of: PhantomData,
+        };
+        Ok(Seated { by, seat })
     }
 
     /// How many slots the table's buckets have together.

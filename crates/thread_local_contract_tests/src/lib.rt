@@ -11,6 +11,8 @@ mod judged;
 #[cfg(test)]
 mod same;
 #[cfg(test)]
+mod seat_callers;
+#[cfg(test)]
 mod slot_callers;
 #[cfg(test)]
 mod tokens;

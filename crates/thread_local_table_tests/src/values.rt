@@ -273,7 +273,7 @@ fn a_default_replaces_no_value(rt: HostRuntime) {
     assert_same(&rt, default_cells(&table, &rt), Some([3, 0, 3]));
 }
 
-/// Beside a first `Local`, one of its table and one of another publish 2 and 3, and the two are
+/// Beside a first `Local`, one of its table and one of another publish 2 and 3, and their seats are
 /// swapped. Answers what each was told, and what the first found before the third was taken, and
 /// after the swap.
 fn swap_beside<'a, R: Wait>(
@@ -287,7 +287,7 @@ fn swap_beside<'a, R: Wait>(
     let before = found(first);
     let mut third = other.local(rt).ok()?;
     let three = published(&mut third, 3);
-    swap(&mut third, &mut second);
+    swap(third.seat_mut(), second.seat_mut());
     Some(([two, three], [before, found(first)]))
 }
 
@@ -312,7 +312,7 @@ fn found_by_two<R: Wait>(table: &ThreadLocal<u32>, rt: &R) -> Option<[Option<u32
 }
 
 #[test]
-fn swapped_locals_go_back_to_their_tables(rt: HostRuntime) {
+fn swapped_seats_go_back_to_their_tables(rt: HostRuntime) {
     let table = numbers(rt.alloc());
     let other = numbers(rt.alloc());
     let swapped = swap_the_latter_two(&table, &other, &rt);

@@ -1,4 +1,4 @@
-//! Walks print their cursor, and a `Local` its value.
+//! Walks print their cursor, and a `Local` and its seat their value.
 
 use crate::numbers::{publish_held, publishes};
 use crate::same::assert_same;
@@ -112,13 +112,14 @@ fn the_three_walks_of_one_value_print_their_cursor(rt: HostRuntime) {
     );
 }
 
-/// Whether a new `Local` that publishes -3 is shown with it.
+/// Whether a new `Local` that publishes -3 is shown with it, and so is its seat.
 fn shows_a_negative_number<R: Wait>(table: &ThreadLocal<i32>, rt: &R, alloc: Global) -> bool {
     let Ok(mut local) = table.local(rt) else {
         return false;
     };
     let told = local.get_or(|| -3).ok().copied();
-    told == Some(-3) && prints(&local, alloc, "ThreadLocal { local_data: Some(-3) }")
+    let text = "ThreadLocal { local_data: Some(-3) }";
+    told == Some(-3) && prints(&local, alloc, text) && prints(local.seat(), alloc, text)
 }
 
 #[test]

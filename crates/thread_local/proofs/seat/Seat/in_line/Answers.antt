@@ -3,7 +3,7 @@ use Rattle.std.specs.Prelude.{List}
 use mathlib.Core.List.{IsPrefix}
 use mathlib.Core.Logic.{◌∨₁◌}
 use Rattle.thread_local_base.specs.IdMoves.{IdMove, Take, noted}
-use Rattle.thread_local.proofs.local.Local.in_line.Goals as goal
+use Rattle.thread_local.proofs.seat.Seat.in_line.Goals as goal
 
 abbrev Line : List IdMove → List IdMove → Type 0
 Line a b = IsPrefix a b ∨₁ IsPrefix b a
