@@ -8,7 +8,7 @@ use std::error::Error;
 use std::fmt;
 use thread_local_base::LocalError;
 
-/// Why `get_or_try` and `try_fill` leave the slot empty.
+/// Why `get_or_try`, `get_or_try_lasting` and `try_fill` leave the slot empty.
 #[derive(Clone, Copy, Debug, Drop, PartialEq, Eq)]
 pub enum TryError<E> {
     /// Out of memory for the slot's bucket.
@@ -17,7 +17,7 @@ pub enum TryError<E> {
     Create(E),
 }
 
-/// Why `set` gives its value back.
+/// Why `set` and `publish` give their value back.
 #[derive(Clone, Copy, Debug, Drop, PartialEq, Eq)]
 pub enum SetError<T> {
     /// The slot holds a value.

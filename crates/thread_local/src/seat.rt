@@ -30,8 +30,8 @@ mod lends;
 /// its id and its table along, and the drop of a `Local` gives back the id of the seat that it has
 /// then.
 ///
-/// No call takes a lock. The closure or the `T::made_with` that some run may wait, and so may the
-/// drop of a closure that they don't run; otherwise they are proved to return, and so is a caller's
+/// No call takes a lock. What some run of the caller's may wait and take memory: a closure or its
+/// drop, `T::made_with`, the Debug of `T`. Otherwise they are proved to return, and so is a caller's
 /// function over a `&mut Seat`. Only `set`, `publish` and the `get_or` family (`get_or`,
 /// `get_or_default`, `get_or_try`, `get_or_try_lasting`, `try_fill`) take memory, for a bucket.
 /// References that calls answer live no longer than the borrow of the seat, but that of
@@ -79,7 +79,7 @@ impl<'a, T> Seat<'a, T> {
 
     /// What the slot was published with, as a token, where it holds a value: whoever has the token
     /// reads that value through the table, for as long as the sharing lasts, and an owner finds it
-    /// who ends the sharing by `into_buckets_and_book`. Without a sharing it answers a token that
+    /// who ends the sharing by a call that answers a book. Without a sharing it answers a token that
     /// is good for nothing. It reads what the seat knows already, without an atomic operation.
     pub fn token(&self) -> Option<Token<T>>
         ensures { result ≡ token_of self.now }
@@ -258,8 +258,8 @@ impl<'a, T> Seat<'a, T> {
 
     /// The value. Where the slot is empty, memory for a missing bucket is asked for. Then the closure
     /// is called and its value is published, with the bucket if that was missing. `Create` hands on
-    /// the closure's error: nothing is published, and the bucket stands. `Memory` means out of memory for
-    /// the bucket, and the closure isn't called. Rust's crate makes the value before its bucket,
+    /// the closure's error: nothing is published, and the bucket stands. `Memory` means out of memory
+    /// for the bucket, and the closure isn't called. Rust's crate makes the value before its bucket,
     /// takes `&self`, and doesn't answer out of memory. It is `try_fill` and then `get`, which stand
     /// for it where the proof goes on afterwards.
     pub fn get_or_try<F: FnOnce() -> Result<T, E> + Drop, E>(

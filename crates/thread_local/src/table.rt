@@ -141,7 +141,7 @@ impl<T> ThreadLocal<T> {
 
     /// A table with no value and no id held, but with room for `capacity` ids, and with the first
     /// buckets, one for each binary digit of the capacity. Their slots are reserved:
-    /// `Local::is_reserved` says of a `Local` whether its slot is one of them.
+    /// `is_reserved` says of a `Local` whether its slot is one of them.
     ///
     /// `TooLarge` means that the capacity is 2^63 or more, and comes before memory is asked for.
     /// `Memory` means out of memory, for ids beyond the first 64 or for a bucket: it asks for the

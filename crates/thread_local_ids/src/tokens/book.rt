@@ -55,8 +55,8 @@ impl<T> Book<T> {
         }
     }
 
-    /// A token of the value that the slot of an id had when the sharing ended. So a value is in the
-    /// buckets exactly where there is a token of it.
+    /// A token of the value that the slot of an id had when the sharing ended. So with `tells`, where
+    /// the sharing has a name, a value is in the buckets exactly where there is a token of it.
     pub fn token(&self, id: usize) -> Token<T>
         requires in_range { id < 2 ^ 63 - 1 }
         requires published { IsSome (values self.now.contents id) }

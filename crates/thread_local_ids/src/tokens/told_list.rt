@@ -7,7 +7,8 @@ use std::marker::Model;
 
 /// Tokens whose values a walk is to give for sure (`ThreadLocal::iter_told`), or whose slots a count
 /// is to have (`ThreadLocal::slots_and_peak`). The list borrows none of them, and contracts alone see
-/// what is in it: it has no bytes, and no call does anything at run time. It may be sent and shared whatever the type is. Rust's crate has no such type.
+/// what is in it: it has no bytes, and no call does anything at run time. It may be sent and shared
+/// whatever the type is. Rust's crate has no such type.
 #[derive(Drop)]
 pub struct Told<T> {
     list: TokenList<T>,
