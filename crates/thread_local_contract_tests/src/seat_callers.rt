@@ -15,11 +15,7 @@ use thread_local::local::{Local, Seat, SetError};
 use thread_local::table::{Token, Told};
 
 /// The first of two values stays, and the second closure isn't called.
-fn kept_by_a_seat(
-    seat: &mut Seat<'_, u32>,
-    first: u32,
-    second: u32,
-) -> Result<u32, AllocError>
+fn kept_by_a_seat(seat: &mut Seat<'_, u32>, first: u32, second: u32) -> Result<u32, AllocError>
     requires { seat.old.value ≡ None }
     ensures { IfOk result (λ got. (got ≡ first) × (seat.new.value ≡ Some got)) }
 {
@@ -121,10 +117,12 @@ fn told(seat: &Seat<'_, u32>) -> (usize, bool, Option<u32>, Option<usize>, [usiz
 fn filled<R: Wait>(
     table: &ThreadLocal<u32>,
     rt: &R,
-) -> Option<(
-    [Option<u32>; 5],
-    (usize, bool, Option<u32>, Option<usize>, [usize; 3]),
-)> {
+) -> Option<
+    (
+        [Option<u32>; 5],
+        (usize, bool, Option<u32>, Option<usize>, [usize; 3]),
+    ),
+> {
     let mut local = table.local(rt).ok()?;
     Some((answered(local.seat_mut()), told(local.seat())))
 }

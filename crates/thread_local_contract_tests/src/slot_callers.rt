@@ -10,7 +10,7 @@ use crate::same::assert_same;
 use std::alloc::Global;
 use std::sync::Wait;
 use thread_local::ThreadLocal;
-use thread_local::local::Local;
+use thread_local::local::{Local, Seat};
 use thread_local::table::{CapacityError, Page, Token, Told};
 use thread_local_base::held::{
     a_history_leaves_ids_held, least_is_least, taking_changes_the_least,
@@ -102,15 +102,15 @@ fn peaks<T, R: Wait>(table: &ThreadLocal<T>, rt: &R) -> (usize, usize)
 }
 
 /// While a `Local` lives, and afterwards, the peak is above its id.
-fn above<T, R: Wait>(table: &ThreadLocal<T>, rt: &R, local: &Local<'_, T, R>) -> usize
-    requires table { local.now.table ≡ table.now.table }
-    requires least { local.now.id ≡ least (held_after local.now.before) }
-    ensures { local.now.id < result }
+fn above<T, R: Wait>(table: &ThreadLocal<T>, rt: &R, seat: &Seat<'_, T>) -> usize
+    requires table { seat.now.table ≡ table.now.table }
+    requires least { seat.now.id ≡ least (held_after seat.now.before) }
+    ensures { seat.now.id < result }
 {
     least_is_least();
     taking_changes_the_least();
     a_history_leaves_ids_held();
-    let (_, peak) = table.slots_and_peak(rt, &mut local.page(), &Told::new());
+    let (_, peak) = table.slots_and_peak(rt, &mut seat.page(), &Told::new());
     peak
 }
 

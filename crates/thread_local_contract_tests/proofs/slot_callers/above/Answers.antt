@@ -20,7 +20,7 @@ below held peak bound is = by (least held == length held) refl is
 
 pub returns : goal.returns
 returns g c =
-    let before : List IdMove = c.args.local.now.before in
+    let before : List IdMove = c.args.seat.now.before in
     let held : List Bool = held_after before in
     let low =
     below held (length (with_least held)) (c.least_is_least.ensures.bounded held) (c.taking_changes_the_least.ensures.peak held) in
