@@ -3,7 +3,7 @@
 use std::alloc::Global;
 use std::sync::Wait;
 use std::thread;
-use std::thread::Threads;
+use std::thread::{Threads, yield_now};
 use thread_local::ThreadLocal;
 use thread_local::local::Local;
 use thread_local_base::{Thread, bucket_size};
@@ -12,8 +12,8 @@ use thread_local_shared_buckets::Iter;
 /// How many `Local`s publish during a walk.
 const LOCALS: u64 = 24;
 
-/// How many walks are made before giving up.
-const WALKS: u64 = 100_000;
+/// How many walks are made before giving up. Beside them the threads have a second or more to publish.
+const WALKS: u64 = 1_000_000;
 
 /// Whether a walk has just passed an id, and gave this number of values.
 fn has_passed(walk: &Iter<'_, u64>, alloc: Global, id: usize, given: u64) -> bool {
@@ -70,6 +70,7 @@ fn walk_until_all(table: &ThreadLocal<u64>, alloc: Global, round: u64) -> bool {
             }
             None => return false,
         }
+        yield_now();
     }
     false
 }
