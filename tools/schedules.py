@@ -41,7 +41,8 @@ class Moment:
     after: Core
     most: int  # the greatest number of ids held at once since the table was made or cleared
     publishings: int  # how many values were published since then, or since it was drained
-    moves: tuple  # the takes and gives of ids since the table was made or cleared
+    moves: tuple  # the takes, gives and publishings since the table was made or cleared
+    told: bool  # no rewrite and no drain came since then
     bound: int  # each take so far came while fewer ids than this were held
 
 
@@ -103,14 +104,19 @@ def clause_least(m):
 
 
 def clause_history(m):
-    """The held ids are those that the takes and gives leave held."""
-    return model.shadow(m.after).held == model.held_after(m.moves)
+    """The held ids are those that the history leaves held."""
+    return model.shadow(m.after).held == model.held_from((), m.moves)
+
+
+def clause_as_published(m):
+    """The values are those that the history says, if no rewrite and no drain came."""
+    return not m.told or all(model.published_in(m.moves, k) == v for k, v in enumerate(model.shadow(m.after).values))
 
 
 def clause_least_after(m):
-    """A new Local gets the least id that the takes and gives before it leave free."""
+    """A new Local gets the least id that the history before it leaves free."""
     made = model.newcomer(m.before, m.event) if is_granted_take(m) else None
-    return made is None or made.id == least(model.held_after(m.moves[:-1]))
+    return made is None or made.id == least(model.held_from((), m.moves[:-1]))
 
 
 @tries("every_schedule", "unshared", "held")
@@ -1081,6 +1087,10 @@ def clause_walk_begins(m):
     return not model.begins_walk(m.event) or m.event == ("BeginWalk",)
 
 
+def clause_values_change(m):
+    return not model.changes_values(m.event) or m.event[0] == "Owner" and m.event[1][0] in ("RewriteTable", "DrainTable", "ClearTable")
+
+
 def clause_table_ends(m):
     return not model.ends_table(m.event) or m.event in (("Owner", ("IntoIter",)), ("Owner", ("DropTable",)))
 
@@ -1123,7 +1133,8 @@ class Schedule:
     refusals: int
     most: int  # the greatest number of ids held at once since the table was made or cleared
     publishings: int  # how many values were published since then, or since it was drained
-    moves: tuple  # the takes and gives of ids since the table was made or cleared
+    moves: tuple  # the takes, gives and publishings since the table was made or cleared
+    told: bool  # no rewrite and no drain came since then
 
 
 def whole_nothing(s):
@@ -1147,10 +1158,25 @@ def whole_one_published(s):
     return model.publishings(s.first, s.events) == s.publishings
 
 
-@tries("words_say", "one_take", "one_give", "ids_anew", "no_id_moves", "no_more_noted")
+@tries("words_say", "one_take", "one_give", "one_publish", "history_anew", "no_history", "no_more_noted")
 def whole_one_take(s):
-    """A granted take and a give back are noted, a clear begins anew, and nothing else is noted."""
-    return model.id_moves(s.first, s.events) == s.moves
+    """A granted take, a give back and a publishing are noted, a clear begins anew, and nothing else is noted."""
+    return model.history(s.first, s.events) == s.moves
+
+
+@tries("words_say", "rewritten", "drained", "cleared", "published_at_first", "published_as_before")
+def whole_rewritten(s):
+    """A rewrite and a drain change what was published, a clear begins anew, and nothing else counts."""
+    return model.is_as_published(s.first, s.events) == s.told
+
+
+@tries("every_schedule", "published_since")
+def whole_published_since(s):
+    """Since the values were last changed, each slot has kept its value, or got what the history since then says."""
+    last = max((k + 1 for k, it in enumerate(s.events) if model.changes_values(it)), default=0)
+    core, later = model.run(s.first, s.events[:last]), s.events[last:]
+    there, now, moves = model.shadow(core).values, model.shadow(model.run(core, later)).values, model.history(core, later)
+    return all(v == model.or_else(there[k], model.published_in(moves, k)) for k, v in enumerate(now))
 
 
 # For each clause the function that tries it, by the name that it has in a theorem.
@@ -1300,7 +1326,7 @@ def one_schedule(seed, length, seen):
     chance = random.Random(seed)
     capacity = min(chance.choice([0, 0, 0, 1, 2, 3, 4, model.IDS]), model.IDS)
     first = core = model.made_core(capacity, chance.choice([0, 0, 1, 3]))
-    most, bound, publishings, refusals, moves, events, waiting = 0, 0, 0, 0, (), [], []
+    most, bound, publishings, refusals, moves, told, events, waiting = 0, 0, 0, 0, (), True, [], []
     for mark in range(length):
         if not waiting and chance.random() < 0.02:
             waiting = quiet_events(chance, core)
@@ -1320,23 +1346,27 @@ def one_schedule(seed, length, seen):
             name = ("refused " if refused else "") + kind_of(event)
             seen[name] = seen.get(name, 0) + 1
             if event == ("Owner", ("ClearTable",)):
-                most, publishings, moves = 0, 0, ()
+                most, publishings, moves, told = 0, 0, (), True
             if event == ("Owner", ("DrainTable",)):
-                publishings = 0
+                publishings, told = 0, False
             if event[0] == "TakeId" and not refused:
                 moves += (("Take",),)
             if event[0] == "GiveBack":
                 moves += (("Give", core.locals[event[1]].id),)
-            publishings += model.move_of(core, event)[0] == "Publish"
+            if model.move_of(core, event)[0] == "Publish":
+                publishings += 1
+                moves += (model.move_of(core, event),)
+            if event[0] == "Owner" and event[1][0] == "RewriteTable":
+                told = False
         most = max(most, held_count(after.held))
-        moment = Moment(capacity, core, event, after, most, publishings, moves, bound)
+        moment = Moment(capacity, core, event, after, most, publishings, moves, told, bound)
         failed = first_failed(CLAUSES, moment)
         if failed:
             return failed, events
         core = after
         if core.ended and chance.random() < 0.2:
             break
-    return first_failed(WHOLE, Schedule(first, events, bound, refusals, most, publishings, moves)), events
+    return first_failed(WHOLE, Schedule(first, events, bound, refusals, most, publishings, moves, told)), events
 
 
 def try_runs(seed, runs, length):
@@ -1808,14 +1838,14 @@ def wrong_effects():
         moves = ()
         for event in events:
             take = event[0] == "TakeId" and model.is_enabled(core, event)
-            moves = model.ids_noted(moves, ("Take",) if take else model.move_of(core, event))
+            moves = model.history_with(moves, ("Take",) if take else model.move_of(core, event))
             core = model.happens(core, event)
         return moves
 
     def notes(noted):
-        return {"ids_noted": lambda moves, move: noted(moves, move) if move[0] in ("Take", "Give") else kept_noted(moves, move)}
+        return {"history_with": lambda moves, move: noted(moves, move) if move[0] in ("Take", "Give", "Publish") else kept_noted(moves, move)}
 
-    kept_drained, kept_noted = model.drained, model.ids_noted
+    kept_drained, kept_noted, kept_told = model.drained, model.history_with, model.as_published_with
     kept_of, kept_of_walk, kept_ends, kept_begins = model.is_of, model.is_of_walk, model.ends_table, model.begins_walk
 
     def steps(**it):
@@ -1846,11 +1876,13 @@ def wrong_effects():
         "a drain makes its buckets anew": {"drained": makes_anew},
         "a drain takes the ids back": owners_drain(lambda core: replace(core, held=())),
         "a drain lets the room go": owners_drain(lambda core: replace(core, room=len(core.held))),
-        "a refused take is noted": {"id_moves": notes_refused},
+        "a refused take is noted": {"history": notes_refused},
         "a take is noted twice": notes(lambda moves, move: moves + (move,) * (2 if move == ("Take",) else 1)),
         "a give isn't noted": notes(lambda moves, move: moves if move[0] == "Give" else moves + (move,)),
-        "a clear doesn't begin the ids anew": {"ids_noted": lambda moves, move: moves + (move,) * (move[0] in ("Take", "Give"))},
-        "a drain begins the ids anew": {"ids_noted": lambda moves, move: () if move == ("Drain",) else kept_noted(moves, move)},
+        "a publishing isn't noted": notes(lambda moves, move: moves if move[0] == "Publish" else moves + (move,)),
+        "a clear doesn't begin the history anew": {"history_with": lambda moves, move: moves + (move,) * (move[0] in ("Take", "Give", "Publish"))},
+        "a drain begins the history anew": {"history_with": lambda moves, move: () if move == ("Drain",) else kept_noted(moves, move)},
+        "a drain leaves the values as published": {"as_published_with": lambda before, move: before if move == ("Drain",) else kept_told(before, move)},
         "publishings are counted across a drain": {"publishings": counts_on_drains},
         "only the ids below 4 publish": steps(SetFlag=published_below),
         "a second load teaches nothing": steps(LoadPointer=loads_once),

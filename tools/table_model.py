@@ -813,28 +813,60 @@ def publishings(core, events):
     return count
 
 
-def id_moves(core, events):
-    """The takes and gives of ids since the table was made, or cleared by these events."""
+def history(core, events):
+    """The takes, gives and publishings since the table was made, or cleared by these events."""
     moves = ()
     for event in events:
-        moves = ids_noted(moves, move_of(core, event))
+        moves = history_with(moves, move_of(core, event))
         core = happens(core, event)
     return moves
 
 
-def ids_noted(moves, move):
-    """A take and a give are noted, and a clear begins anew."""
-    if move[0] in ("Take", "Give"):
+def history_with(moves, move):
+    """A take, a give and a publishing are noted, and a clear begins anew."""
+    if move[0] in ("Take", "Give", "Publish"):
         return moves + (move,)
     return () if move == ("Clear",) else moves
 
 
-def held_after(moves):
-    """The ids that these takes and gives leave held."""
-    held = ()
+def held_from(held, moves):
+    """The ids that these moves leave held, where these were held before."""
     for move in moves:
-        held = with_least(held) if move == ("Take",) else without(held, move[1])
+        if move == ("Take",):
+            held = with_least(held)
+        elif move[0] == "Give":
+            held = without(held, move[1])
     return held
+
+
+def published_in(moves, identity):
+    """What these moves published at an id: the first value."""
+    return next((it[2] for it in moves if it[0] == "Publish" and it[1] == identity), None)
+
+
+def or_else(there, value):
+    """The value of a slot where one was there before, and another is published."""
+    return value if there is None else there
+
+
+def is_as_published(core, events):
+    """Whether no rewrite and no drain came since the table was made, or cleared by these events."""
+    told = True
+    for event in events:
+        told = as_published_with(told, move_of(core, event))
+        core = happens(core, event)
+    return told
+
+
+def as_published_with(before, move):
+    """A rewrite and a drain end that, and a clear begins anew."""
+    if move[0] in ("Rewrite", "Drain"):
+        return False
+    return move == ("Clear",) or before
+
+
+def changes_values(event):
+    return event[0] == "Owner" and event[1][0] in ("RewriteTable", "DrainTable", "ClearTable")
 
 
 def is_refused(core, event):

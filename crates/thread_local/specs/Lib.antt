@@ -3,6 +3,7 @@ pub use Rattle.thread_local_base.specs.Held
 pub use Rattle.thread_local_base.specs.IdMoves
 pub use Rattle.thread_local_base.specs.Place
 pub use Rattle.thread_local_base.specs.Walk
+pub use Rattle.thread_local_ids.specs.Sharings
 pub use Rattle.thread_local_ids.specs.TokenLists
 pub use Rattle.thread_local_ids.specs.Views
 pub use Rattle.thread_local_base.specs.Answers

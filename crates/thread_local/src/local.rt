@@ -1,5 +1,7 @@
 //! What a thread has in a table: an id of its own, through which it finds or makes its value.
 ghost use Rattle.std.specs.Prelude.{◌≡◌};
+ghost use Rattle.thread_local_base.specs.IdMoves.{published_in};
+ghost use Rattle.thread_local_ids.specs.Sharings.{IsFirst, left_of};
 ghost use Rattle.thread_local.specs.Locals.{EndsWithReturn};
 
 pub use crate::error::{SetError, TryError};
@@ -9,6 +11,7 @@ use std::fmt;
 use std::marker::{Model, PhantomData};
 use std::sync::Wait;
 use thread_local_ids::Page;
+pub use thread_local_ids::left::a_value_left_is_found;
 
 // How a `Local` lends its seat stands in local/lends.rt.
 mod lends;
@@ -78,6 +81,8 @@ impl<'a, T, R: Wait> Local<'a, T, R> {
     pub fn give_back(self) -> Page
         ensures table { result.table ≡ self.entry.table }
         ensures moves { EndsWithReturn self.entry result.moves }
+        ensures left { IsFirst self.entry.sharing self.entry.table
+            → published_in result.moves self.entry.id ≡ left_of T.row self.entry.value }
     {
         let Self { by, seat } = self;
         let By { rt, of: _ } = by;

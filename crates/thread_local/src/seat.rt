@@ -3,7 +3,8 @@ ghost use Rattle.std.specs.Prelude.{◌≡◌, ◌≢◌, ◌-◌, ◌^◌, ◌<
 ghost use Rattle.std.specs.Prelude.{OnOk, OnErr, IfOk, IfErr, IsOk, IsSome, option_map, alloc_error, Result};
 ghost use Rattle.thread_local_base.specs.Answers.{Get, GetOr, Found, Refused, Failed, answer};
 ghost use Rattle.thread_local_base.specs.Cursor.{fresh_cursor};
-ghost use Rattle.thread_local_base.specs.IdMoves.{Take, held_after, noted};
+ghost use Rattle.thread_local_base.specs.IdMoves.{Take, held_after, noted, published_in};
+ghost use Rattle.thread_local_ids.specs.Sharings.{IsFirst, left_of};
 ghost use Rattle.thread_local_base.specs.Held.{is_held};
 ghost use mathlib.Core.List.{IsPrefix};
 ghost use mathlib.Core.Logic.{◌∨₁◌};
@@ -141,6 +142,8 @@ impl<'a, T> Seat<'a, T> {
     pub(crate) fn give_back<R: Wait>(self, rt: &R) -> Page
         ensures table { result.table ≡ self.entry.table }
         ensures moves { EndsWithReturn self.entry result.moves }
+        ensures left { IsFirst self.entry.sharing self.entry.table
+            → published_in result.moves self.entry.id ≡ left_of T.row self.entry.value }
     {
         let Self {
             table,

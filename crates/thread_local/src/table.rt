@@ -11,10 +11,11 @@ ghost use Rattle.thread_local_base.specs.Buckets.{values};
 ghost use Rattle.thread_local_base.specs.Judged.{Judged};
 ghost use Rattle.thread_local_base.specs.Place.{bucket_of};
 ghost use Rattle.thread_local_base.specs.Walk.{walk};
-ghost use Rattle.thread_local_base.specs.Held.{least, held_count, HoldsAllBelow};
-ghost use Rattle.thread_local_base.specs.IdMoves.{Take, held_after, noted};
+ghost use Rattle.thread_local_base.specs.Held.{least, is_held, held_count, HoldsAllBelow};
+ghost use Rattle.thread_local_base.specs.IdMoves.{Take, held_after, noted, published_in};
 ghost use mathlib.Core.List.{IsPrefix};
 ghost use Rattle.thread_local_ids.specs.SharedIds.{AreNew};
+ghost use Rattle.thread_local_ids.specs.Sharings.{IsFirst, is_first, left_of};
 ghost use Rattle.thread_local_ids.specs.TokenLists.{AllOf};
 ghost use Rattle.thread_local_shared_buckets.specs.Grown.{only_reserved};
 ghost use Rattle.thread_local_shared_buckets.specs.Walks.{fresh, fresh_with};
@@ -30,7 +31,7 @@ use thread_local_base::{LocalError, Thread};
 pub use thread_local_base::{Judge, judge_sync, judge_value};
 pub use thread_local_buckets::CapacityError;
 use thread_local_buckets::{Buckets, EntriesMut, IntoEntries, IntoIter, IterMut};
-use thread_local_ids::{Right, Room, SharedIds};
+use thread_local_ids::{Right, Room, SharedIds, SlotRights};
 pub use thread_local_ids::{Book, Page, Token, Told};
 use thread_local_shared_buckets::{Entries, Iter, Shared, Tokens};
 
@@ -67,7 +68,9 @@ mod lends;
 ///
 /// What was done with the table's ids, in the order of its steps, is their history. A `Page` is a
 /// beginning of it, which has no bytes. Each `Local` has the page that ends with its take, and
-/// returns have theirs, so callers tell which id was taken or given back before which.
+/// returns have theirs, so callers tell which id was taken or given back before which. In the
+/// first sharing, which begins when the table is made or cleared, the history also says with which
+/// value a slot was published: it is noted when the `Local` gives the id back.
 pub struct ThreadLocal<T> {
     pub(crate) buckets: Shared<T>,
     pub(crate) ids: SharedIds,
@@ -79,6 +82,7 @@ pub struct ThreadLocal<T> {
 
 impl<T> Model for ThreadLocal<T> {
     ghost use Rattle.std.specs.Prelude.{◌≡◌, ◌-◌, ◌^◌, []};
+    ghost use Rattle.thread_local_ids.specs.Sharings.{Belongs};
     ghost use Rattle.thread_local.specs.Tables.{ThreadLocalView, thread_local_view_coded, thread_local_view};
 
     ghost Value = { ThreadLocalView };
@@ -88,14 +92,16 @@ impl<T> Model for ThreadLocal<T> {
     ghost view = { λ table. thread_local_view table.buckets table.room.ids };
 
     // The ids are those of the table whose buckets these are, and so are the table's
-    // right, its room, and the first page, which tells of no move.
+    // right, its room, and the first page, which tells of no move. The sharing isn't the first of
+    // another table.
     ghost invariant = { λ table.
         (table.ids.table ≡ table.buckets.table)
         × (table.table_right.table ≡ table.buckets.table)
         × (table.table_right.id ≡ 2 ^ 63 - 1)
         × (table.first.table ≡ table.buckets.table)
         × (table.first.moves ≡ [])
-        × (table.room.table ≡ table.buckets.table) };
+        × (table.room.table ≡ table.buckets.table)
+        × Belongs table.buckets.sharing table.buckets.table };
 }
 
 impl<T> ThreadLocal<T> {
@@ -107,6 +113,7 @@ impl<T> ThreadLocal<T> {
         T: Send,
         requires judged { Judged T.row }
         ensures sharing { IsSome result.sharing }
+        ensures first { IsFirst result.sharing result.table }
         ensures reserved { result.reserved ≡ 0 }
         ensures room { result.room ≡ 0 }
         ensures grown { result.grown_by_ids ≡ true }
@@ -114,23 +121,25 @@ impl<T> ThreadLocal<T> {
         ThreadLocal::of(alloc, Buckets::new(alloc), SharedIds::new(alloc))
     }
 
-    /// Makes a table of an owner's buckets and of new ids.
+    /// Makes a table of an owner's buckets, which have no value, and of new ids.
     fn of(
         alloc: Global,
         buckets: Buckets<T>,
-        made: (SharedIds, Right, Page, Room),
+        made: (SharedIds, Right, Page, Room, SlotRights),
     ) -> ThreadLocal<T>
         requires judged { Judged T.row }
+        requires empty { (id : ℕ) → values buckets.contents id ≡ None }
         requires ids { AreNew made }
         ensures sharing { IsSome result.sharing }
+        ensures first { IsFirst result.sharing result.table }
         ensures reserved { result.reserved ≡ buckets.reserved }
         ensures room { result.room ≡ made.3.ids }
         ensures grown { result.grown_by_ids ≡ only_reserved buckets }
     {
-        let (ids, table_right, first, room) = made;
+        let (ids, table_right, first, room, slots) = made;
         let (pointers, reserved) = buckets.into_parts();
         ThreadLocal {
-            buckets: Shared::new(pointers, reserved, &table_right),
+            buckets: Shared::first(pointers, reserved, &table_right, slots),
             ids,
             table_right,
             first,
@@ -152,6 +161,7 @@ impl<T> ThreadLocal<T> {
         T: Drop + Send,
         requires judged { Judged T.row }
         ensures sharing { IfOk result (λ table. IsSome table.sharing) }
+        ensures first { IfOk result (λ table. IsFirst table.sharing table.table) }
         ensures reserved { IfOk result (λ table. table.reserved ≡ reserved_slots capacity) }
         ensures room { IfOk result (λ table. capacity ≤ table.room) }
         ensures grown { IfOk result (λ table. table.grown_by_ids ≡ true) }
@@ -165,9 +175,9 @@ impl<T> ThreadLocal<T> {
     }
 
     /// A `Local` with the least id that isn't held after what was done with the ids before: the
-    /// `Local` knows that, and `local_after` also says how it extends what the caller knew. It
-    /// may take the table's lock, so it may wait, and looks once whether the id's slot holds a value,
-    /// so that `get` needs no look.
+    /// `Local` knows that, and `local_after` also says how it extends what the caller knew. In the
+    /// table's first sharing the slot holds what these moves say. The call may take the table's lock,
+    /// so it may wait, and looks once whether the id's slot holds a value, so that `get` needs no look.
     ///
     /// It asks for memory only where all ids from 58 on are held that there is room for, and not for
     /// the first 64: `Memory` means out of memory. `Exhausted` means that all 2^63 - 1 ids are held.
@@ -180,6 +190,9 @@ impl<T> ThreadLocal<T> {
             × (local.reserved ≡ self.now.reserved)) }
         ensures in_range { IfOk result (λ local. local.id < 2 ^ 63 - 1) }
         ensures least { IfOk result (λ local. local.id ≡ least (held_after local.before)) }
+        ensures left { IfOk result (λ local.
+            IsFirst local.sharing local.table
+            → left_of T.row local.value ≡ published_in local.before local.id) }
     {
         self.local_after(rt, &mut self.page())
     }
@@ -210,6 +223,9 @@ impl<T> ThreadLocal<T> {
             × (local.reserved ≡ self.now.reserved)) }
         ensures in_range { IfOk result (λ local. local.id < 2 ^ 63 - 1) }
         ensures least { IfOk result (λ local. local.id ≡ least (held_after local.before)) }
+        ensures left { IfOk result (λ local.
+            IsFirst local.sharing local.table
+            → left_of T.row local.value ≡ published_in local.before local.id) }
         ensures early { IsPrefix page.old.moves page.new.moves }
         ensures since { IfOk result (λ local. IsPrefix page.old.moves local.before) }
         ensures page { page.new.table ≡ page.old.table }
@@ -247,8 +263,7 @@ impl<T> ThreadLocal<T> {
     /// then may be counted or not. It takes the table's lock, so it may wait.
     ///
     /// The page and the list of tokens are for contracts alone, and have no bytes: `table.page()` and
-    /// `Told::new()` serve every caller. The slots have an upper bound by the peak where each bucket
-    /// that isn't reserved was made for an id of the table, and a lower one by what tokens say.
+    /// `Told::new()` serve every caller.
     pub fn slots_and_peak<R: Wait>(&self, rt: &R, page: &mut Page, told: &Told<T>) -> (usize, usize)
         requires { page.old.table ≡ self.now.table }
         ensures reserved { self.now.reserved ≤ result.0 }
@@ -307,23 +322,33 @@ impl<T> ThreadLocal<T> {
     }
 
     /// The buckets by value, and what the slots were published with in the sharing that ends: the
-    /// book tells of each token of this sharing that its value is there, at its id. The ids are
+    /// book tells of each token of this sharing that its value is there, at its id. It has the whole
+    /// history, which in a first sharing says the same of each id that isn't held. The ids are
     /// dropped.
     pub fn into_buckets_and_book(self) -> (Buckets<T>, Book<T>)
         ensures reserved { result.0.reserved ≡ self.reserved }
         ensures sharing { result.1.sharing ≡ self.sharing }
         ensures contents { result.1.contents ≡ result.0.contents }
+        ensures history { (result.1.table ≡ self.table) × (result.1.whole ≡ true) }
+        ensures left { IsFirst self.sharing self.table
+            → (id : ℕ)
+            → id < 2 ^ 63 - 1
+            → is_held (held_after result.1.moves) id ≡ false
+            → published_in result.1.moves id ≡ left_of T.row (values result.1.contents id) }
     {
         let Self {
             buckets,
-            ids: _,
+            ids,
             table_right: _,
             first: _,
             room: _,
             alloc: _,
         } = self;
         let (pointers, reserved, book) = buckets.into_parts();
-        (Buckets::from_parts(pointers, reserved), book)
+        (
+            Buckets::from_parts(pointers, reserved),
+            ids.with_history(book),
+        )
     }
 
     /// The values by ascending id, each moved out, with the book of the sharing that ends: the walk
@@ -334,25 +359,33 @@ impl<T> ThreadLocal<T> {
         T: Drop,
         ensures walk { result.0 ≡ walk (values result.1.contents) }
         ensures sharing { result.1.sharing ≡ self.sharing }
+        ensures history { (result.1.table ≡ self.table) × (result.1.whole ≡ true) }
+        ensures left { IsFirst self.sharing self.table
+            → (id : ℕ)
+            → id < 2 ^ 63 - 1
+            → is_held (held_after result.1.moves) id ≡ false
+            → published_in result.1.moves id ≡ left_of T.row (values result.1.contents id) }
     {
         // Taken apart here, so that the pointers are copied once.
         let Self {
             buckets,
-            ids: _,
+            ids,
             table_right: _,
             first: _,
             room: _,
             alloc: _,
         } = self;
         let (pointers, reserved, book) = buckets.into_parts();
+        let book = ids.with_history(book);
         (Buckets::from_parts(pointers, reserved).into_iter(), book)
     }
 
     /// Begins another sharing of the same buckets, with a name: an owner who has the table alone
-    /// ends the one before. Ids and values stay.
+    /// ends the one before. Ids and values stay, and from then on the history says nothing of values.
     pub fn renew(&mut self)
         ensures table { self.new.table ≡ self.old.table }
         ensures sharing { IsSome self.new.sharing × (self.new.sharing ≢ self.old.sharing) }
+        ensures later { is_first self.new.sharing self.new.table ≡ false }
         ensures reserved { self.new.reserved ≡ self.old.reserved }
         ensures room { self.new.room ≡ self.old.room }
         ensures grown { self.new.grown_by_ids ≡ self.old.grown_by_ids }
@@ -364,18 +397,19 @@ impl<T> ThreadLocal<T> {
     /// Drops every value, frees every bucket that isn't reserved, and takes every id back, those of
     /// forgotten `Local`s too. The reserved buckets and the room for ids stay, though no clause
     /// says for how many ids there is room then; in Rust's crate the reserved buckets go too. For
-    /// contracts the table is another one from then on.
+    /// contracts the table is another one from then on, with no history.
     pub fn clear(&mut self)
     where
         T: Drop,
         ensures table { self.new.table ≢ self.old.table }
         ensures sharing { IsSome self.new.sharing × (self.new.sharing ≢ self.old.sharing) }
+        ensures first { IsFirst self.new.sharing self.new.table }
         ensures reserved { self.new.reserved ≡ self.old.reserved }
         ensures grown { self.new.grown_by_ids ≡ true }
     {
-        let (mut right, first, room) = self.ids.clear();
+        let (mut right, first, room, slots) = self.ids.clear();
         self.table_right.apart(&mut right);
-        self.buckets.clear(&right);
+        self.buckets.clear(self.alloc, &right, slots);
         self.table_right = right;
         self.first = first;
         self.room = room;
@@ -465,6 +499,7 @@ impl<T: Sync> ThreadLocal<T> {
 impl<T: Judge + Send> MadeWith<Global> for ThreadLocal<T> {
     ghost is_made_with = { λ table.
         IsSome table.sharing
+        × IsFirst table.sharing table.table
         × (table.reserved ≡ 0)
         × (table.room ≡ 0)
         × (table.grown_by_ids ≡ true) };

@@ -4,7 +4,8 @@ use Rattle.std.specs.Prelude.{ℕ, ◌<◌, ◌≡◌, nat_lt, List, [], map, Op
 use Rattle.thread_local_base.specs.Place.{id_at}
 use Rattle.thread_local_base.specs.Buckets.{Contents, stands, values}
 use Rattle.thread_local_base.specs.Rows.{with_row, with_slot, empty_row}
-use Rattle.thread_local_base.specs.Sheet.{Sheet, Move, Publish, Keep}
+use Rattle.thread_local_base.specs.IdMoves.{Publish}
+use Rattle.thread_local_base.specs.Sheet.{Sheet, Move, OfHistory, Keep}
 
 -- the contents with this bucket standing: unchanged where it stands already, and else with all its
 -- slots empty
@@ -30,7 +31,7 @@ sheet_of contents = record { held = []; values = values contents; capacity = 0 }
 
 -- offering a value at an id publishes it where there is none, and else keeps the one there
 abbrev pub publish_or_keep : {V : Type 0} → Option V → ℕ → V → Move V
-publish_or_keep None id v = Publish id v
+publish_or_keep None id v = OfHistory (Publish id v)
 publish_or_keep (Some kept) id v = Keep id v
 
 -- no id below n has a value

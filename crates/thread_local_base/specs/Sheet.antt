@@ -1,7 +1,8 @@
--- A table as its users see it, and its moves: take an id, give one back, publish a value, keep one,
--- rewrite values, clear.
+-- A table as its users see it, and its moves: those of its history (take an id, give one back,
+-- publish a value), keep a value, rewrite values, clear.
 use Rattle.std.specs.Prelude.{◌≡◌, ℕ, List, [], Bool, Option, Some, None, option_map, IsTrue, IsSome, ⊤}
 use Rattle.thread_local_base.specs.Held.{is_held, with_least, without}
+use Rattle.thread_local_base.specs.IdMoves.{HistoryMove, Take, Give, Publish}
 use Rattle.thread_local_base.specs.Walk.{with_value}
 
 -- Which ids are held, with a truth value for each id below some number; the value of each id that
@@ -17,18 +18,16 @@ new_sheet = record { held = []; values = λ _. None; capacity = 0 }
 
 -- the ways in which a sheet may change
 pub data Move (V : Type 0) : Type 0 where
-  Take : Move V
-  Give : (id : ℕ) → Move V
-  Publish : (id : ℕ) → (value : V) → Move V
+  OfHistory : (move : HistoryMove V) → Move V
   Keep : (id : ℕ) → (offered : V) → Move V
   Rewrite : (others : ℕ → V → V) → Move V
   Clear : Move V
 
 -- the sheet after a move
 abbrev pub moved : {V : Type 0} → Sheet V → Move V → Sheet V
-moved sheet Take = record sheet { held = with_least sheet.held }
-moved sheet (Give id) = record sheet { held = without sheet.held id }
-moved sheet (Publish id value) = record sheet { values = with_value sheet.values id value }
+moved sheet (OfHistory Take) = record sheet { held = with_least sheet.held }
+moved sheet (OfHistory (Give id)) = record sheet { held = without sheet.held id }
+moved sheet (OfHistory (Publish id value)) = record sheet { values = with_value sheet.values id value }
 moved sheet (Keep id offered) = sheet
 moved sheet (Rewrite others) = record sheet { values = λ id. option_map (others id) (sheet.values id) }
 moved sheet Clear = record new_sheet { capacity = sheet.capacity }
@@ -41,9 +40,9 @@ moved_if sheet (Some move) = moved sheet move
 -- what a move requires: an id that is given back is held, one that is published is held and has no
 -- value, and one that is kept has a value
 abbrev pub IsAllowed : {V : Type 0} → Sheet V → Move V → Type 0
-IsAllowed sheet Take = ⊤
-IsAllowed sheet (Give id) = IsTrue (is_held sheet.held id)
-IsAllowed sheet (Publish id value) = (sheet.values id ≡ None) × IsTrue (is_held sheet.held id)
+IsAllowed sheet (OfHistory Take) = ⊤
+IsAllowed sheet (OfHistory (Give id)) = IsTrue (is_held sheet.held id)
+IsAllowed sheet (OfHistory (Publish id value)) = (sheet.values id ≡ None) × IsTrue (is_held sheet.held id)
 IsAllowed sheet (Keep id offered) = IsSome (sheet.values id)
 IsAllowed sheet (Rewrite others) = ⊤
 IsAllowed sheet Clear = ⊤

@@ -1,8 +1,9 @@
 //! The laws of held ids: which id a take gets, what taking and giving back change, which ids a
 //! history leaves held, and when a take is refused.
-ghost use Rattle.std.specs.Prelude.{◌≡◌, ℕ, ◌+◌, ◌-◌, ◌^◌, ◌≤◌, ◌↔◌, ◌==◌, Bool, true, false, List, [], length, IsTrue, if◌then◌else◌};
+ghost use Rattle.std.specs.Prelude.{◌≡◌, ◌≢◌, ℕ, ◌+◌, ◌-◌, ◌^◌, ◌≤◌, ◌↔◌, ◌==◌, Bool, true, false, List, [], length, IsTrue, if◌then◌else◌, None, Some};
+ghost use base.Stored.{Gv};
 ghost use mathlib.Core.List.{IsPrefix};
-ghost use Rattle.thread_local_base.specs.IdMoves.{IdMove, Take, Give, held_after, noted};
+ghost use Rattle.thread_local_base.specs.IdMoves.{IdMove, Take, Give, Publish, held_after, noted, published_in};
 ghost use Rattle.thread_local_base.specs.Held.{Manager, is_held, least, with_least, without};
 ghost use Rattle.thread_local_base.specs.Held.{held_count, HoldsAllBelow, is_granted, Takes, NeedsMemory, IsExhausted};
 
@@ -59,4 +60,23 @@ pub fn takes_are_granted()
         → length manager.held ≤ manager.room
         → manager.room ≤ 2 ^ 63 - 1
         → IsExhausted manager ↔ (is_granted manager false ≡ false) }
+{}
+
+/// A history that publishes nothing says nothing of an id. Takes and returns publish nothing, the
+/// first value that is published of an id stays, and one of another id changes nothing.
+pub fn a_published_value_stays()
+    ensures none { (id : ℕ) → published_in {V = Gv} [] id ≡ None }
+    ensures take { (moves : List IdMove) (id : ℕ) → published_in (noted moves Take) id ≡ published_in moves id }
+    ensures give { (moves : List IdMove) (given id : ℕ)
+        → published_in (noted moves (Give given)) id ≡ published_in moves id }
+    ensures publish { (moves : List IdMove) (id : ℕ) (value : Gv)
+        → published_in moves id ≡ None
+        → published_in (noted moves (Publish id value)) id ≡ Some value }
+    ensures other { (moves : List IdMove) (other id : ℕ) (value : Gv)
+        → other ≢ id
+        → published_in (noted moves (Publish other value)) id ≡ published_in moves id }
+    ensures stays { (before later : List IdMove) (id : ℕ) (value : Gv)
+        → IsPrefix before later
+        → published_in before id ≡ Some value
+        → published_in later id ≡ Some value }
 {}

@@ -4,7 +4,7 @@ use Rattle.std.proofs.Common.{if◌then◌else◌, refl, sym, ap, subst, ◌∙�
 use Rattle.std.proofs.lemmas.Bool.{ne_eqb, eqb-true}
 use mathlib.Core.List.{IsPrefix}
 use seplogic.Ra.Ura.{Ura}
-use base.Logic.{upd, upd_i, guard}
+use base.Logic.{upd, upd_i, guard, id⊢}
 use base.Fml.{GName, Lft, Share, Fml, ftrue, fsep, fex, flft, fbor}
 use base.Shift.{Keyless}
 use prog.Atomic.{either}
@@ -17,19 +17,27 @@ use Rattle.std.specs.Sync.RawAtomic.{asks, always}
 use Rattle.thread_local_base.specs.Bits.{IsLowestUnset}
 use Rattle.thread_local_base.specs.Fact.{fact}
 use Rattle.thread_local_base.specs.Held.{is_held, least, with_least, without, HoldsAllBelow}
-use Rattle.thread_local_base.specs.IdMoves.{IdMove, Take, Give, held_after, noted}
+use Rattle.std.proofs.Common.{◌||◌, Option, None, Some, is_some}
+use base.Stored.{Gv}
+use Rattle.thread_local_base.specs.IdMoves.{IdMove, Take, Give, held_after, noted, published_in}
+use Rattle.thread_local_ids.proofs.NoteElements.{publishing, publishing_by, noted_out, noted_back, note_taken, note_given, all_more}
+use Rattle.thread_local_ids.proofs.NoteElements.{marked_keyless, all_noted_keyless}
+use Rattle.thread_local_ids.proofs.NoteLaws.{noted_taken, noted_given, beside_notes, held_publishing, out_noted, out_noted_back}
+use Rattle.thread_local_ids.proofs.NoteLaws.{early_publishing, left_stays}
 use Rattle.thread_local_base.specs.SharedWord.{word_invariant}
 use Rattle.thread_local_base.proofs.HeldLaws.{least_free, is_held-without, length-without}
 use Rattle.thread_local_base.proofs.IdMoveLaws.{after_take, after_give}
 use Rattle.thread_local_base.proofs.SharedWord.{stepped}
 use Rattle.thread_local_base.proofs.Signs.{signs}
 use Rattle.thread_local_ids.specs.Rights.{is_out, less, right_owns, rights_own, history_owns, page_owns, tenure_of, taken_id}
+use Rattle.thread_local_ids.specs.Rights.{note_key, note_owns, all_noted, AreNotedOut}
 use Rattle.thread_local_ids.specs.FirstIds.{IsWordOf, IsSameBeyond, IsGivenBeyond, HasFurther, AreOutOf, IsTiedTo, IsReturn, Kept, is_full, word_with}
 use Rattle.thread_local_ids.specs.Returns.{gives as times_given}
-use Rattle.thread_local_ids.specs.FirstIds.{log_key, log_owns, kept_with, lies_with, tried_owns}
+use Rattle.thread_local_ids.specs.FirstIds.{log_key, log_owns, ledger_owns, marked, kept_with, lies_with, tried_owns}
 use Rattle.thread_local_ids.proofs.FirstLaws as laws
 use Rattle.thread_local_ids.proofs.Logs.{O, halved, joined, agree, grown}
-use Rattle.thread_local_ids.proofs.MoveElements.{note_take, note_give, page_of, page_is_early, history_keyless, page_keyless, held_keyless}
+use Rattle.thread_local_ids.proofs.MoveElements.{note_take, note_give, note_publish, page_of, page_is_early}
+use Rattle.thread_local_ids.proofs.MoveElements.{history_keyless, page_keyless, held_keyless}
 use Rattle.thread_local_ids.proofs.RightElements.{rights_cut, rights_join, right_keyless, rights_keyless}
 
 module _ {M : Type 1} {𝓤 : Ura M} (𝓛 : Logic 𝓤) where
@@ -42,7 +50,7 @@ module _ {M : Type 1} {𝓤 : Ura M} (𝓛 : Logic 𝓤) where
   pub log_begins : (γ : GName) (out : List ℕ) → is_out out log_key ≡ false
       → ⟦ rights_own γ out ⟧ ⊢ ⟦ log_owns γ true [] ⟧ ∗ ⟦ rights_own γ (log_key ∷ out) ⟧
   unfolding right_owns log_owns
-  log_begins γ out free = rights_cut 𝓛 γ out log_key free
+  log_begins γ out free = rights_cut 𝓛 γ out log_key (omega arith) free
 
   pub log_halved : (γ : GName) (log : List IdMove) → ⟦ log_owns γ true log ⟧ ⊢ ⟦ log_owns γ false log ⟧ ∗ ⟦ log_owns γ false log ⟧
   unfolding log_owns
@@ -71,56 +79,113 @@ module _ {M : Type 1} {𝓤 : Ura M} (𝓛 : Logic 𝓤) where
       settle 𝓛 Z (‵ (log_owns γ true b)) $
       use1 𝓛 (‵ (log_owns γ false b) ⊛ ‵ (log_owns γ false b)) (log_halved γ b) $ suffices ! _ (upd_i 𝓤 Z) $ split ! $ done !
 
+  -- ---- the ledger: the history with all that it notes
+  ledger_early : (γ : GName) (moves seen : List IdMove)
+      → ⟦ ledger_owns γ moves ⟧ ∗ ⟦ page_owns γ seen ⟧
+      ⊢ guard 𝓤 (IsPrefix seen moves) (⟦ ledger_owns γ moves ⟧ ∗ ⟦ page_owns γ seen ⟧)
+  ledger_early γ moves seen =
+      qed 𝓛 (‵ (ledger_owns γ moves) ∷ ‵ (page_owns γ seen) ∷ []) ∵ fsplit ! $ move ! (0 ∷ 2 ∷ []) $
+      use2 𝓛 (given (IsPrefix seen moves) (‵ (history_owns γ moves) ⊛ ‵ (page_owns γ seen))) (page_is_early 𝓛 γ moves seen) $
+      learn ! (λ so. check ! so $ split ! $ move ! (0 ∷ 2 ∷ []) $ fjoin ! $ done !)
+
+  ledger_page : (γ : GName) (moves : List IdMove) → ⟦ ledger_owns γ moves ⟧ ⊢ ⟦ page_owns γ moves ⟧ ∗ ⟦ ledger_owns γ moves ⟧
+  ledger_page γ moves =
+      qed 𝓛 (‵ (ledger_owns γ moves) ∷ []) ∵ fsplit ! $
+      use1 𝓛 (‵ (page_owns γ moves) ⊛ ‵ (history_owns γ moves)) (page_of 𝓛 γ moves) $ split ! $ frame ! $ fjoin ! $ done !
+
   -- ---- taking and giving back
-  -- the rights of the least id go out, and its take is noted
-  taken : (γ : GName) (moves : List IdMove) (out : List ℕ) → AreOutOf out (held_after moves) → taken_id moves < 2 ^ 63 - 1
-      → ⟦ history_owns γ moves ⟧ ∗ ⟦ rights_own γ out ⟧
-      ⊢ upd 𝓤 (⟦ tried_owns γ moves true ⟧ ∗ ⟦ history_owns γ (noted moves Take) ⟧
-      ∗ ⟦ rights_own γ ((taken_id moves + 2 ^ 63) ∷ taken_id moves ∷ out) ⟧)
-  taken γ moves out are low =
+  -- which rights are out once the least id is taken
+  abbrev out_of : List IdMove → List ℕ → List ℕ
+  out_of moves out = noted_out (published_in moves (taken_id moves)) (taken_id moves) ((taken_id moves + 2 ^ 63) ∷ taken_id moves ∷ out)
+
+  -- the rights of the least id go out, with its note, and its take is noted
+  taken : (γ : GName) (moves : List IdMove) (out : List ℕ) → AreOutOf out (held_after moves) → AreNotedOut out moves
+      → taken_id moves < 2 ^ 63 - 1
+      → ⟦ ledger_owns γ moves ⟧ ∗ ⟦ rights_own γ out ⟧
+      ⊢ upd 𝓤 (⟦ tried_owns γ moves true ⟧ ∗ ⟦ ledger_owns γ (noted moves Take) ⟧ ∗ ⟦ rights_own γ (out_of moves out) ⟧)
+  taken γ moves out are notes low =
       let id : ℕ = taken_id moves in
       let mark : ℕ = id + 2 ^ 63 in
+      let v : Option Gv = published_in moves id in
       let more : List IdMove = noted moves Take in
+      let out' : List ℕ = out_of moves out in
       let free : is_out out id ≡ false = (are id low).0 ∙ least_free (held_after moves) in
       let mark_free : is_out (id ∷ out) mark ≡ false =
       rw (ne_eqb id mark (λ e. absurd (omega (arith, e)))) ((are id low).1 ∙ least_free (held_after moves)) in
-      let Z = ⟦ tried_owns γ moves true ⟧ ∗ ⟦ history_owns γ more ⟧ ∗ ⟦ rights_own γ (mark ∷ id ∷ out) ⟧ in
-      qed 𝓛 (‵ (history_owns γ moves) ∷ ‵ (rights_own γ out) ∷ []) ∵
+      let note_free : is_out (mark ∷ id ∷ out) (note_key id) ≡ is_some v =
+      beside_notes out id id low ∙ notes id low ∙ ap (λ (b : Bool). b || is_some v) (least_free (held_after moves)) in
+      let Z = ⟦ tried_owns γ moves true ⟧ ∗ ⟦ ledger_owns γ more ⟧ ∗ ⟦ rights_own γ out' ⟧ in
+      qed 𝓛 (‵ (ledger_owns γ moves) ∷ ‵ (rights_own γ out) ∷ []) ∵ fsplit ! $
       use1 𝓛 (raw (upd 𝓤 (⟦ tenure_of γ moves ⟧ ∗ ⟦ history_owns γ more ⟧))) (note_take 𝓛 γ moves) $
       settle 𝓛 Z (‵ (tenure_of γ moves) ⊛ ‵ (history_owns γ more)) $ suffices ! _ (upd_i 𝓤 Z) $ split ! $
-      -- [the tenure; the history; the rights]
-      move ! (2 ∷ []) $ use1 𝓛 (‵ (right_owns γ id) ⊛ ‵ (rights_own γ (id ∷ out))) (rights_cut 𝓛 γ out id free) $ split ! $
-      move ! (1 ∷ []) $ use1 𝓛 (‵ (right_owns γ mark) ⊛ ‵ (rights_own γ (mark ∷ id ∷ out))) (rights_cut 𝓛 γ (id ∷ out) mark mark_free) $
-      split ! $
-      -- [the mark; the rights; the right; the tenure; the history]
-      move ! (2 ∷ 0 ∷ []) $ fjoin ! $ move ! (0 ∷ 2 ∷ []) $ fjoin ! $ frame ! $ move ! (1 ∷ 0 ∷ []) $ done !
+      -- [the tenure; the history; what is noted; the rights]
+      move ! (3 ∷ []) $ use1 𝓛 (‵ (right_owns γ id) ⊛ ‵ (rights_own γ (id ∷ out))) (rights_cut 𝓛 γ out id (omega (arith, low)) free) $ split ! $
+      move ! (1 ∷ []) $ use1 𝓛 (‵ (right_owns γ mark) ⊛ ‵ (rights_own γ (mark ∷ id ∷ out)))
+      (rights_cut 𝓛 γ (id ∷ out) mark (omega (arith, low)) mark_free) $ split ! $
+      -- [the mark; the rights; the right; the tenure; the history; what is noted]
+      move ! (1 ∷ 5 ∷ []) $
+      use2 𝓛 (‵ (note_owns γ id v) ⊛ ‵ (rights_own γ out') ⊛ ‵ (all_noted γ moves)) (note_taken 𝓛 γ moves (mark ∷ id ∷ out) id v low refl note_free) $
+      split3 ! $
+      -- [the note; the rights; what is noted; the mark; the right; the tenure; the history]
+      move ! (3 ∷ 0 ∷ []) $ fjoin ! $ move ! (3 ∷ 0 ∷ []) $ fjoin ! $
+      -- [the rights to the id; the rights; what is noted; the tenure; the history]
+      move ! (0 ∷ 3 ∷ []) $ fjoin ! $ frame ! $
+      -- [the rights; what is noted; the history]
+      nothing ! $ use1 𝓛 (‵ (all_noted γ (Take ∷ []))) (id⊢ 𝓤 _) $ move ! (2 ∷ 0 ∷ []) $
+      use2 𝓛 (‵ (all_noted γ more)) (all_more 𝓛 γ moves (Take ∷ [])) $
+      move ! (2 ∷ 0 ∷ []) $ fjoin ! $ done !
 
-  -- the rights to an id that was taken come back, and its return is noted
-  given_back : (γ : GName) (moves before : List IdMove) (out : List ℕ) (id mark : ℕ) → AreOutOf out (held_after moves) → id < 2 ^ 63 - 1
-      → id ≡ taken_id before → mark ≡ id + 2 ^ 63
-      → ⟦ history_owns γ moves ⟧ ∗ ⟦ rights_own γ out ⟧ ∗ ⟦ right_owns γ id ⟧ ∗ ⟦ right_owns γ mark ⟧ ∗ ⟦ tenure_of γ before ⟧
-      ⊢ guard 𝓤 ((is_held (held_after moves) id ≡ true) × IsPrefix (noted before Take) moves)
-      (upd 𝓤 (⟦ page_owns γ (noted moves (Give id)) ⟧ ∗ ⟦ history_owns γ (noted moves (Give id)) ⟧
-      ∗ ⟦ rights_own γ (less (less out id) (id + 2 ^ 63)) ⟧))
-  given_back γ moves before out id mark are low is mark_is =
+  -- the history once it notes what a slot is left with
+  history_with : (γ : GName) (moves : List IdMove) (id : ℕ) (v : Option Gv)
+      → ⟦ history_owns γ moves ⟧ ⊢ upd 𝓤 ⟦ history_owns γ (publishing moves id v) ⟧
+  history_with γ moves id None = upd_i 𝓤 ⟦ history_owns γ moves ⟧
+  history_with γ moves id (Some g) = at (published_in moves id)
+    where
+      at : (p : Option Gv) → ⟦ history_owns γ moves ⟧ ⊢ upd 𝓤 ⟦ history_owns γ (publishing_by moves id g p) ⟧
+      at None = note_publish 𝓛 γ moves id g
+      at (Some h) = upd_i 𝓤 ⟦ history_owns γ moves ⟧
+
+  -- the rights to an id that was taken come back, with what its slot is left with, and its return is noted
+  given_back : (γ : GName) (moves before : List IdMove) (out : List ℕ) (id mark : ℕ) (left : Option Gv) → AreOutOf out (held_after moves)
+      → id < 2 ^ 63 - 1 → id ≡ taken_id before → mark ≡ id
+      → ⟦ ledger_owns γ moves ⟧ ∗ ⟦ rights_own γ out ⟧ ∗ ⟦ right_owns γ id ⟧ ∗ ⟦ marked γ mark left true ⟧ ∗ ⟦ tenure_of γ before ⟧
+      ⊢ guard 𝓤 ((is_held (held_after moves) id ≡ true) × IsPrefix (noted before Take) moves × (published_in (publishing moves id left) id ≡ left))
+      (upd 𝓤 (⟦ page_owns γ (noted (publishing moves id left) (Give id)) ⟧ ∗ ⟦ ledger_owns γ (noted (publishing moves id left) (Give id)) ⟧
+      ∗ ⟦ rights_own γ (noted_back left id (less (less out id) (id + 2 ^ 63))) ⟧))
+  given_back γ moves before out id mark left are low is mark_is =
       let own : ℕ = id + 2 ^ 63 in
-      let more : List IdMove = noted moves (Give id) in
+      let since : List IdMove = publishing moves id left in
+      let more : List IdMove = noted since (Give id) in
       let early : Type 0 = IsPrefix (noted before Take) moves in
-      let Z = ⟦ page_owns γ more ⟧ ∗ ⟦ history_owns γ more ⟧ ∗ ⟦ rights_own γ (less (less out id) own) ⟧ in
-      qed 𝓛 (‵ (history_owns γ moves) ∷ ‵ (rights_own γ out) ∷ ‵ (right_owns γ id) ∷ ‵ (right_owns γ mark)
+      let gone : List ℕ = less (less out id) own in
+      let Says : Type 0 = (published_in since id ≡ left) × (is_some left ≡ false → is_out gone (note_key id) ≡ true) in
+      let Z = ⟦ page_owns γ more ⟧ ∗ ⟦ ledger_owns γ more ⟧ ∗ ⟦ rights_own γ (noted_back left id gone) ⟧ in
+      qed 𝓛 (‵ (ledger_owns γ moves) ∷ ‵ (rights_own γ out) ∷ ‵ (right_owns γ id) ∷ ‵ (marked γ mark left true)
       ∷ ‵ (tenure_of γ before) ∷ []) ∵
-      move ! (2 ∷ 1 ∷ []) $ use2 𝓛 (given (is_out out id ≡ true) (‵ (rights_own γ (less out id)))) (rights_join 𝓛 γ out id) $ learn ! (λ gone.
-      -- [the rights; the history; the mark; the tenure]
-      move ! (2 ∷ []) $ rewrite ! 0 (λ (k : ℕ). ‵ (right_owns γ k)) mark_is refl $ move ! (0 ∷ 1 ∷ []) $
-      use2 𝓛 (given (is_out (less out id) own ≡ true) (‵ (rights_own γ (less (less out id) own)))) (rights_join 𝓛 γ (less out id) own) $ learn ! (λ _.
-      let held : is_held (held_after moves) id ≡ true = sym (are id low).0 ∙ gone in
-      -- [the rights; the history; the tenure]
-      move ! (2 ∷ []) $ fsplit ! $ move ! (3 ∷ 0 ∷ []) $
+      move ! (2 ∷ 1 ∷ []) $
+      use2 𝓛 (given (is_out out id ≡ true) (‵ (rights_own γ (less out id)))) (rights_join 𝓛 γ out id (omega (arith, low))) $
+      learn ! (λ off.
+      -- [the rights; the ledger; the mark with its note; the tenure]
+      move ! (2 ∷ []) $ rewrite ! 0 (λ (k : ℕ). ‵ (marked γ k left true)) mark_is refl $ fsplit ! $ move ! (0 ∷ 2 ∷ []) $
+      use2 𝓛 (given (is_out (less out id) own ≡ true) (‵ (rights_own γ gone))) (rights_join 𝓛 γ (less out id) own (omega (arith, low))) $
+      learn ! (λ _.
+      let held : is_held (held_after moves) id ≡ true = sym (are id low).0 ∙ off in
+      -- [the rights; the note; the ledger; the tenure]
+      move ! (2 ∷ []) $ fsplit ! $ move ! (2 ∷ 1 ∷ 3 ∷ []) $
+      use3 𝓛 (given Says (‵ (rights_own γ (noted_back left id gone)) ⊛ ‵ (all_noted γ since))) (note_given 𝓛 γ moves gone id left low) $
+      learn ! (λ says. split ! $
+      -- [the rights; what is noted; the history; the tenure]
+      move ! (3 ∷ []) $ fsplit ! $ move ! (4 ∷ 0 ∷ []) $
       use2 𝓛 (given early (‵ (history_owns γ moves) ⊛ ‵ (page_owns γ (noted before Take)))) (page_is_early 𝓛 γ moves (noted before Take)) $
-      learn ! (λ so. split ! $ check ! (held, so) $ move ! (1 ∷ 2 ∷ []) $ fjoin ! $ move ! (1 ∷ 0 ∷ []) $
-      -- [the history; the tenure; the rights]
-      use2 𝓛 (raw (upd 𝓤 (⟦ page_owns γ more ⟧ ∗ ⟦ history_owns γ more ⟧))) (note_give 𝓛 γ moves before id is held) $
-      settle 𝓛 Z (‵ (page_owns γ more) ⊛ ‵ (history_owns γ more)) $ suffices ! _ (upd_i 𝓤 Z) $ split ! $ frame ! $ done !)))
+      learn ! (λ so. split ! $ check ! (held, so, says.0) $ move ! (1 ∷ 2 ∷ []) $ fjoin ! $ move ! (1 ∷ []) $
+      -- [the history; the tenure; the rights; what is noted]
+      use1 𝓛 (raw (upd 𝓤 ⟦ history_owns γ since ⟧)) (history_with γ moves id left) $ settle 𝓛 Z (‵ (history_owns γ since)) $ move ! (0 ∷ 1 ∷ []) $
+      use2 𝓛 (raw (upd 𝓤 (⟦ page_owns γ more ⟧ ∗ ⟦ history_owns γ more ⟧)))
+      (note_give 𝓛 γ since before id is (ap (λ h. is_held h id) (held_publishing moves id left) ∙ held)) $
+      settle 𝓛 Z (‵ (page_owns γ more) ⊛ ‵ (history_owns γ more)) $ suffices ! _ (upd_i 𝓤 Z) $ split ! $ frame ! $
+      -- [the history; the rights; what is noted]
+      nothing ! $ use1 𝓛 (‵ (all_noted γ (Give id ∷ []))) (id⊢ 𝓤 _) $ move ! (3 ∷ 0 ∷ []) $
+      use2 𝓛 (‵ (all_noted γ more)) (all_more 𝓛 γ since (Give id ∷ [])) $ move ! (1 ∷ 0 ∷ []) $ fjoin ! $ done !))))
 
   -- ---- what a step on the word changes
   abbrev pub took : GName → ℕ → List IdMove → Fml
@@ -142,20 +207,24 @@ module _ {M : Type 1} {𝓤 : Ura M} (𝓛 : Logic 𝓤) where
       let least_low : taken_id moves < 58 = subst (λ (k : ℕ). k < 58) is first in
       let range : taken_id moves < 2 ^ 63 - 1 = omega (arith, least_low) in
       let now : held_after more ≡ with_least (held_after moves) = after_take moves in
-      let out' : List ℕ = (taken_id moves + 2 ^ 63) ∷ taken_id moves ∷ out in
+      let out' : List ℕ = out_of moves out in
       let tied' : IsTiedTo (word_with n id) more out' log = record {
         word = subst (IsWordOf (word_with n id)) (sym now) (laws.word_taken n id (held_after moves) tied.word low first);
-        rights = subst (AreOutOf out') (sym now) (laws.out_taken out (held_after moves) (taken_id moves) tied.rights refl range);
+        rights = subst (AreOutOf out') (sym now) (out_noted ((taken_id moves + 2 ^ 63) ∷ taken_id moves ∷ out) (with_least (held_after moves))
+            (taken_id moves) (published_in moves (taken_id moves)) range
+            (laws.out_taken out (held_after moves) (taken_id moves) tied.rights refl range));
+        notes = noted_taken out moves (taken_id moves) (published_in moves (taken_id moves)) tied.notes refl range refl;
         beyond = subst (IsSameBeyond (held_after log)) (sym now) (laws.beyond_taken (held_after log) (held_after moves) tied.beyond least_low);
         peak = tied.peak ∙ sym (ap (λ (h : List Bool). length h - 58) now ∙ laws.peak_taken (held_after moves) least_low);
         early = O.trans log moves more tied.early (Take ∷ [], refl);
       } in
       -- [the log; the history; the rights; the page]
       move ! (1 ∷ 3 ∷ []) $
-      use2 𝓛 (given (IsPrefix seen moves) (‵ (history_owns γ moves) ⊛ ‵ (page_owns γ seen))) (page_is_early 𝓛 γ moves seen) $
+      use2 𝓛 (given (IsPrefix seen moves) (‵ (ledger_owns γ moves) ⊛ ‵ (page_owns γ seen))) (ledger_early γ moves seen) $
       learn ! (λ so. split ! $ move ! (1 ∷ []) $ drop ! $ move ! (0 ∷ 2 ∷ []) $
-      use2 𝓛 (raw (upd 𝓤 (⟦ tried_owns γ moves true ⟧ ∗ ⟦ history_owns γ more ⟧ ∗ ⟦ rights_own γ out' ⟧))) (taken γ moves out tied.rights range) $
-      settle 𝓛 Z (‵ (tried_owns γ moves true) ⊛ ‵ (history_owns γ more) ⊛ ‵ (rights_own γ out')) $ suffices ! _ (upd_i 𝓤 Z) $ split3 ! $
+      use2 𝓛 (raw (upd 𝓤 (⟦ tried_owns γ moves true ⟧ ∗ ⟦ ledger_owns γ more ⟧ ∗ ⟦ rights_own γ out' ⟧)))
+      (taken γ moves out tied.rights tied.notes range) $
+      settle 𝓛 Z (‵ (tried_owns γ moves true) ⊛ ‵ (ledger_owns γ more) ⊛ ‵ (rights_own γ out')) $ suffices ! _ (upd_i 𝓤 Z) $ split3 ! $
       -- [what the take leaves; the history; the rights; the log]
       nothing ! $ fpack ! (IsPrefix seen moves × (id ≡ taken_id moves)) (λ _. ftrue) (so, is) $ move ! (0 ∷ 1 ∷ []) $ fjoin ! $
       fpack ! (List IdMove) (λ before. fsep (fact (IsPrefix seen before × (id ≡ taken_id before))) (tried_owns γ before true)) moves $
@@ -182,9 +251,9 @@ module _ {M : Type 1} {𝓤 : Ura M} (𝓛 : Logic 𝓤) where
   tries_if γ n old id seen false e low first =
       let Z = ⟦ lies_with γ n ⟧ ∗ ⟦ tried γ id seen false ⟧ in
       qed 𝓛 (‵ (lies_with γ n) ∷ ‵ (page_owns γ seen) ∷ []) ∵ suffices ! _ (upd_i 𝓤 Z) $ fpick ! (λ s. fsplit ! $ move ! (0 ∷ 2 ∷ []) $
-      use2 𝓛 (given (IsPrefix seen s.0) (‵ (history_owns γ s.0) ⊛ ‵ (page_owns γ seen))) (page_is_early 𝓛 γ s.0 seen) $
+      use2 𝓛 (given (IsPrefix seen s.0) (‵ (ledger_owns γ s.0) ⊛ ‵ (page_owns γ seen))) (ledger_early γ s.0 seen) $
       learn ! (λ so. split ! $ move ! (1 ∷ []) $ drop ! $
-      use1 𝓛 (‵ (page_owns γ s.0) ⊛ ‵ (history_owns γ s.0)) (page_of 𝓛 γ s.0) $ split ! $
+      use1 𝓛 (‵ (page_owns γ s.0) ⊛ ‵ (ledger_owns γ s.0)) (ledger_page γ s.0) $ split ! $
       -- [the page; the history; the rest]
       move ! (1 ∷ 2 ∷ []) $ fjoin ! $ fpack ! Kept (kept_with γ n) s $ frame ! $
       nothing ! $ fpack ! (IsPrefix seen s.0 × (false ≡ true → id ≡ taken_id s.0)) (λ _. ftrue) (so, λ no. cc) $ fjoin ! $
@@ -222,7 +291,7 @@ module _ {M : Type 1} {𝓤 : Ura M} (𝓛 : Logic 𝓤) where
       let full : HoldsAllBelow 58 held = laws.full_holds n held tied.word (may refl).0 in
       let high : 58 ≤ least held = laws.full_least held full in
       let range : taken_id moves < 2 ^ 63 - 1 = laws.least_in_range (held_after log) held beyond (may refl).1 in
-      let out' : List ℕ = (taken_id moves + 2 ^ 63) ∷ taken_id moves ∷ out in
+      let out' : List ℕ = out_of moves out in
       let seen_so : (early : IsPrefix seen moves) → Looked n seen log moves = λ early. record {
         early = early;
         word = tied.word;
@@ -231,7 +300,10 @@ module _ {M : Type 1} {𝓤 : Ura M} (𝓛 : Logic 𝓤) where
       } in
       let tied' : IsTiedTo n more out' more = record {
         word = subst (IsWordOf n) (sym now) (laws.word_stays n held (with_least held) tied.word (laws.low_taken held high) (laws.low_peak held high));
-        rights = subst (AreOutOf out') (sym now) (laws.out_taken out held (taken_id moves) tied.rights refl range);
+        rights = subst (AreOutOf out') (sym now) (out_noted ((taken_id moves + 2 ^ 63) ∷ taken_id moves ∷ out) (with_least held)
+            (taken_id moves) (published_in moves (taken_id moves)) range
+            (laws.out_taken out held (taken_id moves) tied.rights refl range));
+        notes = noted_taken out moves (taken_id moves) (published_in moves (taken_id moves)) tied.notes refl range refl;
         beyond = λ id further. refl;
         peak = refl;
         early = O.same more;
@@ -241,10 +313,11 @@ module _ {M : Type 1} {𝓤 : Ura M} (𝓛 : Logic 𝓤) where
       settle 𝓛 Z (‵ (log_owns γ false more) ⊛ ‵ (log_owns γ false more)) $ split ! $
       -- [the log; the other log; the page; the history; the rights]
       move ! (3 ∷ 2 ∷ []) $
-      use2 𝓛 (given (IsPrefix seen moves) (‵ (history_owns γ moves) ⊛ ‵ (page_owns γ seen))) (page_is_early 𝓛 γ moves seen) $
+      use2 𝓛 (given (IsPrefix seen moves) (‵ (ledger_owns γ moves) ⊛ ‵ (page_owns γ seen))) (ledger_early γ moves seen) $
       learn ! (λ so. split ! $ move ! (1 ∷ []) $ drop ! $ move ! (0 ∷ 3 ∷ []) $
-      use2 𝓛 (raw (upd 𝓤 (⟦ tried_owns γ moves true ⟧ ∗ ⟦ history_owns γ more ⟧ ∗ ⟦ rights_own γ out' ⟧))) (taken γ moves out tied.rights range) $
-      settle 𝓛 Z (‵ (tried_owns γ moves true) ⊛ ‵ (history_owns γ more) ⊛ ‵ (rights_own γ out')) $ suffices ! _ (upd_i 𝓤 Z) $ split3 ! $
+      use2 𝓛 (raw (upd 𝓤 (⟦ tried_owns γ moves true ⟧ ∗ ⟦ ledger_owns γ more ⟧ ∗ ⟦ rights_own γ out' ⟧)))
+      (taken γ moves out tied.rights tied.notes range) $
+      settle 𝓛 Z (‵ (tried_owns γ moves true) ⊛ ‵ (ledger_owns γ more) ⊛ ‵ (rights_own γ out')) $ suffices ! _ (upd_i 𝓤 Z) $ split3 ! $
       -- [what the take leaves; the history; the rights; the log; the other log]
       move ! (0 ∷ 4 ∷ []) $ fjoin ! $ nothing ! $ fpack ! (Looked n seen log moves) (λ _. ftrue) (seen_so so) $ fjoin ! $
       fpack ! (List IdMove) (λ m. fsep (fact (Looked n seen log m)) (fsep (tried_owns γ m true) (log_owns γ false (noted m Take)))) moves $
@@ -260,9 +333,9 @@ module _ {M : Type 1} {𝓤 : Ura M} (𝓛 : Logic 𝓤) where
       -- [the log; the other log; the page; the history; the rights]
       use2 𝓛 (given (s.1.1 ≡ log) (‵ (log_owns γ false s.1.1) ⊛ ‵ (log_owns γ false log))) (log_agrees γ s.1.1 log) $
       learn ! (λ same. split ! $ move ! (3 ∷ 2 ∷ []) $
-      use2 𝓛 (given (IsPrefix seen moves) (‵ (history_owns γ moves) ⊛ ‵ (page_owns γ seen))) (page_is_early 𝓛 γ moves seen) $
+      use2 𝓛 (given (IsPrefix seen moves) (‵ (ledger_owns γ moves) ⊛ ‵ (page_owns γ seen))) (ledger_early γ moves seen) $
       learn ! (λ so. split ! $ move ! (1 ∷ []) $ drop ! $
-      use1 𝓛 (‵ (page_owns γ moves) ⊛ ‵ (history_owns γ moves)) (page_of 𝓛 γ moves) $ split ! $
+      use1 𝓛 (‵ (page_owns γ moves) ⊛ ‵ (ledger_owns γ moves)) (ledger_page γ moves) $ split ! $
       -- [the page; the history; the log; the other log; the rights]
       let seen_so : Looked n seen log moves = record {
         early = so;
@@ -278,87 +351,101 @@ module _ {M : Type 1} {𝓤 : Ura M} (𝓛 : Logic 𝓤) where
       frame ! $ done !))))
 
   -- an id is given back
-  abbrev pub returned : GName → List IdMove → ℕ → Fml
-  returned γ before id = fex (List IdMove) (λ more. fsep (fact (IsReturn before id more)) (page_owns γ more))
+  abbrev pub Returned : List IdMove → ℕ → Option Gv → List IdMove → Type 0
+  Returned before id left more = IsReturn before id more × (published_in more id ≡ left)
 
-  abbrev pub gone : GName → List IdMove → ℕ → ℕ → Fml
-  gone γ before id mark = fsep (right_owns γ id) (fsep (right_owns γ mark) (tenure_of γ before))
+  abbrev pub returned : GName → List IdMove → ℕ → Option Gv → Fml
+  returned γ before id left = fex (List IdMove) (λ more. fsep (fact (Returned before id left more)) (page_owns γ more))
 
-  pub gives_first : (γ : GName) (n k id mark : ℕ) (before : List IdMove) → id < 58 → k ≡ 64 * 2 ^ id % 2 ^ 64
-      → id ≡ taken_id before → mark ≡ id + 2 ^ 63
-      → ⟦ lies_with γ n ⟧ ∗ ⟦ gone γ before id mark ⟧ ⊢ upd 𝓤 (⟦ lies_with γ ((n + (2 ^ 64 - k)) % 2 ^ 64) ⟧ ∗ ⟦ returned γ before id ⟧)
-  gives_first γ n k id mark before first k_is is mark_is =
+  abbrev pub gone : GName → List IdMove → ℕ → ℕ → Option Gv → Fml
+  gone γ before id mark left = fsep (right_owns γ id) (fsep (marked γ mark left true) (tenure_of γ before))
+
+  pub gives_first : (γ : GName) (n k id mark : ℕ) (before : List IdMove) (left : Option Gv) → id < 58 → k ≡ 64 * 2 ^ id % 2 ^ 64
+      → id ≡ taken_id before → mark ≡ id
+      → ⟦ lies_with γ n ⟧ ∗ ⟦ gone γ before id mark left ⟧ ⊢ upd 𝓤 (⟦ lies_with γ ((n + (2 ^ 64 - k)) % 2 ^ 64) ⟧ ∗ ⟦ returned γ before id left ⟧)
+  gives_first γ n k id mark before left first k_is is mark_is =
       let n' : ℕ = (n + (2 ^ 64 - k)) % 2 ^ 64 in
-      let Z = ⟦ lies_with γ n' ⟧ ∗ ⟦ returned γ before id ⟧ in
-      qed 𝓛 (‵ (lies_with γ n) ∷ ‵ (gone γ before id mark) ∷ []) ∵
+      let Z = ⟦ lies_with γ n' ⟧ ∗ ⟦ returned γ before id left ⟧ in
+      qed 𝓛 (‵ (lies_with γ n) ∷ ‵ (gone γ before id mark left) ∷ []) ∵
       fpick ! (λ s. fsplit3 ! $ move ! (2 ∷ []) $ fsplit ! $ move ! (1 ∷ []) $
       let moves : List IdMove = s.0 in
       let out : List ℕ = s.1.0 in
       let log : List IdMove = s.1.1 in
-      let more : List IdMove = noted moves (Give id) in
+      let since : List IdMove = publishing moves id left in
+      let more : List IdMove = noted since (Give id) in
       let held : List Bool = held_after moves in
-      let out' : List ℕ = less (less out id) (id + 2 ^ 63) in
+      let out' : List ℕ = noted_back left id (less (less out id) (id + 2 ^ 63)) in
       let range : id < 2 ^ 63 - 1 = omega (arith, first) in
-      let now : held_after more ≡ without held id = after_give moves id in
-      let Held : Type 0 = (is_held held id ≡ true) × IsPrefix (noted before Take) moves in
+      let now : held_after more ≡ without held id = after_give since id ∙ ap (λ h. without h id) (held_publishing moves id left) in
+      let later : IsPrefix moves more = O.trans moves since more (early_publishing moves id left) (Give id ∷ [], refl) in
+      let Held : Type 0 = (is_held held id ≡ true) × IsPrefix (noted before Take) moves × (published_in since id ≡ left) in
       -- [the fact; the log; the history; the rights; what comes back]
       fpick ! (λ tied. drop ! $ move ! (1 ∷ 2 ∷ 3 ∷ []) $
-      use3 𝓛 (given Held (raw (upd 𝓤 (⟦ page_owns γ more ⟧ ∗ ⟦ history_owns γ more ⟧ ∗ ⟦ rights_own γ out' ⟧))))
-      (given_back γ moves before out id mark tied.rights range is mark_is) $ learn ! (λ so.
+      use3 𝓛 (given Held (raw (upd 𝓤 (⟦ page_owns γ more ⟧ ∗ ⟦ ledger_owns γ more ⟧ ∗ ⟦ rights_own γ out' ⟧))))
+      (given_back γ moves before out id mark left tied.rights range is mark_is) $ learn ! (λ so.
       let plain : k ≡ 64 * 2 ^ id = k_is ∙ laws.bit_in_word id first in
       let tied' : IsTiedTo n' more out' log = record {
         word = subst (IsWordOf n') (sym now) (subst (λ (j : ℕ). IsWordOf ((n + (2 ^ 64 - j)) % 2 ^ 64) (without held id)) (sym plain)
             (laws.word_given n id held tied.word first so.0));
-        rights = subst (AreOutOf out') (sym now) (laws.out_given out held id tied.rights range);
+        rights = subst (AreOutOf out') (sym now) (out_noted_back (less (less out id) (id + 2 ^ 63)) (without held id) id left
+            (laws.out_given out held id tied.rights range));
+        notes = noted_given out moves id left tied.notes range so.0 so.2;
         beyond = subst (IsSameBeyond (held_after log)) (sym now) (laws.beyond_given (held_after log) held id tied.beyond first);
         peak = tied.peak ∙ sym (ap (λ (h : List Bool). length h - 58) now ∙ ap (λ (j : ℕ). j - 58) (length-without held id));
-        early = O.trans log moves more tied.early (Give id ∷ [], refl);
+        early = O.trans log moves more tied.early later;
       } in
-      settle 𝓛 Z (‵ (page_owns γ more) ⊛ ‵ (history_owns γ more) ⊛ ‵ (rights_own γ out')) $ suffices ! _ (upd_i 𝓤 Z) $ split3 ! $
+      settle 𝓛 Z (‵ (page_owns γ more) ⊛ ‵ (ledger_owns γ more) ⊛ ‵ (rights_own γ out')) $ suffices ! _ (upd_i 𝓤 Z) $ split3 ! $
       -- [the page; the history; the rights; the log]
-      nothing ! $ fpack ! (IsReturn before id more) (λ _. ftrue) (record { since = moves; given = refl; early = so.1 }) $
-      fjoin ! $ fpack ! (List IdMove) (λ m. fsep (fact (IsReturn before id m)) (page_owns γ m)) more $
+      nothing ! $ fpack ! (Returned before id left more) (λ _. ftrue) (
+        record { since = since; given = refl; early = O.trans (noted before Take) moves since so.1 (early_publishing moves id left) },
+        left_stays since id ∙ so.2,
+      ) $
+      fjoin ! $ fpack ! (List IdMove) (λ m. fsep (fact (Returned before id left m)) (page_owns γ m)) more $
       nothing ! $ fpack ! (IsTiedTo n' more out' log) (λ _. ftrue) tied' $ move ! (4 ∷ 0 ∷ []) $ fjoin ! $
       move ! (3 ∷ 0 ∷ []) $ fjoin ! $ move ! (2 ∷ 0 ∷ []) $ fjoin ! $ fpack ! Kept (kept_with γ n') (more, (out', log)) $
       frame ! $ done !)))
 
   -- a further id is given back
-  abbrev pub ReturnedFurther : List IdMove → List IdMove → ℕ → List IdMove → Type 0
-  ReturnedFurther before log id more = IsReturn before id more × IsGivenBeyond (held_after log) (held_after more) id
+  abbrev pub ReturnedFurther : List IdMove → List IdMove → ℕ → Option Gv → List IdMove → Type 0
+  ReturnedFurther before log id left more = Returned before id left more × IsGivenBeyond (held_after log) (held_after more) id
 
-  abbrev pub returned_further : GName → List IdMove → List IdMove → ℕ → Fml
-  returned_further γ before log id =
-      fex (List IdMove) (λ more. fsep (fact (ReturnedFurther before log id more)) (fsep (page_owns γ more) (log_owns γ false more)))
+  abbrev pub returned_further : GName → List IdMove → List IdMove → ℕ → Option Gv → Fml
+  returned_further γ before log id left =
+      fex (List IdMove) (λ more. fsep (fact (ReturnedFurther before log id left more)) (fsep (page_owns γ more) (log_owns γ false more)))
 
-  pub gives_further : (γ : GName) (n id mark : ℕ) (before log : List IdMove) → 58 ≤ id → id < 2 ^ 63 - 1
-      → id ≡ taken_id before → mark ≡ id + 2 ^ 63
-      → ⟦ lies_with γ n ⟧ ∗ ⟦ fsep (log_owns γ false log) (gone γ before id mark) ⟧
-      ⊢ upd 𝓤 (⟦ lies_with γ n ⟧ ∗ ⟦ returned_further γ before log id ⟧)
-  gives_further γ n id mark before log further range is mark_is =
-      let Z = ⟦ lies_with γ n ⟧ ∗ ⟦ returned_further γ before log id ⟧ in
-      qed 𝓛 (‵ (lies_with γ n) ∷ ‵ (fsep (log_owns γ false log) (gone γ before id mark)) ∷ []) ∵
+  pub gives_further : (γ : GName) (n id mark : ℕ) (before log : List IdMove) (left : Option Gv) → 58 ≤ id → id < 2 ^ 63 - 1
+      → id ≡ taken_id before → mark ≡ id
+      → ⟦ lies_with γ n ⟧ ∗ ⟦ fsep (log_owns γ false log) (gone γ before id mark left) ⟧
+      ⊢ upd 𝓤 (⟦ lies_with γ n ⟧ ∗ ⟦ returned_further γ before log id left ⟧)
+  gives_further γ n id mark before log left further range is mark_is =
+      let Z = ⟦ lies_with γ n ⟧ ∗ ⟦ returned_further γ before log id left ⟧ in
+      qed 𝓛 (‵ (lies_with γ n) ∷ ‵ (fsep (log_owns γ false log) (gone γ before id mark left)) ∷ []) ∵
       fpick ! (λ s. fsplit3 ! $ move ! (2 ∷ []) $ fsplit ! $ move ! (1 ∷ []) $
       let moves : List IdMove = s.0 in
       let out : List ℕ = s.1.0 in
-      let more : List IdMove = noted moves (Give id) in
+      let since : List IdMove = publishing moves id left in
+      let more : List IdMove = noted since (Give id) in
       let held : List Bool = held_after moves in
-      let out' : List ℕ = less (less out id) (id + 2 ^ 63) in
-      let now : held_after more ≡ without held id = after_give moves id in
-      let Held : Type 0 = (is_held held id ≡ true) × IsPrefix (noted before Take) moves in
+      let out' : List ℕ = noted_back left id (less (less out id) (id + 2 ^ 63)) in
+      let now : held_after more ≡ without held id = after_give since id ∙ ap (λ h. without h id) (held_publishing moves id left) in
+      let later : IsPrefix moves more = O.trans moves since more (early_publishing moves id left) (Give id ∷ [], refl) in
+      let Held : Type 0 = (is_held held id ≡ true) × IsPrefix (noted before Take) moves × (published_in since id ≡ left) in
       fpick ! (λ tied. drop ! $ move ! (3 ∷ []) $ fsplit ! $ move ! (2 ∷ 0 ∷ []) $
       -- [the log; the other log; what comes back; the history; the rights]
       use2 𝓛 (given (s.1.1 ≡ log) (‵ (log_owns γ false s.1.1) ⊛ ‵ (log_owns γ false log))) (log_agrees γ s.1.1 log) $
       learn ! (λ same. split ! $ rewrite ! 0 (λ (l : List IdMove). ‵ (log_owns γ false l)) same refl $
       use2 𝓛 (raw (upd 𝓤 (⟦ log_owns γ false more ⟧ ∗ ⟦ log_owns γ false more ⟧))) (log_grows γ log more
-      (O.trans log moves more (subst (λ (l : List IdMove). IsPrefix l moves) same tied.early) (Give id ∷ [], refl))) $
+      (O.trans log moves more (subst (λ (l : List IdMove). IsPrefix l moves) same tied.early) later)) $
       settle 𝓛 Z (‵ (log_owns γ false more) ⊛ ‵ (log_owns γ false more)) $ split ! $
       move ! (3 ∷ 4 ∷ 2 ∷ []) $
-      use3 𝓛 (given Held (raw (upd 𝓤 (⟦ page_owns γ more ⟧ ∗ ⟦ history_owns γ more ⟧ ∗ ⟦ rights_own γ out' ⟧))))
-      (given_back γ moves before out id mark tied.rights range is mark_is) $ learn ! (λ so.
+      use3 𝓛 (given Held (raw (upd 𝓤 (⟦ page_owns γ more ⟧ ∗ ⟦ ledger_owns γ more ⟧ ∗ ⟦ rights_own γ out' ⟧))))
+      (given_back γ moves before out id mark left tied.rights range is mark_is) $ learn ! (λ so.
       let tied' : IsTiedTo n more out' more = record {
         word = subst (IsWordOf n) (sym now) (laws.word_stays n held (without held id) tied.word (laws.low_given held id further)
             (ap (min 58) (length-without held id)));
-        rights = subst (AreOutOf out') (sym now) (laws.out_given out held id tied.rights range);
+        rights = subst (AreOutOf out') (sym now) (out_noted_back (less (less out id) (id + 2 ^ 63)) (without held id) id left
+            (laws.out_given out held id tied.rights range));
+        notes = noted_given out moves id left tied.notes range so.0 so.2;
         beyond = λ j _. refl;
         peak = refl;
         early = O.same more;
@@ -371,28 +458,36 @@ module _ {M : Type 1} {𝓤 : Ura M} (𝓛 : Logic 𝓤) where
         peak = ap (λ (h : List Bool). length h - 58) now ∙ ap (λ (j : ℕ). j - 58) (length-without held id)
             ∙ sym (subst (λ (l : List IdMove). length (held_after l) - 58 ≡ length held - 58) same tied.peak);
       } in
-      settle 𝓛 Z (‵ (page_owns γ more) ⊛ ‵ (history_owns γ more) ⊛ ‵ (rights_own γ out')) $ suffices ! _ (upd_i 𝓤 Z) $ split3 ! $
+      settle 𝓛 Z (‵ (page_owns γ more) ⊛ ‵ (ledger_owns γ more) ⊛ ‵ (rights_own γ out')) $ suffices ! _ (upd_i 𝓤 Z) $ split3 ! $
       -- [the page; the history; the rights; the log; the other log]
       move ! (0 ∷ 4 ∷ []) $ fjoin ! $
-      nothing ! $ fpack ! (ReturnedFurther before log id more) (λ _. ftrue) (record { since = moves; given = refl; early = so.1 }, was) $
+      nothing ! $ fpack ! (ReturnedFurther before log id left more) (λ _. ftrue) (
+        (
+          record { since = since; given = refl; early = O.trans (noted before Take) moves since so.1 (early_publishing moves id left) },
+          left_stays since id ∙ so.2,
+        ),
+        was,
+      ) $
       fjoin ! $
-      fpack ! (List IdMove) (λ m. fsep (fact (ReturnedFurther before log id m)) (fsep (page_owns γ m) (log_owns γ false m))) more $
+      fpack ! (List IdMove) (λ m. fsep (fact (ReturnedFurther before log id left m)) (fsep (page_owns γ m) (log_owns γ false m))) more $
       nothing ! $ fpack ! (IsTiedTo n more out' more) (λ _. ftrue) tied' $ move ! (4 ∷ 0 ∷ []) $ fjoin ! $
       move ! (3 ∷ 0 ∷ []) $ fjoin ! $ move ! (2 ∷ 0 ∷ []) $ fjoin ! $ fpack ! Kept (kept_with γ n) (more, (out', more)) $
       frame ! $ done !))))
 
   -- ---- at the beginning
-  pub begins : (γ : GName) (out : List ℕ) → AreOutOf out []
+  pub begins : (γ : GName) (out : List ℕ) → AreOutOf out [] → AreNotedOut out []
       → ⟦ history_owns γ [] ⟧ ∗ ⟦ rights_own γ out ⟧ ∗ ⟦ log_owns γ false [] ⟧ ⊢ ⟦ lies_with γ 0 ⟧
-  begins γ out are =
+  begins γ out are notes =
       let tied : IsTiedTo 0 [] out [] = record {
         word = laws.word_begins;
         rights = are;
+        notes = notes;
         beyond = λ id _. refl;
         peak = refl;
         early = O.same [];
       } in
       qed 𝓛 (‵ (history_owns γ []) ∷ ‵ (rights_own γ out) ∷ ‵ (log_owns γ false []) ∷ []) ∵
+      nothing ! $ use1 𝓛 (‵ (all_noted γ [])) (id⊢ 𝓤 _) $ move ! (1 ∷ 0 ∷ []) $ fjoin ! $
       nothing ! $ fpack ! (IsTiedTo 0 [] out []) (λ _. ftrue) tied $ move ! (3 ∷ 0 ∷ []) $ fjoin ! $
       move ! (2 ∷ 0 ∷ []) $ fjoin ! $ move ! (1 ∷ 0 ∷ []) $ fjoin ! $ fpack ! Kept (kept_with γ 0) ([], (out, [])) $ done !
 
@@ -422,19 +517,19 @@ module _ {M : Type 1} {𝓤 : Ura M} (𝓛 : Logic 𝓤) where
         (fsep (page_owns γ seen) (log_owns γ false log)) (λ n.
         looks_if γ n seen log (takes && is_full n) (λ both. (laws.both_right takes (is_full n) both, has (laws.both_left takes (is_full n) both))))
 
-    pub gives : (k id mark : ℕ) (before : List IdMove) → id < 58 → k ≡ 64 * 2 ^ id % 2 ^ 64 → id ≡ taken_id before → mark ≡ id + 2 ^ 63
-        → A.inv (fbor κ I) ∗ (A.lft κ q ∗ ⟦ gone γ before id mark ⟧)
-        ⊢ asks 𝓛 (block_ptr b (o + 0)) (λ n. (n + (2 ^ 64 - k)) % 2 ^ 64) always (λ n. fsep (flft κ q) (returned γ before id))
-    gives k id mark before first k_is is mark_is =
-        stepped 𝓛 (lies_with γ) b (o + 0) κ q (λ n. (n + (2 ^ 64 - k)) % 2 ^ 64) (λ _. returned γ before id) (gone γ before id mark)
-        (λ n. gives_first γ n k id mark before first k_is is mark_is)
+    pub gives : (k id mark : ℕ) (before : List IdMove) (left : Option Gv) → id < 58 → k ≡ 64 * 2 ^ id % 2 ^ 64 → id ≡ taken_id before → mark ≡ id
+        → A.inv (fbor κ I) ∗ (A.lft κ q ∗ ⟦ gone γ before id mark left ⟧)
+        ⊢ asks 𝓛 (block_ptr b (o + 0)) (λ n. (n + (2 ^ 64 - k)) % 2 ^ 64) always (λ n. fsep (flft κ q) (returned γ before id left))
+    gives k id mark before left first k_is is mark_is =
+        stepped 𝓛 (lies_with γ) b (o + 0) κ q (λ n. (n + (2 ^ 64 - k)) % 2 ^ 64) (λ _. returned γ before id left) (gone γ before id mark left)
+        (λ n. gives_first γ n k id mark before left first k_is is mark_is)
 
-    pub gives_under_lock : (id mark : ℕ) (before log : List IdMove) → 58 ≤ id → id < 2 ^ 63 - 1 → id ≡ taken_id before → mark ≡ id + 2 ^ 63
-        → A.inv (fbor κ I) ∗ (A.lft κ q ∗ ⟦ fsep (log_owns γ false log) (gone γ before id mark) ⟧)
-        ⊢ asks 𝓛 (block_ptr b (o + 0)) (λ n. n) always (λ n. fsep (flft κ q) (returned_further γ before log id))
-    gives_under_lock id mark before log further range is mark_is =
-        stepped 𝓛 (lies_with γ) b (o + 0) κ q (λ n. n) (λ _. returned_further γ before log id) (fsep (log_owns γ false log) (gone γ before id mark))
-        (λ n. gives_further γ n id mark before log further range is mark_is)
+    pub gives_under_lock : (id mark : ℕ) (before log : List IdMove) (left : Option Gv) → 58 ≤ id → id < 2 ^ 63 - 1 → id ≡ taken_id before → mark ≡ id
+        → A.inv (fbor κ I) ∗ (A.lft κ q ∗ ⟦ fsep (log_owns γ false log) (gone γ before id mark left) ⟧)
+        ⊢ asks 𝓛 (block_ptr b (o + 0)) (λ n. n) always (λ n. fsep (flft κ q) (returned_further γ before log id left))
+    gives_under_lock id mark before log left further range is mark_is =
+        stepped 𝓛 (lies_with γ) b (o + 0) κ q (λ n. n) (λ _. returned_further γ before log id left)
+        (fsep (log_owns γ false log) (gone γ before id mark left)) (λ n. gives_further γ n id mark before log left further range is mark_is)
 
 pub log_keyless : (γ : GName) (whole : Bool) (log : List IdMove) → Keyless (log_owns γ whole log)
 unfolding log_owns
@@ -442,11 +537,11 @@ log_keyless γ whole log = tt
 
 pub lies_keyless : (γ n : ℕ) → Keyless (lies_with γ n)
 lies_keyless γ n s =
-    (history_keyless γ s.0, (rights_keyless γ s.1.0, (log_keyless γ false s.1.1, λ _. tt)))
+    ((history_keyless γ s.0, all_noted_keyless γ s.0), (rights_keyless γ s.1.0, (log_keyless γ false s.1.1, λ _. tt)))
 
 pub tried_keyless : (γ : ℕ) (moves : List IdMove) (took : Bool) → Keyless (tried_owns γ moves took)
 tried_keyless γ moves true = (
-  (right_keyless γ (taken_id moves), right_keyless γ (taken_id moves + 2 ^ 63)),
+  (right_keyless γ (taken_id moves), marked_keyless γ (taken_id moves) (published_in moves (taken_id moves)) true),
   (page_keyless γ (noted moves Take), held_keyless γ (taken_id moves) (times_given moves (taken_id moves))),
 )
 tried_keyless γ moves false = page_keyless γ moves

@@ -13,9 +13,15 @@ mod Facts
 pub mod TokenListLaws
 pub mod Made
 pub mod MoveElements
+pub mod NotedElements
+pub mod NoteElements
+pub mod NoteLaws
 pub mod ReachedElements
 pub mod Markers
 pub mod RightElements
+pub mod BlankLaws
+pub mod BookElements
+pub mod MarkElements
 pub mod Rows
 pub mod ToldElements
 pub mod FirstLaws

@@ -3,13 +3,14 @@
 use Rattle.std.proofs.Common.{◌≡◌, ℕ, ◌+◌, ◌≤◌, true, List, [], ◌∷◌, refl, sym, ap, ◌∙◌, subst, arith}
 use mathlib.Core.Logic.{◌∨₁◌}
 use mathlib.Core.List.{IsPrefix}
-use mathlib.Core.Option.{none, some}
+use mathlib.Core.Option.{Option, none, some}
+use base.Stored.{Gv}
 use seplogic.Ra.Ura.{Ura}
 use base.Fraction.{full_share}
 use base.Growing.{prefixes_in_line}
 use base.Logic.{SProp, ex, guard, upd, upd_i}
 use Rattle.thread_local_ids.proofs.Logs.{O, shows, part_off, part_twice, grown}
-use base.Fml.{GName, Fml}
+use base.Fml.{GName, Fml, fown}
 use base.Shift.{Keyless}
 use types.Logic.{Logic}
 use types.Keyed.{keyed}
@@ -18,8 +19,9 @@ use types.Kit.{‵, raw, given, ◌⊛◌, ◌$◌, ◌∵◌, !, qed, move, dro
 use types.Kit.{learn, check, frame, rewrite, suffices, settle, use0, use1, use2, done}
 use types.Kit as kit
 use Rattle.thread_local_base.specs.Held.{is_held}
-use Rattle.thread_local_base.specs.IdMoves.{IdMove, Take, Give, held_after, noted}
-use Rattle.thread_local_ids.specs.Returns.{gives, counting, counts, counts_own, counts_page, tenure_owns}
+use Rattle.thread_local_base.specs.IdMoves.{IdMove, Take, Give, Publish, held_after, noted}
+use Rattle.thread_local_ids.specs.Returns.{gives, counting, Count, count_of, counts, counts_own, counts_page, tenure_owns}
+use Rattle.thread_local_base.proofs.IdMoveLaws.{held_apart}
 use Rattle.thread_local_ids.proofs.ReturnLaws.{gives_apart, taken, page_off, page_again, not_given}
 use Rattle.thread_local_ids.proofs.ReturnLaws.{given as given_count}
 use Rattle.thread_local_ids.specs.Rights.{Element, moves_key, moves_own, right_owns, kept, history_as, page_as, held_as}
@@ -30,6 +32,7 @@ first : List IdMove → ℕ
 first [] = 0
 first (Take ∷ moves) = 0
 first (Give δ ∷ moves) = δ
+first (Publish id value ∷ moves) = 0
 
 rest : List IdMove → List IdMove
 rest [] = []
@@ -218,6 +221,26 @@ module _ {M : Type 1} {𝓤 : Ura M} (𝓛 : Logic 𝓤) where
       (give_held γ moves id n held (subst (λ (k : ℕ). gives before k ≤ gives moves id) low (given_before before moves id so))) $
       settle 𝓛 Z (‵ (history_owns γ more)) $
       use1 𝓛 (‵ (page_owns γ more) ⊛ ‵ (history_owns γ more)) (page_of γ more) $ split ! $ suffices ! _ (upd_i 𝓤 Z) $ done !)
+
+  -- a publishing changes no count
+  same_counts : (moves : List IdMove) (id : ℕ) (g : Gv) → counts moves ≡ counts (noted moves (Publish id g))
+  same_counts moves id g =
+      let held : held_after (noted moves (Publish id g)) ≡ held_after moves = held_apart [] moves (Publish id g ∷ []) in
+      let given : (j : ℕ) → gives (noted moves (Publish id g)) j ≡ gives moves j =
+      λ j. (let e : gives (noted moves (Publish id g)) j ≡ gives moves j + 0 = gives_apart moves (Publish id g ∷ []) j in omega (arith, e)) in
+      sym (λ i j. some (count_of (is_held (held i) j) (given j i)))
+
+  pub note_publish : (γ : GName) (moves : List IdMove) (id : ℕ) (g : Gv)
+      → ⟦ history_owns γ moves ⟧ ⊢ upd 𝓤 ⟦ history_owns γ (noted moves (Publish id g)) ⟧
+  unfolding history_owns
+  note_publish γ moves id g =
+      let more : List IdMove = noted moves (Publish id g) in
+      let Z : SProp 𝓤 = ⟦ history_owns γ more ⟧ in
+      qed 𝓛 (‵ (history_owns γ moves) ∷ []) ∵ fpick ! (λ δ. fsplit ! $
+      use1 𝓛 (raw (upd 𝓤 ⟦ own γ (whole δ more) ⟧)) (grown 𝓛 moves_key γ (kept δ moves) (kept δ more) (Publish id g ∷ [], refl)) $
+      settle 𝓛 Z (‵ (own γ (whole δ more))) $ move ! (1 ∷ []) $
+      rewrite ! 0 (λ (c : ℕ → Option Count). ‵ (fown (keyed counting) δ c)) (same_counts moves id g) refl $
+      move ! (1 ∷ 0 ∷ []) $ fjoin ! $ fpack ! ℕ (history_as γ more) δ $ suffices ! _ (upd_i 𝓤 Z) $ done !)
 
   -- while an id is held, no page says that it was given back since
   pub tenure_held : (γ : GName) (before later : List IdMove)

@@ -21,7 +21,7 @@ use types.Keyed.{keyed}
 use types.Owned.{own_sum, own_step, own_join}
 use Rattle.thread_local_base.specs.Held.{is_held, least, with_least, without}
 use Rattle.thread_local_base.proofs.HeldLaws.{least_free, is_held-with_least, is_held-without}
-use Rattle.thread_local_base.specs.IdMoves.{IdMove, Take, Give, held_from, held_after, noted}
+use Rattle.thread_local_base.specs.IdMoves.{IdMove, Take, Give, Publish, held_from, held_after, noted}
 use Rattle.thread_local_ids.specs.Returns.{gives, counting, Count, count_of, counts, pages, count_if, counts_own, counts_page, tenure_owns}
 use Rattle.thread_local_base.proofs.IdMoveLaws.{held_apart, after_take, after_give}
 use Rattle.thread_local_base.proofs.Signs.{signs}
@@ -30,6 +30,7 @@ use Rattle.thread_local_base.proofs.Signs.{signs}
 pub gives_apart : (before later : List IdMove) (id : ℕ) → gives (before ++ later) id ≡ gives before id + gives later id
 gives_apart [] later id = omega arith
 gives_apart (Take ∷ before) later id = gives_apart before later id
+gives_apart (Publish other value ∷ before) later id = gives_apart before later id
 gives_apart (Give other ∷ before) later id = at (other == id) (gives_apart before later id)
   where
     at : (t : Bool) → gives (before ++ later) id ≡ gives before id + gives later id
@@ -54,6 +55,7 @@ held_stays : (held : List Bool) (moves : List IdMove) (id : ℕ) → is_held hel
     → is_held (held_from held moves) id ≡ true
 held_stays held [] id is never = is
 held_stays held (Take ∷ moves) id is never = held_stays (with_least held) moves id (held_taken held id is) never
+held_stays held (Publish other value ∷ moves) id is never = held_stays held moves id is never
 held_stays held (Give other ∷ moves) id is never =
     apart (other == id) refl never (λ differs n. held_stays (without held other) moves id (held_given held other id differs is) n)
   where

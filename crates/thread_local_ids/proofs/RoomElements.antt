@@ -1,5 +1,5 @@
 -- The room of a table under its name: how it is noted, had twice and compared. Assumes `Logic`.
-use Rattle.std.proofs.Common.{◌≡◌, ℕ, false, List, [], ◌∷◌, refl, sym, ap, ◌∙◌}
+use Rattle.std.proofs.Common.{◌≡◌, ℕ, false, List, [], ◌∷◌, refl, sym, ap, ◌∙◌, arith}
 use mathlib.Core.List.{IsPrefix}
 use mathlib.Core.Option.{none, some}
 use seplogic.Ra.Ura.{Ura}
@@ -9,7 +9,7 @@ use base.Fml.{GName, Fml}
 use base.Shift.{Keyless}
 use types.Logic.{Logic, sem}
 use types.Kit.{‵, raw, ◌⊛◌, ◌$◌, ◌∵◌, !, qed, move, drop, split, suffices, settle, use1, done}
-use Rattle.thread_local_base.specs.IdMoves.{IdMove, Take, Give}
+use Rattle.thread_local_base.specs.IdMoves.{IdMove, Take, Give, Publish}
 use Rattle.thread_local_ids.specs.Rights.{is_out, element_at, room_key, room_owns, right_owns, rights_own}
 use Rattle.thread_local_ids.proofs.RightElements.{rights_cut}
 use Rattle.thread_local_ids.proofs.Logs.{O, shows, part_off, part_twice, grown}
@@ -18,6 +18,7 @@ first : List IdMove → ℕ
 first [] = 0
 first (Take ∷ moves) = 0
 first (Give ids ∷ moves) = ids
+first (Publish id value ∷ moves) = 0
 
 same_first : (a b : ℕ) (moves : List IdMove) → IsPrefix (Give a ∷ []) moves → IsPrefix (Give b ∷ []) moves → a ≡ b
 unfolding first
@@ -48,7 +49,7 @@ module _ {M : Type 1} {𝓤 : Ura M} (𝓛 : Logic 𝓤) where
       let left : Fml = rights_own γ (room_key ∷ out) in
       let Z : SProp 𝓤 = sep 𝓤 ⟦ room_owns γ ids ⟧ ⟦ left ⟧ in
       qed 𝓛 (‵ (rights_own γ out) ∷ []) ∵
-      use1 𝓛 (‵ (right_owns γ room_key) ⊛ ‵ left) (rights_cut 𝓛 γ out room_key free) $ split ! $
+      use1 𝓛 (‵ (right_owns γ room_key) ⊛ ‵ left) (rights_cut 𝓛 γ out room_key (omega arith) free) $ split ! $
       use1 𝓛 (raw (upd 𝓤 ⟦ room_owns γ ids ⟧)) (room_noted γ ids) $
       settle 𝓛 Z (‵ (room_owns γ ids)) $ suffices ! _ (upd_i 𝓤 Z) $ done !
 

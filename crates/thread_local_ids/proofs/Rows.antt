@@ -17,8 +17,11 @@ use denote.RattleType.{RattleType}
 use denote.Steps.{nothing}
 use Rattle.thread_local_base.specs.Place.{id_at, bucket_of, index_of}
 use Rattle.thread_local_base.specs.Buckets.{Contents, IsTable, row, values}
-use Rattle.thread_local_ids.specs.Told.{tells, all_tell, all_told_or_untold, whole_row, rows_telling, rows_tell}
-use Rattle.thread_local_ids.proofs.ToldElements.{all_end, all_dup, none_telling, source, all_drawn, told_at, tells_keyless}
+use Rattle.thread_local_ids.specs.Rights.{slots_own}
+use Rattle.thread_local_ids.specs.Told.{first_of, later_of, tells, all_tell, all_told_or_untold, whole_row, rows_telling, rows_tell}
+use Rattle.thread_local_ids.specs.Blank.{AreBlank}
+use Rattle.thread_local_ids.proofs.BlankLaws.{blank_whole}
+use Rattle.thread_local_ids.proofs.ToldElements.{all_end, all_dup, none_telling, source, all_drawn, first_drawn, told_at, tells_keyless}
 use Rattle.thread_local_base.proofs.Signs.{signs}
 
 -- the row of a bucket is empty or whole
@@ -42,6 +45,10 @@ whole_at bucket i (v ∷ slots) near = refl
 -- the first id of the next bucket
 next_first : (bucket : ℕ) → id_at (suc bucket) 0 ≡ 2 ^ bucket + id_at bucket 0
 next_first bucket = let some_slots : 0 < 2 ^ bucket = pow_pos bucket in omega (arith, two-pow-succ bucket)
+
+next_after : {V : Type 0} (bucket : ℕ) (row : List (Option V)) → IsWhole bucket row
+    → id_at (suc bucket) 0 ≡ length (whole_row bucket row) + id_at bucket 0
+next_after bucket row whole = next_first bucket ∙ sym (ap (λ (n : ℕ). n + id_at bucket 0) (whole_length bucket row whole))
 
 -- these are rows of the buckets from this number on
 abbrev pub AreWhole : {V : Type 0} → ℕ → List (List (Option V)) → Type 0
@@ -73,7 +80,7 @@ module _ {M : Type 1} {𝓤 : Ura M} (𝓛 : Logic 𝓤) (R : RattleType) where
   abbrev Rows : Type 0
   Rows = List (List (Option R.Denot))
 
-  -- where no sharing is named, nothing has to be told
+  -- where there is no sharing, nothing has to be told
   pub none_rows : (bucket : ℕ) (rows : Rows) → emp 𝓤 ⊢ ⟦ rows_telling R None bucket rows ⟧
   none_rows bucket [] = qed 𝓛 [] ∵ nothing ! $ done !
   none_rows bucket (row ∷ rows) = qed 𝓛 [] ∵ use0 𝓛 (‵ (rows_telling R None (suc bucket) rows)) (none_rows (suc bucket) rows) $
@@ -81,30 +88,47 @@ module _ {M : Type 1} {𝓤 : Ura M} (𝓛 : Logic 𝓤) (R : RattleType) where
       (none_telling 𝓛 R (id_at bucket 0) (whole_row bucket row)) $
       fjoin ! $ done !
 
-  -- the slots of a new sharing's buckets get what lies with them
+  -- the slots of the buckets of a sharing of later get what lies with them
   pub rows_drawn : (γ : GName) (bucket : ℕ) (rows : Rows) → AreWhole bucket rows
-      → ⟦ source 𝓛 γ (id_at bucket 0) ⟧ ⊢ upd 𝓤 ⟦ rows_telling R (Some γ) bucket rows ⟧
+      → ⟦ source 𝓛 γ (id_at bucket 0) ⟧ ⊢ upd 𝓤 ⟦ rows_telling R (Some (later_of γ)) bucket rows ⟧
   rows_drawn γ bucket [] are =
       qed 𝓛 (‵ (source 𝓛 γ (id_at bucket 0)) ∷ []) ∵ suffices ! _ (upd_i 𝓤 ⟦ ftrue ⟧) $ drop ! $
       nothing ! $ done !
   rows_drawn γ bucket (row ∷ rows) are =
-      let Z : SProp 𝓤 = ⟦ rows_telling R (Some γ) bucket (row ∷ rows) ⟧ in
+      let here : Option ℕ = Some (later_of γ) in
+      let Z : SProp 𝓤 = ⟦ rows_telling R here bucket (row ∷ rows) ⟧ in
       let id : ℕ = id_at bucket 0 in
       let slots : List (Option R.Denot) = whole_row bucket row in
       let next : ℕ = id_at (suc bucket) 0 in
-      let at : next ≡ length slots + id = next_first bucket ∙ sym (ap (λ (n : ℕ). n + id) (whole_length bucket row are.0)) in
       qed 𝓛 (‵ (source 𝓛 γ id) ∷ []) ∵
-      use1 𝓛 (raw (upd 𝓤 (⟦ all_told_or_untold R (Some γ) id slots ⟧ ∗ ⟦ source 𝓛 γ next ⟧)))
-      (all_drawn 𝓛 R γ id next slots at) $
-      settle 𝓛 Z (‵ (all_told_or_untold R (Some γ) id slots) ⊛ ‵ (source 𝓛 γ next)) $ split ! $
+      use1 𝓛 (raw (upd 𝓤 (⟦ all_told_or_untold R here id slots ⟧ ∗ ⟦ source 𝓛 γ next ⟧)))
+      (all_drawn 𝓛 R γ id next slots (next_after bucket row are.0)) $
+      settle 𝓛 Z (‵ (all_told_or_untold R here id slots) ⊛ ‵ (source 𝓛 γ next)) $ split ! $
       move ! (1 ∷ []) $
-      use1 𝓛 (raw (upd 𝓤 ⟦ rows_telling R (Some γ) (suc bucket) rows ⟧))
+      use1 𝓛 (raw (upd 𝓤 ⟦ rows_telling R here (suc bucket) rows ⟧))
       (rows_drawn γ (suc bucket) rows are.1) $
-      settle 𝓛 Z (‵ (rows_telling R (Some γ) (suc bucket) rows)) $
+      settle 𝓛 Z (‵ (rows_telling R here (suc bucket) rows)) $
       suffices ! _ (upd_i 𝓤 Z) $ move ! (1 ∷ 0 ∷ []) $ fjoin ! $ done !
 
+  -- in a table's first sharing they get it where no slot has a value
+  pub rows_first : (table bucket : ℕ) (rows : Rows) → AreWhole bucket rows → AreBlank rows
+      → ⟦ slots_own table (id_at bucket 0) ⟧ ⊢ ⟦ rows_telling R (Some (first_of table)) bucket rows ⟧
+  rows_first table bucket [] are blank =
+      qed 𝓛 (‵ (slots_own table (id_at bucket 0)) ∷ []) ∵ drop ! $ nothing ! $ done !
+  rows_first table bucket (row ∷ rows) are blank =
+      let here : Option ℕ = Some (first_of table) in
+      let id : ℕ = id_at bucket 0 in
+      let slots : List (Option R.Denot) = whole_row bucket row in
+      let next : ℕ = id_at (suc bucket) 0 in
+      qed 𝓛 (‵ (slots_own table id) ∷ []) ∵
+      use1 𝓛 (‵ (all_told_or_untold R here id slots) ⊛ ‵ (slots_own table next))
+      (first_drawn 𝓛 R table id next slots (blank_whole R.Denot bucket row blank.0) (next_after bucket row are.0)) $
+      split ! $ move ! (1 ∷ []) $
+      use1 𝓛 (‵ (rows_telling R here (suc bucket) rows)) (rows_first table (suc bucket) rows are.1 blank.1) $
+      move ! (1 ∷ 0 ∷ []) $ fjoin ! $ done !
+
   -- at the end of a sharing it is told of every id what its slot was published with
-  pub rows_end : (sharing : Option GName) (bucket : ℕ) (rows : Rows)
+  pub rows_end : (sharing : Option ℕ) (bucket : ℕ) (rows : Rows)
       → ⟦ rows_telling R sharing bucket rows ⟧ ⊢ upd 𝓤 ⟦ rows_tell R sharing bucket rows ⟧
   rows_end sharing bucket [] = upd_i 𝓤 ⟦ ftrue ⟧
   rows_end sharing bucket (row ∷ rows) =
@@ -119,7 +143,7 @@ module _ {M : Type 1} {𝓤 : Ura M} (𝓛 : Logic 𝓤) (R : RattleType) where
       settle 𝓛 Z (‵ (rows_tell R sharing (suc bucket) rows)) $
       suffices ! _ (upd_i 𝓤 Z) $ move ! (1 ∷ 0 ∷ []) $ fjoin ! $ done !
 
-  pub rows_dup : (sharing : Option GName) (bucket : ℕ) (rows : Rows)
+  pub rows_dup : (sharing : Option ℕ) (bucket : ℕ) (rows : Rows)
       → ⟦ rows_tell R sharing bucket rows ⟧
       ⊢ ⟦ rows_tell R sharing bucket rows ⟧ ∗ ⟦ rows_tell R sharing bucket rows ⟧
   rows_dup sharing bucket [] = qed 𝓛 (‵ ftrue ∷ []) ∵ nothing ! $ done !
@@ -133,7 +157,7 @@ module _ {M : Type 1} {𝓤 : Ura M} (𝓛 : Logic 𝓤) (R : RattleType) where
       move ! (2 ∷ 0 ∷ []) $ fjoin ! $ frame ! $ move ! (1 ∷ 0 ∷ []) $ fjoin ! $ done !
 
   -- what is told of the id of a slot is what the rows say of it
-  pub row_at : (sharing : Option GName) (bucket n i : ℕ) (rows : Rows) → AreWhole bucket rows
+  pub row_at : (sharing : Option ℕ) (bucket n i : ℕ) (rows : Rows) → AreWhole bucket rows
       → n < length rows → i < 2 ^ (n + bucket)
       → ⟦ rows_tell R sharing bucket rows ⟧
       ⊢ ⟦ tells R sharing (id_at (n + bucket) i)
@@ -163,7 +187,7 @@ module _ {M : Type 1} {𝓤 : Ura M} (𝓛 : Logic 𝓤) (R : RattleType) where
       rewrite ! 0 (λ (b : ℕ). ‵ (tells R sharing (id_at b i) (slice_index_or (slice_index_or rows n []) i None))) next refl $ done !
 
   -- the same of an id of a table
-  pub contents_tell : (sharing : Option GName) (contents : Contents R.Denot) → IsTable contents
+  pub contents_tell : (sharing : Option ℕ) (contents : Contents R.Denot) → IsTable contents
       → (id : ℕ) → id < 2 ^ 63 - 1
       → ⟦ rows_tell R sharing 0 contents.rows ⟧ ⊢ ⟦ tells R sharing id (values contents id) ⟧
   contents_tell sharing contents is id near =
@@ -178,7 +202,7 @@ module _ {M : Type 1} {𝓤 : Ura M} (𝓛 : Logic 𝓤) (R : RattleType) where
       (subst (λ (n : ℕ). i < 2 ^ n) (sym same) (inside id))) $
       rewrite ! 0 (λ (k : ℕ). ‵ (tells R sharing k (values contents id))) at refl $ done !
 
-module _ (R : RattleType) (sharing : Option GName) where
+module _ (R : RattleType) (sharing : Option ℕ) where
   all_tell_keyless : (id : ℕ) (slots : List (Option R.Denot)) → Keyless (all_tell R sharing id slots)
   all_tell_keyless id [] = tt
   all_tell_keyless id (v ∷ slots) = (tells_keyless R sharing id v, all_tell_keyless (suc id) slots)

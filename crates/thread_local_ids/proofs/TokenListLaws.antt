@@ -4,7 +4,6 @@ use Rattle.std.proofs.Common.{◌≡◌, ℕ, List, [], ◌∷◌, refl, sym, ap
 use Rattle.std.proofs.lemmas.Bool.{cases_eq}
 use Rattle.std.proofs.lemmas.List.Elements.{All-nil, All-cons}
 use Rattle.std.specs.Prelude.{All}
-use Rattle.std.specs.Coded.{coded_option}
 use seplogic.Ra.Ura.{Ura}
 use mir.Val.{vstruct, vnil}
 use base.Logic.{SProp, guard, via, guard_i, guard_e, snd∗}
@@ -25,7 +24,7 @@ use Rattle.thread_local_ids.specs.Views.{TokenView}
 use Rattle.thread_local_ids.specs.TokenLists.{AllOf, tell_each}
 use Rattle.thread_local_ids.specs.contracts.tokens.token_list.TokenList as TokenList
 use Rattle.thread_local_ids.proofs.Made.{token_val}
-use Rattle.thread_local_ids.proofs.ToldElements.{told_dup, telling_alike, tells_keyless}
+use Rattle.thread_local_ids.proofs.ToldElements.{tells_dup, telling_alike, tells_keyless}
 use Rattle.thread_local_base.proofs.Signs.{signs}
 
 unnamed : IsSome {T = ℕ} None → ⊥
@@ -48,7 +47,7 @@ module _ {M : Type 1} {𝓤 : Ura M} (𝓛 : Logic 𝓤) (R : RattleType) where
       let One : Fml = tells R p.sharing p.id (Some p.value) in
       let Rest : Fml = tell_each R tokens in
       qed 𝓛 (‵ (tell_each R (p ∷ tokens)) ∷ []) ∵ fsplit ! $
-      use1 𝓛 (‵ One ⊛ ‵ One) (told_dup 𝓛 p.sharing p.id ((coded_option R.coded).code (Some p.value))) $ split ! $
+      use1 𝓛 (‵ One ⊛ ‵ One) (tells_dup 𝓛 R p.sharing p.id (Some p.value)) $ split ! $
       move ! (2 ∷ []) $ use1 𝓛 (‵ Rest ⊛ ‵ Rest) (each_dup tokens) $ split ! $
       move ! (2 ∷ 0 ∷ []) $ fjoin ! $ frame ! $ move ! (1 ∷ 0 ∷ []) $ fjoin ! $ done !
 

@@ -1,6 +1,5 @@
 -- What is told can be had twice, and so a `&` may hold it. Assumes `Logic`.
 use Rattle.std.proofs.Common.{ℕ, [], ◌∷◌, Option}
-use Rattle.std.specs.Coded.{coded_option}
 use seplogic.Ra.Ura.{Ura}
 use base.Logic.{ent, sep, wand, apply∗, snd∗}
 use base.Fml.{Lft, Fml, fbor}
@@ -11,7 +10,7 @@ use denote.RattleType.{RattleType}
 use denote.Sharing.{ShrLaws, said}
 use denote.Struct.Lending.{Lends}
 use Rattle.thread_local_ids.specs.Told.{tells}
-use Rattle.thread_local_ids.proofs.ToldElements.{told_dup}
+use Rattle.thread_local_ids.proofs.ToldElements.{tells_dup}
 
 -- a `&` to what can be had beside what it shows
 pub lends_shown : {M : Type 1} {𝓤 : Ura M} (𝓛 : Logic 𝓤) (P Q : Fml)
@@ -37,4 +36,4 @@ said_laws P twice = record { contraction = λ M 𝓤 𝓛 κ. twice M 𝓤 𝓛;
 
 -- what a `&` holds that holds what is told of an id
 pub tells_laws : (R : RattleType) (sharing : Option ℕ) (id : ℕ) (v : Option R.Denot) → ShrLaws (said (tells R sharing id v))
-tells_laws R sharing id v = said_laws (tells R sharing id v) (λ M 𝓤 𝓛. told_dup 𝓛 sharing id ((coded_option R.coded).code v))
+tells_laws R sharing id v = said_laws (tells R sharing id v) (λ M 𝓤 𝓛. tells_dup 𝓛 R sharing id v)

@@ -8,13 +8,15 @@ use Rattle.std.specs.Prelude.{◌≡◌, ℕ, ◌+◌, ◌-◌, ◌*◌, ◌/◌
 use Rattle.std.specs.Coded.{Coded, coded_ℕ, code_by}
 use mathlib.Core.List.{IsPrefix}
 use mathlib.Core.Option.{some}
+use Rattle.std.specs.Prelude.{Option as Maybe, None, Some}
+use base.Stored.{Gv}
 use base.Fraction.{full_share, left}
 use base.Fml.{Share, Fml, fsep, fex}
 use Rattle.thread_local_base.specs.Bits.{is_set}
 use Rattle.thread_local_base.specs.Fact.{fact}
 use Rattle.thread_local_base.specs.Held.{is_held}
-use Rattle.thread_local_base.specs.IdMoves.{IdMove, Take, Give, held_after, noted}
-use Rattle.thread_local_ids.specs.Rights.{is_out, element_at, right_owns, rights_own, history_owns, page_owns, tenure_of, taken_id}
+use Rattle.thread_local_base.specs.IdMoves.{IdMove, Take, Give, held_after, noted, published_in}
+use Rattle.thread_local_ids.specs.Rights.{is_out, element_at, right_owns, rights_own, history_owns, page_owns, tenure_of, taken_id, note_key, noted_at, note_owns, all_noted, AreNotedOut}
 
 -- what a contract sees of the word: the name of the table
 pub record FirstView : Type 0 where
@@ -64,6 +66,7 @@ AreOutOf out held =
 pub record IsTiedTo (n : ℕ) (moves : List IdMove) (out : List ℕ) (log : List IdMove) : Type 0 where
   pub word : IsWordOf n (held_after moves)
   pub rights : AreOutOf out (held_after moves)
+  pub notes : AreNotedOut out moves
   pub beyond : IsSameBeyond (held_after log) (held_after moves)
   pub peak : length (held_after log) - 58 ≡ length (held_after moves) - 58
   pub early : IsPrefix log moves
@@ -90,20 +93,34 @@ log_owns table whole moves = element_at log_key table (some (log_share whole), m
 abbrev pub Kept : Type 0
 Kept = List IdMove × (List ℕ × List IdMove)
 
+-- all moves, with what they note
+abbrev pub ledger_owns : ℕ → List IdMove → Fml
+ledger_owns table moves = fsep (history_owns table moves) (all_noted table moves)
+
 abbrev pub kept_with : ℕ → ℕ → Kept → Fml
 kept_with table n s =
-    fsep (history_owns table s.0)
+    fsep (ledger_owns table s.0)
     (fsep (rights_own table s.1.0) (fsep (log_owns table false s.1.1) (fact (IsTiedTo n s.0 s.1.0 s.1.1))))
 
 -- what lies with the word
 abbrev pub lies_with : ℕ → ℕ → Fml
 lies_with table n = fex Kept (kept_with table n)
 
--- the rights to an id that was taken after these moves
-abbrev pub rights_to : ℕ → ℕ → Fml
-rights_to table id = fsep (right_owns table id) (right_owns table (id + 2 ^ 63))
+-- the note of an id before its slot is told to be published
+abbrev pub note_by : Bool → ℕ → ℕ → Maybe Gv → Fml
+note_by true table id left = note_owns table id left
+note_by false table id None = right_owns table (note_key id)
+note_by false table id (Some value) = noted_at (note_key id) table id value
+
+-- the mark of an id with its note
+abbrev pub marked : ℕ → ℕ → Maybe Gv → Bool → Fml
+marked table id left told = fsep (right_owns table (id + 2 ^ 63)) (note_by told table id left)
+
+-- the rights to an id that was taken after these moves, with what they say was left in its slot
+abbrev pub rights_to : ℕ → ℕ → Maybe Gv → Fml
+rights_to table id left = fsep (right_owns table id) (marked table id left true)
 
 -- what a try left, by whether it took an id after these moves, or saw them
 abbrev pub tried_owns : ℕ → List IdMove → Bool → Fml
-tried_owns table moves true = fsep (rights_to table (taken_id moves)) (tenure_of table moves)
+tried_owns table moves true = fsep (rights_to table (taken_id moves) (published_in moves (taken_id moves))) (tenure_of table moves)
 tried_owns table moves false = page_owns table moves

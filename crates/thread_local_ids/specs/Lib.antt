@@ -1,7 +1,9 @@
 pub mod Returns
 pub mod Guarded
 pub mod Locking
+pub mod Sharings
 pub mod Told
+pub mod Blank
 pub mod Views
 pub mod Rights
 pub mod TokenLists

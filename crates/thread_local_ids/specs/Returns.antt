@@ -8,13 +8,14 @@ use base.Growing.{numbers, growing}
 use base.Fml.{Share, Fml, fown}
 use types.Keyed.{keyed}
 use Rattle.thread_local_base.specs.Held.{is_held}
-use Rattle.thread_local_base.specs.IdMoves.{IdMove, Take, Give, held_after}
+use Rattle.thread_local_base.specs.IdMoves.{IdMove, Take, Give, Publish, held_after}
 
 -- how often an id was given back
 abbrev pub gives : List IdMove → ℕ → ℕ
 gives [] id = 0
 gives (Take ∷ moves) id = gives moves id
 gives (Give other ∷ moves) id = if other == id then suc (gives moves id) else gives moves id
+gives (Publish other value ∷ moves) id = gives moves id
 
 abbrev pub counting : Algebra
 counting = growing numbers

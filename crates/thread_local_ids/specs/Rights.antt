@@ -1,15 +1,18 @@
 -- What rights own: elements of ghost state, one at the key of each id under the table's name, with
--- one holder each. At one more key lies what was done with the ids, which only grows.
-use Rattle.std.specs.Prelude.{ℕ, ◌==◌, ◌^◌, ◌-◌, ◌≤◌, Bool, true, false, not, List, [], ◌∷◌, length, if◌then◌else◌}
+-- one holder each. At one more key lies what was done with the ids, which only grows. At others lie the
+-- notes of ids, and the rights to tell what slots are published with.
+use Rattle.std.specs.Prelude.{◌≡◌, ℕ, ◌+◌, ◌-◌, ◌^◌, ◌<◌, ◌≤◌, ◌==◌, nat_lt, nat_le, Bool, true, false, not, ◌&&◌, ◌||◌, List, [], ◌∷◌, length, if◌then◌else◌}
+use Rattle.std.specs.Prelude.{Option as Maybe, None, Some, is_some}
 use mathlib.Core.Option.{Option, none, some}
 use base.Fraction.{full_share}
 use base.Algebra.{Algebra}
 use base.Growing.{prefixes, growing}
+use base.Stored.{Gv}
 use base.Fml.{Share, Fml, ftrue, fown, fsep, fex}
 use types.Keyed.{keyed}
 use Rattle.thread_local_base.specs.Fact.{fact}
-use Rattle.thread_local_base.specs.Held.{least}
-use Rattle.thread_local_base.specs.IdMoves.{IdMove, Take, Give, move_coded, held_after, noted}
+use Rattle.thread_local_base.specs.Held.{least, is_held}
+use Rattle.thread_local_base.specs.IdMoves.{IdMove, Take, Give, Publish, left_coded, move_coded, held_after, noted, published_in}
 use Rattle.thread_local_ids.specs.Returns.{gives, counts_own, counts_page, tenure_owns}
 
 -- whether an id is among those whose right is out
@@ -42,9 +45,22 @@ element_if t = at_if t (some full_share, [])
 unfoldable pub right_owns : ℕ → ℕ → Fml
 right_owns table id = fown (keyed telling) table (λ j. element_if (id == j))
 
+-- The keys from this one on are those of slots: whoever has the right to one of them may tell what the
+-- slot of an id is published with. They lie behind the keys of all other rights.
+abbrev pub slot_key : ℕ → ℕ
+slot_key id = id + 2 ^ 66
+
+-- whether the right at a key is one of a table's, and isn't out
+abbrev pub is_kept : List ℕ → ℕ → Bool
+is_kept out j = nat_lt j (slot_key 0) && not (is_out out j)
+
 -- the rights of a table to all ids but those that are out
 unfoldable pub rights_own : ℕ → List ℕ → Fml
-rights_own table out = fown (keyed telling) table (λ j. element_if (not (is_out out j)))
+rights_own table out = fown (keyed telling) table (λ j. element_if (is_kept out j))
+
+-- the rights to the slots of a table from the id k on
+unfoldable pub slots_own : ℕ → ℕ → Fml
+slots_own table k = fown (keyed telling) table (λ j. element_if (nat_le (slot_key k) j))
 
 -- an element at one key under a table's name
 abbrev pub element_at : ℕ → ℕ → Element → Fml
@@ -109,3 +125,36 @@ reached_by table n moves = fsep (fact (n ≤ length (held_after moves))) (page_i
 -- n ids of a table were held at once
 unfoldable pub reached_owns : ℕ → ℕ → Fml
 reached_owns table n = fex (List IdMove) (reached_by table n)
+
+-- It is noted for good at a key that the slot of an id was published with this, where whoever had the
+-- right at that key noted it.
+unfoldable pub noted_at : ℕ → ℕ → ℕ → Gv → Fml
+noted_at key table id value = element_at key table (none, Publish id value ∷ [])
+
+-- Each id has a third right, its note: the right to this number. Whoever holds the id has it, until
+-- its slot is published.
+abbrev pub note_key : ℕ → ℕ
+note_key id = id + 2 ^ 65
+
+-- it is noted for good, and told, that the slot of an id was published with the value of this code
+abbrev pub noted_owns : ℕ → ℕ → Gv → Fml
+noted_owns table id value =
+    fsep (noted_at (note_key id) table id value) (noted_at (slot_key id) table id (left_coded.code (Some value)))
+
+-- the note of an id: its right, or what was noted for it
+abbrev pub note_owns : ℕ → ℕ → Maybe Gv → Fml
+note_owns table id None = right_owns table (note_key id)
+note_owns table id (Some value) = noted_owns table id value
+
+-- all that was published is noted
+abbrev pub all_noted : ℕ → List IdMove → Fml
+all_noted table [] = ftrue
+all_noted table (Take ∷ moves) = all_noted table moves
+all_noted table (Give id ∷ moves) = all_noted table moves
+all_noted table (Publish id value ∷ moves) = fsep (noted_owns table id value) (all_noted table moves)
+
+-- the note of an id is out exactly where the id is held or its slot was published
+abbrev pub AreNotedOut : List ℕ → List IdMove → Type 0
+AreNotedOut out moves =
+    (id : ℕ) → id < 2 ^ 63 - 1
+    → is_out out (note_key id) ≡ (is_held (held_after moves) id || is_some (published_in moves id))

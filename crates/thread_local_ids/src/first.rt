@@ -7,8 +7,11 @@ ghost use base.Stored.{coded_bool};
 ghost use mathlib.Core.List.{IsPrefix};
 ghost use Rattle.thread_local_base.specs.Bits.{IsLowestUnset};
 ghost use Rattle.thread_local_base.specs.SharedWord.{word_shares, word_owns};
-ghost use Rattle.thread_local_base.specs.IdMoves.{IdMove, Take, Give, moves_coded, held_after, noted};
-ghost use Rattle.thread_local_ids.specs.Rights.{is_out, taken_id};
+ghost use Rattle.thread_local_base.specs.IdMoves.{IdMove, Take, Give, moves_coded, held_after, noted, published_in};
+ghost use Rattle.thread_local_ids.specs.Rights.{is_out, taken_id, AreNotedOut};
+ghost use Rattle.thread_local_base.specs.Buckets.{values};
+ghost use Rattle.thread_local_base.specs.Held.{is_held};
+ghost use Rattle.thread_local_ids.specs.Sharings.{IsFirst, left_of};
 ghost use Rattle.thread_local_ids.specs.Taken.{IsTakenAfter};
 ghost use Rattle.thread_local_ids.specs.FirstIds.{FirstView, first_coded, lies_with, log_owns, tried_owns, log_key};
 ghost use Rattle.thread_local_ids.specs.FirstIds.{IsWordOf, IsSameBeyond, IsGivenBeyond, HasFurther, AreOutOf, IsReturn};
@@ -16,9 +19,11 @@ ghost use Rattle.thread_local_ids.specs.FirstIds.{is_full as is_full_word, word_
 
 use crate::locks::word::exchange;
 use crate::rights::held::{HeldId, Taken};
+use crate::rights::mark::Mark;
 use crate::rights::page::{History, Page, Tenure};
-use crate::rights::right::{Right, Rights};
+use crate::rights::right::{Right, Rights, SlotRights};
 use crate::rights::room::Room;
+use crate::tokens::book::Book;
 use std::marker::{Brand, Model, Move, Owns, PhantomData};
 use std::sync::atomic::Ordering::SeqCst;
 use std::sync::atomic::raw;
@@ -102,21 +107,24 @@ impl Rights {
 impl FirstIds {
     /// The first ids of a new table whose further ids the manager gives out. Beside them are the log,
     /// the table's right, to the number that lies between the ids and their marks, the page from
-    /// before any id is taken, and the room.
-    pub(crate) fn begun(manager: &ThreadIdManager) -> (FirstIds, Log, (Right, Page, Room))
+    /// before any id is taken, the room, and the rights to its slots.
+    pub(crate) fn begun(
+        manager: &ThreadIdManager,
+    ) -> (FirstIds, Log, (Right, Page, Room, SlotRights))
         ensures log { (result.1.table ≡ result.0.table) × (result.1.moves ≡ []) × (result.1.whole ≡ false) }
         ensures right { (result.2.0.table ≡ result.0.table) × (result.2.0.id ≡ 2 ^ 63 - 1) }
         ensures page { (result.2.1.table ≡ result.0.table) × (result.2.1.moves ≡ []) }
         ensures room { (result.2.2.table ≡ result.0.table) × (result.2.2.ids ≡ manager.now.room) }
+        ensures slots { result.2.3.table ≡ result.0.table }
     {
-        let mut rights = Rights::new();
+        let (mut rights, slots) = Rights::new();
         let history = rights.take(HISTORY).into_history();
         let page = history.page();
         let room = rights.note_room(manager);
         let mut log = rights.note_log();
         let right = rights.take(IDS);
         let first = FirstIds::new(rights, history, &mut log);
-        (first, log, (right, page, room))
+        (first, log, (right, page, room, slots))
     }
 
     /// The first ids of a table, none of them held. One half of the log stays with them.
@@ -124,6 +132,7 @@ impl FirstIds {
         requires tables { (history.table ≡ rights.table) × (log.old.table ≡ rights.table) }
         requires begun { (history.moves ≡ []) × (log.old.moves ≡ []) × (log.old.whole ≡ true) }
         requires out { AreOutOf rights.out [] }
+        requires notes { AreNotedOut rights.out [] }
         ensures table { result.table ≡ rights.table }
         ensures log { (log.new.table ≡ log.old.table) × (log.new.moves ≡ []) × (log.new.whole ≡ false) }
     {
@@ -131,6 +140,20 @@ impl FirstIds {
         let History { marker: _ } = history;
         let _ = log;
         FirstIds { word: 0 }
+    }
+
+    /// The book with all that was done with the ids by then. In the table's first sharing it tells of each
+    /// id that isn't held what the history says.
+    pub(crate) fn with_history<T>(self, book: Book<T>) -> Book<T>
+        ensures book { (result.sharing ≡ book.sharing) × (result.contents ≡ book.contents) }
+        ensures history { (result.table ≡ self.table) × (result.whole ≡ true) }
+        ensures left { IsFirst book.sharing self.table
+            → (id : ℕ)
+            → id < 2 ^ 63 - 1
+            → is_held (held_after result.moves) id ≡ false
+            → published_in result.moves id ≡ left_of T.row (values result.contents id) }
+    {
+        book
     }
 
     /// Takes the least id of the table, if it is one of the first, by one compare and exchange. It
@@ -209,16 +232,18 @@ impl FirstIds {
     }
 
     /// Gives one of the first ids back, whose bit is given, by one atomic step.
-    pub(crate) fn give(&self, right: Right, mark: Right, tenure: Tenure, bit: u64) -> Page
+    pub(crate) fn give(&self, right: Right, mark: Mark, tenure: Tenure, bit: u64) -> Page
         requires table { (right.table ≡ self.now.table) × (mark.table ≡ self.now.table) × (tenure.table ≡ self.now.table) }
-        requires id { (right.id ≡ taken_id tenure.before) × (mark.id ≡ right.id + 2 ^ 63) }
+        requires id { (right.id ≡ taken_id tenure.before) × (mark.id ≡ right.id) }
+        requires told { mark.told ≡ true }
         requires first { right.id < 58 }
         requires bit { bit ≡ 64 * 2 ^ right.id % 2 ^ 64 }
         ensures table { result.table ≡ self.now.table }
         ensures moves { IsReturn tenure.before right.id result.moves }
+        ensures left { published_in result.moves right.id ≡ mark.left }
     {
         let Right { marker: _ } = right;
-        let Right { marker: _ } = mark;
+        let Mark { marker: _ } = mark;
         let Tenure { marker: _ } = tenure;
         unsafe { raw::fetch_sub::<Brand>(&raw const self.word, bit, SeqCst) };
         Page {
@@ -231,20 +256,22 @@ impl FirstIds {
         &self,
         log: &mut Log,
         right: Right,
-        mark: Right,
+        mark: Mark,
         tenure: Tenure,
     ) -> Page
         requires table { (right.table ≡ self.now.table) × (mark.table ≡ self.now.table) × (tenure.table ≡ self.now.table) }
         requires log { (log.old.table ≡ self.now.table) × (log.old.whole ≡ false) }
-        requires id { (right.id ≡ taken_id tenure.before) × (mark.id ≡ right.id + 2 ^ 63) }
+        requires id { (right.id ≡ taken_id tenure.before) × (mark.id ≡ right.id) }
+        requires told { mark.told ≡ true }
         requires further { (58 ≤ right.id) × (right.id < 2 ^ 63 - 1) }
         ensures table { result.table ≡ self.now.table }
         ensures moves { IsReturn tenure.before right.id result.moves }
+        ensures left { published_in result.moves right.id ≡ mark.left }
         ensures given { IsGivenBeyond (held_after log.old.moves) (held_after result.moves) right.id }
         ensures log { (log.new.table ≡ log.old.table) × (log.new.whole ≡ false) × (log.new.moves ≡ result.moves) }
     {
         let Right { marker: _ } = right;
-        let Right { marker: _ } = mark;
+        let Mark { marker: _ } = mark;
         let Tenure { marker: _ } = tenure;
         let _ = log;
         unsafe { raw::load::<Brand>(&raw const self.word, SeqCst) };
@@ -269,10 +296,12 @@ impl Trace {
     }
 
     /// Takes out what a step that took an id left.
-    fn into_rights(self) -> ((Right, Right), Tenure)
+    fn into_rights(self) -> ((Right, Mark), Tenure)
         requires { self.took ≡ true }
         ensures tables { (result.0.0.table ≡ self.table) × (result.0.1.table ≡ self.table) × (result.1.table ≡ self.table) }
-        ensures ids { (result.0.0.id ≡ taken_id self.before) × (result.0.1.id ≡ taken_id self.before + 2 ^ 63) }
+        ensures ids { (result.0.0.id ≡ taken_id self.before) × (result.0.1.id ≡ taken_id self.before) }
+        ensures left { result.0.1.left ≡ published_in self.before (taken_id self.before) }
+        ensures told { result.0.1.told ≡ true }
         ensures before { result.1.before ≡ self.before }
     {
         let Self { marker: _ } = self;
@@ -281,7 +310,7 @@ impl Trace {
                 Right {
                     marker: PhantomData,
                 },
-                Right {
+                Mark {
                     marker: PhantomData,
                 },
             ),

@@ -1,7 +1,7 @@
 //! The further ids of a table, from 58 on, which lie under its lock.
 ghost use Rattle.std.specs.Prelude.{◌≡◌, ◌+◌, ◌-◌, ◌^◌, ◌≤◌, IfOk, IfSome, OnErr, None, Ok, Err, Some, alloc_error, length, []};
 ghost use mathlib.Core.List.{IsPrefix};
-ghost use Rattle.thread_local_base.specs.IdMoves.{held_after};
+ghost use Rattle.thread_local_base.specs.IdMoves.{held_after, published_in};
 ghost use Rattle.thread_local_base.specs.Held.{HoldsAllBelow, NeedsMemory, IsExhausted};
 ghost use Rattle.thread_local_ids.specs.Taken.{IsHeldIn, IsTry};
 ghost use Rattle.thread_local_ids.specs.FirstIds.{IsReturn, IsSameBeyond};
@@ -11,7 +11,7 @@ use crate::first::{FIRST_IDS, FirstIds, Log, is_full, peak};
 use crate::locks::lock::Fits;
 use crate::rights::held::{HeldId, Taken};
 use crate::rights::page::{Page, Tenure};
-use crate::rights::right::Right;
+use crate::rights::right::{Right, SlotRights};
 use crate::rights::room::Room;
 use std::marker::Model;
 use thread_local_base::{LocalError, ThreadIdManager};
@@ -98,6 +98,7 @@ impl Further {
         requires further { 58 ≤ held.id }
         ensures table { (self.new.table ≡ self.old.table) × (result.table ≡ self.old.table) }
         ensures moves { IsReturn tenure.before held.id result.moves }
+        ensures left { published_in result.moves held.id ≡ held.mark.left }
     {
         let HeldId { id, mark } = held;
         let page = first.give_further(&mut self.log, right, mark, tenure);
@@ -117,22 +118,24 @@ impl Further {
     }
 
     /// Takes every id back, also the first ones, and counts the peak anew. The room stays. The rights
-    /// and the history are fresh ones, under another table's name, with that table's own right.
-    pub(crate) fn clear(&mut self, first: &mut FirstIds) -> (Right, Page, Room)
+    /// and the history are fresh ones, under another table's name, with that table's own right and
+    /// the rights to its slots.
+    pub(crate) fn clear(&mut self, first: &mut FirstIds) -> (Right, Page, Room, SlotRights)
         ensures table { (self.new.table ≡ result.0.table) × (first.new.table ≡ result.0.table) }
         ensures right { result.0.id ≡ 2 ^ 63 - 1 }
         ensures page { (result.1.table ≡ result.0.table) × (result.1.moves ≡ []) }
         ensures room { result.2.table ≡ result.0.table }
+        ensures slots { result.3.table ≡ result.0.table }
         ensures moves { self.new.moves ≡ [] }
         ensures held { self.new.manager.held ≡ [] }
     {
         self.manager.clear();
-        let (begun, log, (right, page, room)) = FirstIds::begun(&self.manager);
+        let (begun, log, (right, page, room, slots)) = FirstIds::begun(&self.manager);
         *first = begun;
         self.log = log;
         self.room = room.again();
         self.reached = 0;
-        (right, page, room)
+        (right, page, room, slots)
     }
 }
 

@@ -5,6 +5,7 @@
 
 mod first;
 mod further;
+pub mod left;
 pub mod locks;
 pub mod rights;
 pub mod shared_ids;
@@ -12,9 +13,10 @@ pub mod tokens;
 
 pub use locks::lock::{Fits, Lock, LockGuard};
 pub use rights::held::{HeldId, Taken};
+pub use rights::mark::{Mark, Noted};
 pub use rights::page::{History, Page, Tenure};
 pub use rights::reached::Reached;
-pub use rights::right::{Right, Rights};
+pub use rights::right::{Right, Rights, SlotRights};
 pub use rights::room::Room;
 pub use shared_ids::SharedIds;
 pub use tokens::book::Book;

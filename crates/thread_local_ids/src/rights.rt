@@ -2,6 +2,7 @@
 //! there is room for or were held at once. None of it has bytes but a held id.
 
 pub mod held;
+pub mod mark;
 pub mod page;
 pub mod reached;
 pub mod right;

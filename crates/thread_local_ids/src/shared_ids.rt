@@ -1,8 +1,10 @@
 //! The ids of a table while threads share it.
-ghost use Rattle.std.specs.Prelude.{◌≡◌, ◌+◌, ◌-◌, ◌^◌, ◌<◌, ◌≤◌, min, IsOk, IfOk, Err, alloc_error, length, [], false};
+ghost use Rattle.std.specs.Prelude.{◌≡◌, ◌+◌, ◌-◌, ◌^◌, ◌<◌, ◌≤◌, ℕ, min, IsOk, IfOk, Err, alloc_error, length, [], true, false};
 ghost use mathlib.Core.List.{IsPrefix};
-ghost use Rattle.thread_local_base.specs.IdMoves.{held_after};
-ghost use Rattle.thread_local_base.specs.Held.{HoldsAllBelow};
+ghost use Rattle.thread_local_base.specs.IdMoves.{held_after, published_in};
+ghost use Rattle.thread_local_base.specs.Buckets.{values};
+ghost use Rattle.thread_local_base.specs.Held.{is_held, HoldsAllBelow};
+ghost use Rattle.thread_local_ids.specs.Sharings.{IsFirst, left_of};
 ghost use Rattle.thread_local_ids.specs.SharedIds.{AreNew};
 ghost use Rattle.thread_local_ids.specs.Taken.{IsHeldIn, IsTakenAfter, IsTake, IsTry};
 ghost use Rattle.thread_local_ids.specs.FirstIds.{IsReturn};
@@ -13,8 +15,9 @@ use crate::locks::lock::Lock;
 use crate::rights::held::{HeldId, Taken};
 use crate::rights::page::{Page, Tenure};
 use crate::rights::reached::Reached;
-use crate::rights::right::Right;
+use crate::rights::right::{Right, SlotRights};
 use crate::rights::room::Room;
+use crate::tokens::book::Book;
 use std::alloc::{AllocError, Global};
 use std::marker::Model;
 use std::sync::Wait;
@@ -43,9 +46,10 @@ impl Model for SharedIds {
 
 impl SharedIds {
     /// The ids of a new table, none of them held. For contracts there are beside them the table's own
-    /// right, the page from before any id is taken, and the room. Whoever has the right can show that
-    /// another table has another name. The first 64 ids need no memory.
-    pub fn new(alloc: Global) -> (SharedIds, Right, Page, Room)
+    /// right, the page from before any id is taken, the room, and the rights to its slots. Whoever has
+    /// the table's own right can show that another table has another name. The first 64 ids need no
+    /// memory.
+    pub fn new(alloc: Global) -> (SharedIds, Right, Page, Room, SlotRights)
         ensures new { AreNew result }
         ensures room { result.3.ids ≡ 0 }
     {
@@ -58,7 +62,7 @@ impl SharedIds {
     pub fn with_room(
         alloc: Global,
         ids: usize,
-    ) -> Result<(SharedIds, Right, Page, Room), AllocError>
+    ) -> Result<(SharedIds, Right, Page, Room, SlotRights), AllocError>
         ensures new { IfOk result AreNew }
         ensures room { IfOk result (λ made. min ids (2 ^ 63 - 1) ≤ made.3.ids) }
         ensures few { IfOk result (λ made. made.3.ids < min ids (2 ^ 63 - 1) + 64) }
@@ -69,12 +73,12 @@ impl SharedIds {
     }
 
     /// The ids of a new table, which the manager gives out from 58 on.
-    fn of(manager: ThreadIdManager) -> (SharedIds, Right, Page, Room)
+    fn of(manager: ThreadIdManager) -> (SharedIds, Right, Page, Room, SlotRights)
         requires { manager.held ≡ [] }
         ensures new { AreNew result }
         ensures room { result.3.ids ≡ manager.room }
     {
-        let (first, log, (right, page, room)) = FirstIds::begun(&manager);
+        let (first, log, (right, page, room, slots)) = FirstIds::begun(&manager);
         let further = Further {
             manager,
             log,
@@ -85,7 +89,7 @@ impl SharedIds {
             first,
             further: Lock::new(further),
         };
-        (ids, right, page, room)
+        (ids, right, page, room, slots)
     }
 
     /// Takes the least id that isn't held, with its right, and leaves the page of all that was done
@@ -144,6 +148,7 @@ impl SharedIds {
         requires held { IsHeldIn self.now.table (held, right, tenure) }
         ensures table { result.table ≡ self.now.table }
         ensures moves { IsReturn tenure.before held.id result.moves }
+        ensures left { published_in result.moves held.id ≡ held.mark.left }
     {
         if held.id >= FIRST_IDS {
             return self.give_further(rt, held, right, tenure);
@@ -160,6 +165,7 @@ impl SharedIds {
         requires further { 58 ≤ held.id }
         ensures table { result.table ≡ self.now.table }
         ensures moves { IsReturn tenure.before held.id result.moves }
+        ensures left { published_in result.moves held.id ≡ held.mark.left }
     {
         self.further.lock(rt).give(&self.first, held, right, tenure)
     }
@@ -180,14 +186,37 @@ impl SharedIds {
         peak
     }
 
+    /// The book with all that was done with the ids by then. In the table's first sharing it tells of each
+    /// id that isn't held what the history says. The ids are dropped.
+    pub fn with_history<T>(self, book: Book<T>) -> Book<T>
+        ensures book { (result.sharing ≡ book.sharing) × (result.contents ≡ book.contents) }
+        ensures history { (result.table ≡ self.table) × (result.whole ≡ true) }
+        ensures left { IsFirst book.sharing self.table
+            → (id : ℕ)
+            → id < 2 ^ 63 - 1
+            → is_held (held_after result.moves) id ≡ false
+            → published_in result.moves id ≡ left_of T.row (values result.contents id) }
+    {
+        let Self { first, further } = self;
+        let Further {
+            manager,
+            log: _,
+            room: _,
+            reached: _,
+        } = further.into_inner();
+        drop(manager);
+        first.with_history(book)
+    }
+
     /// Takes every id back, those of forgotten holders too, and counts the peak anew. The room stays.
     /// For contracts the ids are those of another table from then on: it answers that table's right,
-    /// its page from before any id is taken, and its room. Whoever has the right of the table before
-    /// shows that the two have two names.
-    pub fn clear(&mut self) -> (Right, Page, Room)
+    /// its page from before any id is taken, its room, and the rights to its slots. Whoever has the
+    /// right of the table before shows that the two have two names.
+    pub fn clear(&mut self) -> (Right, Page, Room, SlotRights)
         ensures right { (self.new.table ≡ result.0.table) × (result.0.id ≡ 2 ^ 63 - 1) }
         ensures page { (result.1.table ≡ self.new.table) × (result.1.moves ≡ []) }
         ensures room { result.2.table ≡ self.new.table }
+        ensures slots { result.3.table ≡ self.new.table }
     {
         self.further.get_mut().clear(&mut self.first)
     }

@@ -4,7 +4,7 @@ ghost use Rattle.thread_local_ids.specs.Rights.{is_out};
 
 use crate::same::assert_same;
 use std::mem;
-use thread_local_ids::{Right, Rights};
+use thread_local_ids::{Mark, Noted, Right, Rights, SlotRights};
 
 /// Where a right may stand: in a struct and in an enum.
 #[derive(Drop)]
@@ -30,7 +30,7 @@ fn hold(rights: &mut Rights, id: usize) -> Held
 
 #[test]
 fn two_rights_are_apart(rt: HostRuntime) {
-    let mut rights = Rights::new();
+    let (mut rights, _) = Rights::new();
     let mut five = rights.take(5);
     let mut seven = rights.take(7);
     five.apart(&mut seven);
@@ -40,16 +40,19 @@ fn two_rights_are_apart(rt: HostRuntime) {
 
 #[test]
 fn a_right_takes_no_bytes(rt: HostRuntime) {
-    assert_same(
-        &rt,
-        (mem::size_of::<Right>(), mem::size_of::<Rights>()),
-        (0, 0),
-    );
+    let sizes = [
+        mem::size_of::<Right>(),
+        mem::size_of::<Rights>(),
+        mem::size_of::<SlotRights>(),
+        mem::size_of::<Mark>(),
+        mem::size_of::<Noted>(),
+    ];
+    assert_same(&rt, sizes, [0; 5]);
 }
 
 #[test]
 fn a_right_stands_in_a_struct_and_in_an_enum(rt: HostRuntime) {
-    let mut rights = Rights::new();
+    let (mut rights, _) = Rights::new();
     let mut slot = Slot::Taken(hold(&mut rights, 3));
     let before = mem::replace(&mut slot, Slot::Vacant);
     if let Slot::Taken(held) = before {

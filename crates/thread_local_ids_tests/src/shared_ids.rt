@@ -1,5 +1,7 @@
 //! Ids that threads share, also past the 58th, from which on they lie under a lock.
 ghost use Rattle.std.specs.Prelude.{◌≡◌, IfOk, []};
+ghost use Rattle.std.specs.Coded.{Coded-set};
+ghost use Rattle.thread_local_base.specs.IdMoves.{moves_coded};
 ghost use Rattle.thread_local_ids.specs.SharedIds.{AreNew};
 ghost use Rattle.thread_local_ids.specs.Taken.{IsHeldIn};
 
@@ -11,7 +13,7 @@ use std::test::Fail;
 use std::thread;
 use std::thread::Threads;
 use thread_local_base::LocalError;
-use thread_local_ids::{Page, Right, Room, SharedIds, Taken};
+use thread_local_ids::{Page, Right, Room, SharedIds, SlotRights, Taken};
 
 /// The ids of a table, with its first page and its room.
 #[derive(Drop)]
@@ -19,7 +21,8 @@ pub struct Table {
     pub ids: SharedIds,
     pub start: Page,
     pub room: Room,
-    ghost of_one: { (start.table ≡ ids.table) × (start.moves ≡ []) × (room.table ≡ ids.table) },
+    ghost of_one: { (start.table ≡ ids.table) × (room.table ≡ ids.table) },
+    ghost at_first: { start.moves ≡ [] } by { Coded-set moves_coded start.moves [] },
 }
 
 impl Table {
@@ -34,10 +37,10 @@ impl Table {
     }
 
     /// The table of new ids.
-    fn of(made: (SharedIds, Right, Page, Room)) -> Table
+    fn of(made: (SharedIds, Right, Page, Room, SlotRights)) -> Table
         requires { AreNew made }
     {
-        let (ids, _, start, room) = made;
+        let (ids, _, start, room, _) = made;
         Table { ids, start, room }
     }
 
@@ -68,7 +71,7 @@ impl Table {
             start: _,
             room: _,
         } = self;
-        let (_, start, room) = ids.clear();
+        let (_, start, room, _) = ids.clear();
         Table { ids, start, room }
     }
 

@@ -8,7 +8,8 @@ use Rattle.thread_local_base.specs.Held.{is_held}
 use Rattle.thread_local_base.specs.Capacity.{is_reserved}
 use Rattle.thread_local_base.specs.Walk.{walk, walk_below}
 use Rattle.thread_local_base.specs.Buckets.{slots}
-use Rattle.thread_local_base.specs.Sheet.{Sheet, Publish}
+use Rattle.thread_local_base.specs.IdMoves.{Publish}
+use Rattle.thread_local_base.specs.Sheet.{Sheet, OfHistory}
 use Rattle.thread_local_schedule.specs.TableMoves.{OfSheet, moved_by_if, IsMoveAllowed}
 use Rattle.thread_local_base.proofs.SlotsLaws.{slots_bounded}
 use Rattle.thread_local_base.proofs.WalkLaws.{walk_below-add, walk_below-none, length-walk_below}
@@ -113,7 +114,7 @@ all_loaded core n walk h at done = complete_loads core.table walk (h.walks.each 
 -- the published values change as a step says
 pub published_moves : {V E : Type 0} (core : Core V E) (table : Table V) (id : ℕ) (set : Option V)
     → ((j : ℕ) → published table j ≡ with_value_if (published core.table) id set j)
-    → record (shadow core) { values = published table } ≡ moved_by_if (shadow core) (option_map (λ v. OfSheet (Publish id v)) set)
+    → record (shadow core) { values = published table } ≡ moved_by_if (shadow core) (option_map (λ v. OfSheet (OfHistory (Publish id v))) set)
 published_moves core table id None shown =
     ap (λ values. record (shadow core) { values = values })
     (same_function (published table) (published core.table) shown)
@@ -123,7 +124,7 @@ published_moves core table id (Some v) shown =
 
 pub publishing_allowed : {V : Type 0} (sheet : Sheet V) (id : ℕ) (set : Option V)
     → IsTrue (is_held sheet.held id) → IfSome set (λ _. sheet.values id ≡ None)
-    → IfSome (option_map (λ v. OfSheet (Publish id v)) set) (IsMoveAllowed sheet)
+    → IfSome (option_map (λ v. OfSheet (OfHistory (Publish id v))) set) (IsMoveAllowed sheet)
 publishing_allowed sheet id None t empty = tt
 publishing_allowed sheet id (Some v) t empty = (empty, t)
 

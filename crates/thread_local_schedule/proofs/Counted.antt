@@ -4,7 +4,8 @@ use Rattle.std.proofs.Common.{◌≡◌, ℕ, suc, max, true, false, ◌&&◌, L
 use Rattle.std.proofs.Common.{IsTrue, refl, ap, ◌∙◌, ⊎_elim}
 use Rattle.std.proofs.lemmas.Bool.{cases_Bool, and_right}
 use Rattle.thread_local_base.specs.Held.{held_count}
-use Rattle.thread_local_base.specs.Sheet.{Publish, Clear}
+use Rattle.thread_local_base.specs.IdMoves.{Publish}
+use Rattle.thread_local_base.specs.Sheet.{OfHistory, Clear}
 use Rattle.thread_local_schedule.specs.TableMoves.{TableMove, OfSheet, Drain}
 use Rattle.thread_local_schedule.specs.Core.{Core}
 use Rattle.thread_local_schedule.specs.Events.{Event}
@@ -50,7 +51,7 @@ published_one n core (first ∷ events) event =
     published_one (publishings_with n (move core first)) (happens core first) events event
 
 pub one_published : {V E : Type 0} (core : Core V E) (events : List (Event V E)) (event : Event V E) (id : ℕ) (v : V)
-    → move (run core events) event ≡ Some (OfSheet (Publish id v))
+    → move (run core events) event ≡ Some (OfSheet (OfHistory (Publish id v)))
     → publishings core (events ++ event ∷ []) ≡ suc (publishings core events)
 one_published core events event id v e = published_one 0 core events event ∙ ap (publishings_with (publishings core events)) e
 
@@ -65,16 +66,16 @@ pub drained_anew : {V E : Type 0} (core : Core V E) (events : List (Event V E)) 
 drained_anew core events event e = published_one 0 core events event ∙ ap (publishings_with (publishings core events)) e
 
 -- a move that neither publishes, clears nor drains counts nothing
-uncounted : {V : Type 0} (n : ℕ) (moved : Option (TableMove V)) → ((id : ℕ) (v : V) → moved ≢ Some (OfSheet (Publish id v)))
+uncounted : {V : Type 0} (n : ℕ) (moved : Option (TableMove V)) → ((id : ℕ) (v : V) → moved ≢ Some (OfSheet (OfHistory (Publish id v))))
     → moved ≢ Some (OfSheet Clear) → moved ≢ Some Drain
     → publishings_with n moved ≡ n
-uncounted n (Some (OfSheet (Publish id v))) unpublished uncleared undrained = absurd (unpublished id v refl)
+uncounted n (Some (OfSheet (OfHistory (Publish id v)))) unpublished uncleared undrained = absurd (unpublished id v refl)
 uncounted n (Some (OfSheet Clear)) unpublished uncleared undrained = absurd (uncleared refl)
 uncounted n (Some Drain) unpublished uncleared undrained = absurd (undrained refl)
 uncounted n moved unpublished uncleared undrained = refl
 
 pub as_many_published : {V E : Type 0} (core : Core V E) (events : List (Event V E)) (event : Event V E)
-    → ((id : ℕ) (v : V) → move (run core events) event ≢ Some (OfSheet (Publish id v)))
+    → ((id : ℕ) (v : V) → move (run core events) event ≢ Some (OfSheet (OfHistory (Publish id v))))
     → move (run core events) event ≢ Some (OfSheet Clear)
     → move (run core events) event ≢ Some Drain
     → publishings core (events ++ event ∷ []) ≡ publishings core events

@@ -19,6 +19,7 @@ pub mod Counted
 pub mod MainTheorem
 pub mod MoveLaws
 pub mod History
+pub mod AsPublished
 pub mod EffectLaws
 pub mod FirstCalls
 pub mod TableLaws

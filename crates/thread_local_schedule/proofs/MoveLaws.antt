@@ -3,7 +3,8 @@ use Rattle.std.proofs.Common.{◌≡◌, ℕ, Bool, true, false, ◌&&◌, not, 
 use Rattle.std.specs.Prelude.{◌≢◌, option_map}
 use Rattle.std.proofs.lemmas.Bool.{false≢true, cond_both}
 use Rattle.thread_local_base.specs.Held.{is_granted}
-use Rattle.thread_local_base.specs.Sheet.{Take, Give, Publish, Rewrite, Clear}
+use Rattle.thread_local_base.specs.IdMoves.{Take, Give, Publish}
+use Rattle.thread_local_base.specs.Sheet.{OfHistory, Rewrite, Clear}
 use Rattle.thread_local_schedule.specs.TableMoves.{TableMove, OfSheet, Drain}
 use Rattle.thread_local_base.specs.Place.{bucket_of}
 use Rattle.thread_local_schedule.specs.Table.{Table, bucket_stands}
@@ -14,31 +15,31 @@ use Rattle.thread_local_schedule.specs.Events.{is_enabled}
 use Rattle.thread_local_schedule.specs.Schedule.{publishing, move, move_of, is_granted_take}
 
 granted_moves : (enabled granted : Bool) → IsTrue (enabled && not (not granted)) → (T : Type 0)
-    → let moves : Option (TableMove T) = cond enabled (cond granted (Some (OfSheet Take)) None) None in
-    moves ≡ Some (OfSheet Take)
+    → let moves : Option (TableMove T) = cond enabled (cond granted (Some (OfSheet (OfHistory Take))) None) None in
+    moves ≡ Some (OfSheet (OfHistory Take))
 granted_moves true true t T = refl
 granted_moves true false t T = absurd (false≢true t)
 granted_moves false granted t T = absurd (false≢true t)
 
 pub take_moves : {V E : Type 0} (core : Core V E) (event : Event V E) → IsTrue (is_granted_take core event)
-    → move core event ≡ Some (OfSheet Take)
+    → move core event ≡ Some (OfSheet (OfHistory Take))
 take_moves {V} core (TakeId refused growth) t = granted_moves (is_enabled core (TakeId refused growth)) (is_granted core.manager refused) t V
 take_moves core _ t = absurd (false≢true t)
 
 pub give_moves : {V E : Type 0} (core : Core V E) (n : ℕ) (local : Local V E)
     → IsTrue (is_enabled core (GiveBack n)) → core.locals n ≡ Some local
-    → move core (GiveBack n) ≡ Some (OfSheet (Give local.id))
+    → move core (GiveBack n) ≡ Some (OfSheet (OfHistory (Give local.id)))
 give_moves core n local t at = rw (t, at) refl
 
 pub publish_moves : {V E : Type 0} (core : Core V E) (n : ℕ) (local : Local V E) (v : V)
     → IsTrue (is_enabled core (OfLocal n SetFlag)) → core.locals n ≡ Some local → local.doing ≡ Written v
-    → move core (OfLocal n SetFlag) ≡ Some (OfSheet (Publish local.id v))
+    → move core (OfLocal n SetFlag) ≡ Some (OfSheet (OfHistory (Publish local.id v)))
 publish_moves core n local v t at written = rw (t, at, written) refl
 
 pub install_moves : {V E : Type 0} (core : Core V E) (n : ℕ) (local : Local V E) (v : V) (number : ℕ)
     → IsTrue (is_enabled core (OfLocal n InstallBucket)) → core.locals n ≡ Some local → local.doing ≡ Filled (Ok v) number true
     → bucket_stands core.table (bucket_of local.id) ≡ false
-    → move core (OfLocal n InstallBucket) ≡ Some (OfSheet (Publish local.id v))
+    → move core (OfLocal n InstallBucket) ≡ Some (OfSheet (OfHistory (Publish local.id v)))
 install_moves core n local v number t at filled none = rw (t, at, none, filled) refl
 
 pub empty_moves : {V E : Type 0} (core : Core V E) (n : ℕ) (local : Local V E) (e : E) (number : ℕ)
@@ -47,7 +48,7 @@ pub empty_moves : {V E : Type 0} (core : Core V E) (n : ℕ) (local : Local V E)
 empty_moves {V} core n local e number t at filled =
     rw (t, at, filled)
     (cond_both {A = Option V} (bucket_stands core.table (bucket_of local.id)) None None
-    (λ o. option_map (λ (value : V). OfSheet (Publish local.id value)) o ≡ None) (λ _. refl) (λ _. refl))
+    (λ o. option_map (λ (value : V). OfSheet (OfHistory (Publish local.id value))) o ≡ None) (λ _. refl) (λ _. refl))
 
 pub beside_moves : {V E : Type 0} (core : Core V E) (n : ℕ) (local : Local V E)
     → IsTrue (is_enabled core (OfLocal n InstallBucket)) → core.locals n ≡ Some local
@@ -80,7 +81,7 @@ pub record IsNoMove {V E : Type 0} (core : Core V E) (event : Event V E) : Type 
 
 refused_moves : (T : Type 0) (enabled granted : Bool) → IsTrue enabled
     → (enabled && not (not granted)) ≡ false
-    → let moves : Option (TableMove T) = cond granted (Some (OfSheet Take)) None in
+    → let moves : Option (TableMove T) = cond granted (Some (OfSheet (OfHistory Take))) None in
     moves ≡ None
 refused_moves T true true t f = absurd (false≢true (sym f))
 refused_moves T true false t f = refl

@@ -5,7 +5,8 @@ use Rattle.std.specs.Prelude.{option_to_list, option_map}
 use Rattle.std.proofs.lemmas.Bool.{cases_order, ne_eqb, eq-eqb}
 use Rattle.thread_local_base.specs.Walk.{walk_below, walk, with_value}
 use Rattle.thread_local_base.proofs.WalkLaws.{walk_below-same, walk_below-none}
-use Rattle.thread_local_base.specs.Sheet.{Sheet, Take, Give, Publish, Keep, Rewrite, Clear}
+use Rattle.thread_local_base.specs.IdMoves.{Take, Give, Publish}
+use Rattle.thread_local_base.specs.Sheet.{Sheet, OfHistory, Keep, Rewrite, Clear}
 use Rattle.thread_local_schedule.specs.TableMoves.{TableMove, OfSheet, Drain, moved_by_if, IsMoveAllowed}
 use Rattle.thread_local_schedule.specs.Core.{Core, made_core, shadow, peak}
 use Rattle.thread_local_schedule.specs.CoreFits.{CoreFits}
@@ -62,13 +63,13 @@ as_many values others (suc n) =
 
 -- a move changes the number of values as it changes the number of publishings
 counted : {V : Type 0} (sheet : Sheet V) (o : Option (TableMove V))
-    → ((id : ℕ) (v : V) → o ≡ Some (OfSheet (Publish id v)) → id < 2 ^ 63 - 1) → IfSome o (IsMoveAllowed sheet)
+    → ((id : ℕ) (v : V) → o ≡ Some (OfSheet (OfHistory (Publish id v))) → id < 2 ^ 63 - 1) → IfSome o (IsMoveAllowed sheet)
     → length (walk (moved_by_if sheet o).values) ≡ publishings_with (length (walk sheet.values)) o
 unfolding walk
 counted sheet None low allowed = refl
-counted sheet (Some (OfSheet Take)) low allowed = refl
-counted sheet (Some (OfSheet (Give id))) low allowed = refl
-counted sheet (Some (OfSheet (Publish id v))) low allowed = one_more sheet.values id v (2 ^ 63 - 1) allowed.0 (low id v refl)
+counted sheet (Some (OfSheet (OfHistory Take))) low allowed = refl
+counted sheet (Some (OfSheet (OfHistory (Give id)))) low allowed = refl
+counted sheet (Some (OfSheet (OfHistory (Publish id v)))) low allowed = one_more sheet.values id v (2 ^ 63 - 1) allowed.0 (low id v refl)
 counted sheet (Some (OfSheet (Keep id v))) low allowed = refl
 counted sheet (Some (OfSheet (Rewrite others))) low allowed = as_many sheet.values others (2 ^ 63 - 1)
 counted sheet (Some (OfSheet Clear)) low allowed = ap length (walk_below-none (λ _. None) (2 ^ 63 - 1) (λ id l. refl))
@@ -76,7 +77,7 @@ counted sheet (Some Drain) low allowed = ap length (walk_below-none (λ _. None)
 
 -- a value is published at a held id, so below 2^63 - 1
 low_id : {V E : Type 0} (core : Core V E) (o : Option (TableMove V)) → CoreFits core
-    → IfSome o (IsMoveAllowed (shadow core)) → (id : ℕ) (v : V) → o ≡ Some (OfSheet (Publish id v))
+    → IfSome o (IsMoveAllowed (shadow core)) → (id : ℕ) (v : V) → o ≡ Some (OfSheet (OfHistory (Publish id v)))
     → id < 2 ^ 63 - 1
 low_id core o h allowed id v e =
     let may = subst (λ m. IfSome m (IsMoveAllowed (shadow core))) e allowed in

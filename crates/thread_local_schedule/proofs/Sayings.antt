@@ -8,9 +8,9 @@ use Rattle.thread_local_schedule.specs.Numbers.{own_number}
 use Rattle.thread_local_schedule.specs.Core.{Core, private_slots}
 use Rattle.thread_local_schedule.specs.Events.{Event, happens, run, TakeId, OfLocal, GiveBack, Forget, BeginWalk}
 use Rattle.thread_local_schedule.specs.Events.{OfWalk, EndWalk, Owner, OwnerCall, IntoIter}
-use Rattle.thread_local_schedule.specs.Events.{DropTable, is_enabled}
+use Rattle.thread_local_schedule.specs.Events.{DropTable, RewriteTable, DrainTable, ClearTable, is_enabled}
 use Rattle.thread_local_schedule.specs.Schedule.{is_take, is_refused, is_exclusive, is_of, is_of_walk, begins_walk}
-use Rattle.thread_local_schedule.specs.Schedule.{ends_table, is_granted_take, newcomer, NoneTaken}
+use Rattle.thread_local_schedule.specs.Schedule.{changes_values, ends_table, is_granted_take, newcomer, NoneTaken}
 use Rattle.thread_local_schedule.specs.Bounds.{TakesBelow, NothingRefused}
 use mathlib.Core.Logic.{inl, inr}
 use Rattle.std.proofs.Common.{suc, ◌+◌, cond, ⊎_elim}
@@ -74,6 +74,14 @@ walk n _ t = absurd (false≢true t)
 pub begins : {V E : Type 0} (event : Event V E) → IsTrue (begins_walk event) → event ≡ BeginWalk
 begins BeginWalk t = refl
 begins _ t = absurd (false≢true t)
+
+pub changes : {V E : Type 0} (event : Event V E) → IsTrue (changes_values event)
+    → ((others : ℕ → V → V) × (event ≡ Owner (RewriteTable others)))
+    ⊎ ((event ≡ Owner DrainTable) ⊎ (event ≡ Owner ClearTable))
+changes (Owner (RewriteTable others)) t = inl (others, refl)
+changes (Owner DrainTable) t = inr (inl refl)
+changes (Owner ClearTable) t = inr (inr refl)
+changes _ t = absurd (false≢true t)
 
 pub ends : {V E : Type 0} (event : Event V E) → IsTrue (ends_table event)
     → (event ≡ Owner IntoIter) ⊎ (event ≡ Owner DropTable)

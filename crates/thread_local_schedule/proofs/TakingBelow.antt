@@ -4,7 +4,8 @@ use Rattle.std.proofs.Common.{◌≡◌, ℕ, ◌-◌, ◌*◌, ◌^◌, ◌<◌
 use Rattle.std.proofs.Common.{IsTrue, refl, ap, ◌∙◌, arith, ⊎_elim}
 use Rattle.std.proofs.lemmas.Bool.{cases_Bool, lt-ltb, and_left, and_right}
 use Rattle.thread_local_base.specs.Held.{held_count}
-use Rattle.thread_local_base.specs.Sheet.{Take, Give, Publish}
+use Rattle.thread_local_base.specs.IdMoves.{Take, Give, Publish}
+use Rattle.thread_local_base.specs.Sheet.{OfHistory}
 use Rattle.thread_local_schedule.specs.TableMoves.{TableMove, OfSheet}
 use Rattle.thread_local_base.specs.Capacity.{reserved_slots}
 use Rattle.thread_local_schedule.specs.Local.{Local, LocalStep, MakeBucket}
@@ -28,16 +29,16 @@ use Rattle.thread_local_base.proofs.CapacityLaws as reserve
 
 -- the only move of a Local's step is a publishing
 not_published : {V E : Type 0} (table : Table V) (o : Option (Local V E)) (step : LocalStep V E) (m : TableMove V)
-    → ((id : ℕ) (v : V) → OfSheet (Publish id v) ≡ m → ⊥) → publishing table o step ≡ Some m
+    → ((id : ℕ) (v : V) → OfSheet (OfHistory (Publish id v)) ≡ m → ⊥) → publishing table o step ≡ Some m
     → ⊥
 not_published table None step m other e = cc
-not_published table (Some local) step m other e = not_mapped (value_set table local step) (λ v. OfSheet (Publish local.id v)) m (λ v. other local.id v) e
+not_published table (Some local) step m other e = not_mapped (value_set table local step) (λ v. OfSheet (OfHistory (Publish local.id v))) m (λ v. other local.id v) e
 
 -- an event that is no take makes no move of a take
-no_take : {V E : Type 0} (core : Core V E) (event : Event V E) → is_take event ≡ false → move_of core event ≡ Some (OfSheet Take) → ⊥
+no_take : {V E : Type 0} (core : Core V E) (event : Event V E) → is_take event ≡ false → move_of core event ≡ Some (OfSheet (OfHistory Take)) → ⊥
 no_take core (TakeId refused growth) f e = cc
-no_take core (OfLocal number step) f e = not_published core.table (core.locals number) step (OfSheet Take) (λ id v same. cc) e
-no_take core (GiveBack number) f e = not_mapped (core.locals number) (λ local. OfSheet (Give local.id)) (OfSheet Take) (λ local same. cc) e
+no_take core (OfLocal number step) f e = not_published core.table (core.locals number) step (OfSheet (OfHistory Take)) (λ id v same. cc) e
+no_take core (GiveBack number) f e = not_mapped (core.locals number) (λ local. OfSheet (OfHistory (Give local.id))) (OfSheet (OfHistory Take)) (λ local same. cc) e
 no_take core (Owner (RewriteTable others)) f e = cc
 no_take core (Owner DrainTable) f e = cc
 no_take core (Owner ClearTable) f e = cc
@@ -55,7 +56,7 @@ event_peak p core event h few l =
     omega (
       arith,
       same_peak (shadow core) (move core event)
-          (not_if (is_enabled core event) (move_of core event) (OfSheet Take) (no_take core event f)),
+          (not_if (is_enabled core event) (move_of core event) (OfSheet (OfHistory Take)) (no_take core event f)),
     ))
     (cases_Bool (is_take event))
 

@@ -2,7 +2,8 @@
 -- publishings since a clear or a drain.
 use Rattle.std.specs.Prelude.{◌≡◌, ℕ, suc, ◌<◌, max, false, ◌&&◌, List, [], ◌∷◌, Option, Some, IsTrue, ⊤, if◌then◌else◌}
 use Rattle.thread_local_base.specs.Held.{held_count}
-use Rattle.thread_local_base.specs.Sheet.{Publish, Clear}
+use Rattle.thread_local_base.specs.IdMoves.{Publish}
+use Rattle.thread_local_base.specs.Sheet.{OfHistory, Clear}
 use Rattle.thread_local_schedule.specs.TableMoves.{TableMove, OfSheet, Drain}
 use Rattle.thread_local_schedule.specs.Core.{Core}
 use Rattle.thread_local_schedule.specs.Events.{Event, is_enabled, happens}
@@ -25,7 +26,7 @@ most_held core events = most_after_all 0 core events
 -- the number of publishings after a move, given the number before it: a clear and a drain start
 -- anew
 abbrev pub publishings_with : {V : Type 0} → ℕ → Option (TableMove V) → ℕ
-publishings_with n (Some (OfSheet (Publish id value))) = suc n
+publishings_with n (Some (OfSheet (OfHistory (Publish id value)))) = suc n
 publishings_with n (Some (OfSheet Clear)) = 0
 publishings_with n (Some Drain) = 0
 publishings_with n move = n

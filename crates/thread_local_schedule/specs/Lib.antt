@@ -7,7 +7,7 @@ pub use Rattle.thread_local_base.specs.Answers
 pub mod Events
 pub mod TableMoves
 pub mod Schedule
-pub mod IdHistory
+pub mod History
 pub mod Bounds
 pub mod Story
 pub mod Table

@@ -3,7 +3,8 @@
 use Rattle.std.specs.Prelude.{◌≡◌, ℕ, ◌^◌, ◌<◌, Bool, true, false, not, ◌&&◌, List, [], ◌∷◌, Option, Some, None}
 use Rattle.std.specs.Prelude.{option_map, ⊤, ◌==◌, if◌then◌else◌}
 use Rattle.thread_local_base.specs.Held.{is_granted}
-use Rattle.thread_local_base.specs.Sheet.{Take, Give, Publish, Rewrite, Clear}
+use Rattle.thread_local_base.specs.IdMoves.{Take, Give, Publish}
+use Rattle.thread_local_base.specs.Sheet.{OfHistory, Rewrite, Clear}
 use Rattle.thread_local_schedule.specs.TableMoves.{TableMove, OfSheet, Drain}
 use Rattle.thread_local_schedule.specs.Table.{Table}
 use Rattle.thread_local_schedule.specs.Local.{Local, LocalStep, MakeBucket}
@@ -16,14 +17,14 @@ use Rattle.thread_local_schedule.specs.Events.{run}
 -- the move of a Local's step: the value that it publishes, if any
 abbrev pub publishing : {V E : Type 0} → Table V → Option (Local V E) → LocalStep V E → Option (TableMove V)
 publishing table None step = None
-publishing table (Some local) step = option_map (λ value. OfSheet (Publish local.id value)) (value_set table local step)
+publishing table (Some local) step = option_map (λ value. OfSheet (OfHistory (Publish local.id value))) (value_set table local step)
 
 -- the move of an enabled event, if any: a granted take, the step that sets a flag, an id given
 -- back, an owner's rewrite, drain and clear
 abbrev pub move_of : {V E : Type 0} → Core V E → Event V E → Option (TableMove V)
-move_of core (TakeId refused growth) = if is_granted core.manager refused then Some (OfSheet Take) else None
+move_of core (TakeId refused growth) = if is_granted core.manager refused then Some (OfSheet (OfHistory Take)) else None
 move_of core (OfLocal number step) = publishing core.table (core.locals number) step
-move_of core (GiveBack number) = option_map (λ local. OfSheet (Give local.id)) (core.locals number)
+move_of core (GiveBack number) = option_map (λ local. OfSheet (OfHistory (Give local.id))) (core.locals number)
 move_of core (Owner (RewriteTable others)) = Some (OfSheet (Rewrite others))
 move_of core (Owner DrainTable) = Some Drain
 move_of core (Owner ClearTable) = Some (OfSheet Clear)
@@ -52,6 +53,13 @@ is_exclusive event = false
 abbrev pub is_clear : {V E : Type 0} → Event V E → Bool
 is_clear (Owner ClearTable) = true
 is_clear event = false
+
+-- whether an event is an owner's rewrite, drain or clear
+abbrev pub changes_values : {V E : Type 0} → Event V E → Bool
+changes_values (Owner (RewriteTable others)) = true
+changes_values (Owner DrainTable) = true
+changes_values (Owner ClearTable) = true
+changes_values event = false
 
 -- whether an event ends the table: `into_iter`, and the drop
 abbrev pub ends_table : {V E : Type 0} → Event V E → Bool

@@ -1,15 +1,15 @@
 //! The main theorem: what a table is for, in one contract.
-ghost use Rattle.std.specs.Prelude.{◌≡◌, ℕ, ◌-◌, ◌*◌, ◌^◌, ◌<◌, ◌≤◌, ◌↔◌, false, List, map, Contains, Some, IsTrue, IsSomeAnd};
+ghost use Rattle.std.specs.Prelude.{◌≡◌, ℕ, ◌-◌, ◌*◌, ◌^◌, ◌<◌, ◌≤◌, ◌↔◌, false, List, [], map, Contains, Some, IsTrue, IsSomeAnd};
 ghost use Rattle.std.specs.List.{AllByRecursion};
 ghost use Rattle.std.specs.List.Sorted.{IsStrictlyIncreasing};
 ghost use Rattle.thread_local_base.specs.Held.{least};
-ghost use Rattle.thread_local_base.specs.IdMoves.{held_after};
+ghost use Rattle.thread_local_base.specs.IdMoves.{held_from};
 ghost use Rattle.thread_local_base.specs.Walk.{walk, paired};
 ghost use Rattle.thread_local_schedule.specs.OwnerWalk.{owner_walk};
 ghost use Rattle.thread_local_schedule.specs.Core.{made_core, new_core, shadow, installed_slots};
 ghost use Rattle.thread_local_schedule.specs.Events.{Event, OwnerCall, Owner, is_enabled, run};
 ghost use Rattle.thread_local_schedule.specs.Schedule.{is_exclusive, is_granted_take, newcomer, IsAlone};
-ghost use Rattle.thread_local_schedule.specs.IdHistory.{id_moves};
+ghost use Rattle.thread_local_schedule.specs.History.{history};
 ghost use Rattle.thread_local_schedule.specs.Bounds.{TakesBelow, NothingRefused};
 
 /// What a table is for, over every schedule of atomic steps from a table of any capacity below
@@ -28,17 +28,17 @@ pub fn headline<V, E>()
         IsTrue (is_granted_take core event)
         → IsSomeAnd (newcomer core event) (λ local. local.id ≡ least (shadow core).held) }
 
-    // That is the least id that the takes and gives since the table was made or cleared leave free.
+    // That is the least id that the history since the table was made or cleared leaves free.
     ensures history { (capacity extra : ℕ) (events : List (Event V E))
         → capacity < 2 ^ 63
         → (shadow (run (made_core capacity extra) events)).held
-        ≡ held_after (id_moves (made_core capacity extra) events) }
+        ≡ held_from [] (history (made_core capacity extra) events) }
     ensures least_after { (capacity extra : ℕ) (events : List (Event V E)) (event : Event V E)
         → capacity < 2 ^ 63
         → let core = run (made_core capacity extra) events in
         IsTrue (is_granted_take core event)
         → IsSomeAnd (newcomer core event) (λ local.
-        local.id ≡ least (held_after (id_moves (made_core capacity extra) events))) }
+        local.id ≡ least (held_from [] (history (made_core capacity extra) events))) }
 
     // A first published value stays until an owner's call, and that comes to somebody who has the
     // table alone.

@@ -2,14 +2,15 @@
 ghost use Rattle.std.specs.Prelude.{◌≡◌, ◌≢◌, ℕ, ◌-◌, ◌^◌, ◌<◌, ◌≤◌, ◌⊎◌, Bool, false, List, [], length, Contains};
 ghost use Rattle.std.specs.Prelude.{Some, None, IsTrue, IfSome, IsSomeAnd, ◌*◌, max, ◌∷◌, true, slice_get};
 ghost use Rattle.std.specs.Prelude.{if◌then◌else◌};
+ghost use Rattle.std.specs.List.{AllByRecursion};
 ghost use Rattle.thread_local_base.specs.Held.{is_held, least, HoldsAllBelow, held_count};
 ghost use Rattle.thread_local_base.specs.Walk.{walk};
 ghost use Rattle.thread_local_base.specs.Cursor.{is_complete};
 ghost use Rattle.thread_local_base.specs.Capacity.{reserves_bucket, is_reserved, reserved_slots};
-ghost use Rattle.thread_local_base.specs.IdMoves.{held_after};
+ghost use Rattle.thread_local_base.specs.IdMoves.{held_from, published_in, or_else};
 ghost use Rattle.thread_local_base.specs.Sheet.{new_sheet};
 ghost use Rattle.thread_local_schedule.specs.TableMoves.{moved_by_if, IsMoveAllowed};
-ghost use Rattle.thread_local_schedule.specs.IdHistory.{id_moves};
+ghost use Rattle.thread_local_schedule.specs.History.{history, is_as_published};
 ghost use Rattle.thread_local_base.specs.Answers.{answers, first_view, Answer, Refused, Found, Answered};
 ghost use Rattle.thread_local_schedule.specs.Table.{slot_at, bucket_stands};
 ghost use Rattle.thread_local_schedule.specs.Local.{Local, LocalStep, MakeBucket};
@@ -22,7 +23,7 @@ ghost use Rattle.thread_local_schedule.specs.Core.{private_slots};
 ghost use Rattle.thread_local_schedule.specs.Events.{Event, TakeId, OfLocal, GiveBack, Forget, BeginWalk};
 ghost use Rattle.thread_local_schedule.specs.Events.{OwnerCall, Owner, DrainTable, ClearTable, is_enabled, happens, run};
 ghost use Rattle.thread_local_schedule.specs.Events.{IntoIter, DropTable, RewriteTable};
-ghost use Rattle.thread_local_schedule.specs.Schedule.{move, is_exclusive, is_of, IsAlone, is_refused};
+ghost use Rattle.thread_local_schedule.specs.Schedule.{move, is_exclusive, is_of, IsAlone, is_refused, changes_values};
 ghost use Rattle.thread_local_schedule.specs.Schedule.{is_granted_take, newcomer, IsReached, NoneTaken, ends_table};
 ghost use Rattle.thread_local_base.specs.Buckets.{slots};
 ghost use Rattle.thread_local_schedule.specs.Bounds.{most_held, publishings, TakesBelow, NothingRefused};
@@ -31,8 +32,9 @@ ghost use Rattle.thread_local_schedule.specs.Story.{after_publishing, after_walk
 /// What holds of a table over every schedule of atomic steps, from a table of `new` and from one of
 /// each capacity below 2^63: each `Local` gets the least id not held; a slot's first published
 /// value stays until a call of the exclusive owner; that owner walks exactly the published values,
-/// each once, by ascending id; and the most ids held at once bounds, with the capacity, what is
-/// installed, made, published and refused.
+/// each once, by ascending id; the history of takes, gives and publishings says which ids are held,
+/// and, until a rewrite or a drain, which values there are; and the most ids held at once bounds,
+/// with the capacity, what is installed, made, published and refused.
 ///
 /// A clause about a reached core holds after every event of every schedule. The owner's calls are
 /// `iter_mut`, `entries_mut`, `get_mut`, `slots`, `drain`, `clear`, `into_iter`, `into_entries`,
@@ -124,12 +126,25 @@ pub fn every_schedule<V, E>()
         → core.locals n ≡ Some local
         → (happens core event).locals n ≡ Some local }
 
-    // The held ids are those that the takes and gives leave held since the table was made or
-    // cleared.
+    // The held ids are those that the history since the table was made or cleared leaves held.
     ensures history { (capacity extra : ℕ) (events : List (Event V E))
         → capacity < 2 ^ 63
         → (shadow (run (made_core capacity extra) events)).held
-        ≡ held_after (id_moves (made_core capacity extra) events) }
+        ≡ held_from [] (history (made_core capacity extra) events) }
+
+    // The values are those that this history says, if no rewrite and no drain came since then. From
+    // any reached core on, until a rewrite, a drain or a clear, they are those that were there and
+    // those that the history from then on says.
+    ensures as_published { (capacity extra : ℕ) (events : List (Event V E)) (id : ℕ)
+        → capacity < 2 ^ 63
+        → IsTrue (is_as_published (made_core capacity extra) events)
+        → published_in (history (made_core capacity extra) events) id
+        ≡ (shadow (run (made_core capacity extra) events)).values id }
+    ensures published_since { (core : Core V E) (events : List (Event V E)) (id : ℕ)
+        → IsReached core
+        → AllByRecursion (λ event. changes_values event ≡ false) events
+        → (shadow (run core events)).values id
+        ≡ or_else ((shadow core).values id) (published_in (history core events) id) }
 
     // A drain leaves no value, and the held ids and the capacity as they are.
     ensures drained { (core : Core V E)

@@ -16,14 +16,14 @@ ghost use Rattle.thread_local_schedule.specs.Events.{EndWalk, OwnerCall, Owner, 
 ghost use Rattle.thread_local_schedule.specs.Events.{RewriteTable, DrainTable, DropTable, ClearTable};
 ghost use Rattle.thread_local_schedule.specs.Schedule.{begins_walk, is_exclusive, is_of, is_of_walk, is_refused};
 ghost use Rattle.thread_local_schedule.specs.Schedule.{is_granted_take, newcomer, IsReached, NoneTaken, is_take};
-ghost use Rattle.thread_local_schedule.specs.Schedule.{ends_table, IsAlone, move};
+ghost use Rattle.thread_local_schedule.specs.Schedule.{ends_table, IsAlone, move, changes_values};
 ghost use Rattle.thread_local_base.specs.Place.{bucket_of};
 ghost use Rattle.thread_local_base.specs.Buckets.{slots};
 ghost use Rattle.thread_local_schedule.specs.Bounds.{TakesBelow, NothingRefused, most_held, publishings};
-ghost use Rattle.thread_local_base.specs.IdMoves.{Take, Give as IdGive, noted};
-ghost use Rattle.thread_local_base.specs.Sheet.{Sheet, Take as TakeLeast, Give, Publish, Rewrite, Clear};
+ghost use Rattle.thread_local_base.specs.IdMoves.{Take, Give, Publish, noted};
+ghost use Rattle.thread_local_base.specs.Sheet.{Sheet, OfHistory, Rewrite, Clear};
 ghost use Rattle.thread_local_schedule.specs.TableMoves.{OfSheet, Drain, IsMoveAllowed};
-ghost use Rattle.thread_local_schedule.specs.IdHistory.{id_moves};
+ghost use Rattle.thread_local_schedule.specs.History.{history, is_as_published};
 ghost use Rattle.thread_local_base.specs.Answers.{Answer, Refused, Call, Get, GetOr, View, answer, view_after, answers};
 ghost use Rattle.thread_local_schedule.specs.Calls.{gets_of, closure_of, HasNoCall, GoesOn, steps_left, GoesDown};
 ghost use Rattle.thread_local_schedule.specs.Calls.{EndsWith};
@@ -58,7 +58,7 @@ pub fn words_say<V, E>()
         → most_held core (events ++ Owner ClearTable ∷ []) ≡ 0 }
     ensures none_published { (core : Core V E) → publishings core [] ≡ 0 }
     ensures one_published { (core : Core V E) (events : List (Event V E)) (event : Event V E) (id : ℕ) (v : V)
-        → move (run core events) event ≡ Some (OfSheet (Publish id v))
+        → move (run core events) event ≡ Some (OfSheet (OfHistory (Publish id v)))
         → publishings core (events ++ event ∷ []) ≡ suc (publishings core events) }
     ensures published_anew { (core : Core V E) (events : List (Event V E)) (event : Event V E)
         → move (run core events) event ≡ Some (OfSheet Clear)
@@ -67,29 +67,29 @@ pub fn words_say<V, E>()
         → move (run core events) event ≡ Some Drain
         → publishings core (events ++ event ∷ []) ≡ 0 }
     ensures as_many_published { (core : Core V E) (events : List (Event V E)) (event : Event V E)
-        → ((id : ℕ) (v : V) → move (run core events) event ≢ Some (OfSheet (Publish id v)))
+        → ((id : ℕ) (v : V) → move (run core events) event ≢ Some (OfSheet (OfHistory (Publish id v))))
         → move (run core events) event ≢ Some (OfSheet Clear)
         → move (run core events) event ≢ Some Drain
         → publishings core (events ++ event ∷ []) ≡ publishings core events }
 
     // Which move each event is: no other event moves anything, and none that isn't enabled.
     ensures take_moves { (core : Core V E) (event : Event V E)
-        → IsTrue (is_granted_take core event) → move core event ≡ Some (OfSheet TakeLeast) }
+        → IsTrue (is_granted_take core event) → move core event ≡ Some (OfSheet (OfHistory Take)) }
     ensures give_moves { (core : Core V E) (n : ℕ) (local : Local V E)
         → IsTrue (is_enabled core (GiveBack n))
         → core.locals n ≡ Some local
-        → move core (GiveBack n) ≡ Some (OfSheet (Give local.id)) }
+        → move core (GiveBack n) ≡ Some (OfSheet (OfHistory (Give local.id))) }
     ensures publish_moves { (core : Core V E) (n : ℕ) (local : Local V E) (v : V)
         → IsTrue (is_enabled core (OfLocal n SetFlag))
         → core.locals n ≡ Some local
         → local.doing ≡ Written v
-        → move core (OfLocal n SetFlag) ≡ Some (OfSheet (Publish local.id v)) }
+        → move core (OfLocal n SetFlag) ≡ Some (OfSheet (OfHistory (Publish local.id v))) }
     ensures install_moves { (core : Core V E) (n : ℕ) (local : Local V E) (v : V) (number : ℕ)
         → IsTrue (is_enabled core (OfLocal n InstallBucket))
         → core.locals n ≡ Some local
         → local.doing ≡ Filled (Ok v) number true
         → bucket_stands core.table (bucket_of local.id) ≡ false
-        → move core (OfLocal n InstallBucket) ≡ Some (OfSheet (Publish local.id v)) }
+        → move core (OfLocal n InstallBucket) ≡ Some (OfSheet (OfHistory (Publish local.id v))) }
     ensures empty_moves { (core : Core V E) (n : ℕ) (local : Local V E) (e : E) (number : ℕ)
         → IsTrue (is_enabled core (OfLocal n InstallBucket))
         → core.locals n ≡ Some local
@@ -119,28 +119,49 @@ pub fn words_say<V, E>()
         × (event ≢ Owner ClearTable))
         → move core event ≡ None }
 
-    // Of the ids a granted take notes a take, and a give back notes the id. A clear begins anew,
-    // and all else notes nothing.
-    ensures no_id_moves { (core : Core V E) → id_moves core [] ≡ [] }
+    // In the history a granted take notes a take, a give back notes the id, and a publishing notes
+    // the id and the value. A clear begins anew, and all else notes nothing.
+    ensures no_history { (core : Core V E) → history core [] ≡ [] }
     ensures one_take { (core : Core V E) (events : List (Event V E)) (event : Event V E)
         → IsTrue (is_granted_take (run core events) event)
-        → id_moves core (events ++ event ∷ []) ≡ noted (id_moves core events) Take }
+        → history core (events ++ event ∷ []) ≡ noted (history core events) Take }
     ensures one_give { (core : Core V E) (events : List (Event V E)) (n : ℕ) (local : Local V E)
         → IsTrue (is_enabled (run core events) (GiveBack n))
         → (run core events).locals n ≡ Some local
-        → id_moves core (events ++ GiveBack n ∷ []) ≡ noted (id_moves core events) (IdGive local.id) }
-    ensures ids_anew { (core : Core V E) (events : List (Event V E))
+        → history core (events ++ GiveBack n ∷ []) ≡ noted (history core events) (Give local.id) }
+    ensures one_publish { (core : Core V E) (events : List (Event V E)) (event : Event V E) (id : ℕ) (v : V)
+        → move (run core events) event ≡ Some (OfSheet (OfHistory (Publish id v)))
+        → history core (events ++ event ∷ []) ≡ noted (history core events) (Publish id v) }
+    ensures history_anew { (core : Core V E) (events : List (Event V E))
         → IsTrue (is_enabled (run core events) (Owner ClearTable))
-        → id_moves core (events ++ Owner ClearTable ∷ []) ≡ [] }
+        → history core (events ++ Owner ClearTable ∷ []) ≡ [] }
     ensures no_more_noted { (core : Core V E) (events : List (Event V E)) (event : Event V E)
         → (IsTrue (is_enabled (run core events) event)
         → (is_granted_take (run core events) event ≡ false)
         × ((n : ℕ) → event ≢ GiveBack n)
+        × ((id : ℕ) (v : V)
+        → move (run core events) event ≢ Some (OfSheet (OfHistory (Publish id v))))
         × (event ≢ Owner ClearTable))
-        → id_moves core (events ++ event ∷ []) ≡ id_moves core events }
+        → history core (events ++ event ∷ []) ≡ history core events }
+
+    // Each value is as it was published until a rewrite or a drain, and from a clear on again. No
+    // other event changes that.
+    ensures published_at_first { (core : Core V E) → is_as_published core [] ≡ true }
+    ensures rewritten { (core : Core V E) (events : List (Event V E)) (others : ℕ → V → V)
+        → IsTrue (is_enabled (run core events) (Owner (RewriteTable others)))
+        → is_as_published core (events ++ Owner (RewriteTable others) ∷ []) ≡ false }
+    ensures drained { (core : Core V E) (events : List (Event V E))
+        → IsTrue (is_enabled (run core events) (Owner DrainTable))
+        → is_as_published core (events ++ Owner DrainTable ∷ []) ≡ false }
+    ensures cleared { (core : Core V E) (events : List (Event V E))
+        → IsTrue (is_enabled (run core events) (Owner ClearTable))
+        → is_as_published core (events ++ Owner ClearTable ∷ []) ≡ true }
+    ensures published_as_before { (core : Core V E) (events : List (Event V E)) (event : Event V E)
+        → (IsTrue (is_enabled (run core events) event) → changes_values event ≡ false)
+        → is_as_published core (events ++ event ∷ []) ≡ is_as_published core events }
 
     // What makes an event a take, an owner's call, one of this Local or walk, the beginning of a
-    // walk or the end of a table.
+    // walk, a change of the values or the end of a table.
     ensures take { (event : Event V E) → IsTrue (is_take event)
         → (refused : Bool) × (growth : ℕ) × (event ≡ TakeId refused growth) }
     ensures owners { (event : Event V E) → IsTrue (is_exclusive event)
@@ -151,6 +172,9 @@ pub fn words_say<V, E>()
     ensures of_walk { (n : ℕ) (event : Event V E) → IsTrue (is_of_walk n event)
         → ((step : WalkStep) × (event ≡ OfWalk n step)) ⊎ (event ≡ EndWalk n) }
     ensures walk_begins { (event : Event V E) → IsTrue (begins_walk event) → event ≡ BeginWalk }
+    ensures values_change { (event : Event V E) → IsTrue (changes_values event)
+        → ((others : ℕ → V → V) × (event ≡ Owner (RewriteTable others)))
+        ⊎ ((event ≡ Owner DrainTable) ⊎ (event ≡ Owner ClearTable)) }
     ensures table_ends { (event : Event V E) → IsTrue (ends_table event)
         → (event ≡ Owner IntoIter) ⊎ (event ≡ Owner DropTable) }
 
@@ -233,9 +257,9 @@ pub fn words_say<V, E>()
         → IsTrue (is_held held id) }
     ensures written { (slot : Slot V) → IsWritten slot → IsTrue slot.flag → IsSome slot.written }
     ensures allows_give { (sheet : Sheet V) (id : ℕ)
-        → IsMoveAllowed sheet (OfSheet (Give id)) → IsTrue (is_held sheet.held id) }
+        → IsMoveAllowed sheet (OfSheet (OfHistory (Give id))) → IsTrue (is_held sheet.held id) }
     ensures allows_publish { (sheet : Sheet V) (id : ℕ) (v : V)
-        → IsMoveAllowed sheet (OfSheet (Publish id v))
+        → IsMoveAllowed sheet (OfSheet (OfHistory (Publish id v)))
         → (sheet.values id ≡ None) × IsTrue (is_held sheet.held id) }
 
     // What a step does to the calls of its Local: a get begins, a publishing call begins, none

@@ -1,12 +1,12 @@
 -- What lies with the word of announced buckets: it changes as buckets are announced, and shows of a
 -- bucket that was that its bit is set still. Assumes `Logic`.
 use Rattle.std.proofs.Common.{◌≡◌, ◌≢◌, ℕ, zero, suc, ◌+◌, ◌*◌, ◌%◌, ◌^◌, ◌<◌, Bool, true, false, [], ◌∷◌, refl, sym, subst, ◌∙◌}
-use Rattle.std.proofs.Common.{arith, ⊎_elim, Option, None, Some, bit_or}
+use Rattle.std.proofs.Common.{arith, ⊎_elim, None, Some, bit_or}
 use Rattle.std.proofs.lemmas.Bool.{cases_lt, ne_eqb, eq-eqb}
 use Rattle.std.specs.Prelude.{◌==◌, if◌then◌else◌}
 use Rattle.std.specs.Coded.{coded_option}
 use seplogic.Ra.Ura.{Ura}
-use base.Logic.{SProp, emp, ex, upd, upd_i, via, guard, guard_e}
+use base.Logic.{SProp, emp, ex, upd, upd_i, guard}
 use base.Fml.{GName, Lft, Share, Fml, ftrue, fsep, fex, flft, fbor}
 use types.Logic.{Logic}
 use types.Kit.{‵, raw, ◌⊛◌, some, settle, pick, suffices, ◌$◌, ◌∵◌, !, qed, by, move, keep, drop, split, fsplit}
@@ -21,13 +21,10 @@ use Rattle.thread_local_base.specs.SharedWord.{word_invariant}
 use Rattle.thread_local_base.proofs.SharedWord.{stepped}
 use Rattle.thread_local_base.proofs.Signs.{signs}
 use Rattle.thread_local_base.proofs.Word.{set_bit}
-use Rattle.thread_local_ids.specs.Told.{told_or_untold, untold_in}
-use Rattle.thread_local_ids.proofs.ToldElements.{told_dup, tells_it, telling_alike, source, source_new, all_drawn, New}
+use Rattle.thread_local_ids.specs.Told.{untold_in, later_of}
+use Rattle.thread_local_ids.proofs.ToldElements.{told_dup, tells_it, never_told, source, source_new, all_drawn, New}
 use Rattle.thread_local_shared_buckets.specs.Announcing.{Announcing, told_of, announced_by, announced, lies_with_bit, lies_with_bits}
 use Rattle.thread_local_shared_buckets.specs.Announcing.{lies_with_word}
-
-none_is_not : ◌≡◌ {A = Option ℕ} None (Some 0) → ⊥
-none_is_not e = cc
 
 -- of a bit that is set as a bit of that name, and of another
 same_bit : (bit : ℕ) (old : Bool) → (if bit == bit then true else old) ≡ true
@@ -144,11 +141,8 @@ module _ {M : Type 1} {𝓤 : Ura M} (𝓛 : Logic 𝓤) where
     agrees bit false true =
         qed 𝓛 (‵ (told_of m.name bit) ∷ ‵ (told_of m.name bit) ∷ []) ∵ check ! refl $ keep ! (0 ∷ []) $ done !
     agrees bit false false =
-        let Z = guard 𝓤 (false ≡ true) ⟦ lies_with_bit m.name bit false false ⟧ in
-        let Both = ⟦ told_or_untold u64 (Some m.name) bit None ⟧ ∗ ⟦ told_of m.name bit ⟧ in
-        let Not : Type 0 = ◌≡◌ {A = Option ℕ} None (Some 0) in
-        via 𝓤 (guard 𝓤 Not Both) (telling_alike 𝓛 u64 (Some m.name) refl bit None 0)
-        (guard_e 𝓤 Not Both (λ e. let no : Both ⊢ Z = absurd (none_is_not e) in no))
+        never_told 𝓛 (Some m.name) refl bit ((coded_option u64.coded).code (Some 0))
+        (guard 𝓤 (false ≡ true) ⟦ lies_with_bit m.name bit false false ⟧)
 
     bit_shown : (n bit count : ℕ) → bit < count
         → ⟦ lies_with_bits m n count ⟧ ∗ ⟦ announced m bit ⟧ ⊢ guard 𝓤 (is_set n bit ≡ true) ⟦ lies_with_bits m n count ⟧
@@ -208,16 +202,16 @@ module _ {M : Type 1} {𝓤 : Ura M} (𝓛 : Logic 𝓤) where
         qed 𝓛 (‵ ftrue ∷ []) ∵ rewrite ! 0 (λ (b : Bool). ‵ (announced_by m.name bit b)) (sym is) refl $ done !
 
   -- a new name has these rights
-  pub untold_drawn : (γ : GName) (count : ℕ) → ⟦ source 𝓛 γ 0 ⟧ ⊢ upd 𝓤 (⟦ bits_untold γ count ⟧ ∗ ⟦ source 𝓛 γ count ⟧)
+  pub untold_drawn : (γ : GName) (count : ℕ) → ⟦ source 𝓛 γ 0 ⟧ ⊢ upd 𝓤 (⟦ bits_untold (later_of γ) count ⟧ ∗ ⟦ source 𝓛 γ count ⟧)
   untold_drawn γ zero =
       let Z : SProp 𝓤 = ⟦ ftrue ⟧ ∗ ⟦ source 𝓛 γ 0 ⟧ in
       qed 𝓛 (‵ (source 𝓛 γ 0) ∷ []) ∵ suffices ! _ (upd_i 𝓤 Z) $ nothing ! $ done !
   untold_drawn γ (suc c) =
-      let Z : SProp 𝓤 = ⟦ bits_untold γ (suc c) ⟧ ∗ ⟦ source 𝓛 γ (suc c) ⟧ in
-      let One : Fml = fsep (untold_in (Some γ) c) ftrue in
+      let Z : SProp 𝓤 = ⟦ bits_untold (later_of γ) (suc c) ⟧ ∗ ⟦ source 𝓛 γ (suc c) ⟧ in
+      let One : Fml = fsep (untold_in (Some (later_of γ)) c) ftrue in
       qed 𝓛 (‵ (source 𝓛 γ 0) ∷ []) ∵
-      use1 𝓛 (raw (upd 𝓤 (⟦ bits_untold γ c ⟧ ∗ ⟦ source 𝓛 γ c ⟧))) (untold_drawn γ c) $
-      settle 𝓛 Z (‵ (bits_untold γ c) ⊛ ‵ (source 𝓛 γ c)) $ split ! $ move ! (1 ∷ []) $
+      use1 𝓛 (raw (upd 𝓤 (⟦ bits_untold (later_of γ) c ⟧ ∗ ⟦ source 𝓛 γ c ⟧))) (untold_drawn γ c) $
+      settle 𝓛 Z (‵ (bits_untold (later_of γ) c) ⊛ ‵ (source 𝓛 γ c)) $ split ! $ move ! (1 ∷ []) $
       use1 𝓛 (raw (upd 𝓤 (⟦ One ⟧ ∗ ⟦ source 𝓛 γ (suc c) ⟧))) (all_drawn 𝓛 u64 γ c (suc c) (None ∷ []) (omega arith)) $
       settle 𝓛 Z (‵ One ⊛ ‵ (source 𝓛 γ (suc c))) $ suffices ! _ (upd_i 𝓤 Z) $ split ! $ fsplit ! $
       -- [the right; nothing; what is left; the other rights]
@@ -227,10 +221,10 @@ module _ {M : Type 1} {𝓤 : Ura M} (𝓛 : Logic 𝓤) where
   rights_new =
       let Z : SProp 𝓤 = ⟦ new_rights ⟧ in
       qed 𝓛 [] ∵ use0 𝓛 (raw (upd 𝓤 (ex 𝓤 (New 𝓛 None)))) (source_new 𝓛 None) $
-      settle 𝓛 Z (some (λ (γ : ℕ). given (Some γ ≢ None) (‵ (source 𝓛 γ 0)))) $ pick ! (λ γ. learn ! (λ _.
-      use1 𝓛 (raw (upd 𝓤 (⟦ bits_untold γ 63 ⟧ ∗ ⟦ source 𝓛 γ 63 ⟧))) (untold_drawn γ 63) $
-      settle 𝓛 Z (‵ (bits_untold γ 63) ⊛ ‵ (source 𝓛 γ 63)) $ suffices ! _ (upd_i 𝓤 Z) $ split ! $
-      keep ! (0 ∷ []) $ fpack ! GName (λ η. bits_untold η 63) γ $ done !))
+      settle 𝓛 Z (some (λ (γ : ℕ). given (Some (later_of γ) ≢ None) (‵ (source 𝓛 γ 0)))) $ pick ! (λ γ. learn ! (λ _.
+      use1 𝓛 (raw (upd 𝓤 (⟦ bits_untold (later_of γ) 63 ⟧ ∗ ⟦ source 𝓛 γ 63 ⟧))) (untold_drawn γ 63) $
+      settle 𝓛 Z (‵ (bits_untold (later_of γ) 63) ⊛ ‵ (source 𝓛 γ 63)) $ suffices ! _ (upd_i 𝓤 Z) $ split ! $
+      keep ! (0 ∷ []) $ fpack ! GName (λ η. bits_untold η 63) (later_of γ) $ done !))
 
   -- any word may begin a sharing with these rights
   one_begins : (γ : GName) (bit : ℕ) (set : Bool) → ⟦ untold_in (Some γ) bit ⟧ ⊢ ⟦ lies_with_bit γ bit set set ⟧

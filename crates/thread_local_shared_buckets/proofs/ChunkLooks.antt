@@ -28,7 +28,7 @@ use Rattle.thread_local_base.specs.Fact.{fact}
 use Rattle.thread_local_base.specs.Bits.{is_set, is_set_in}
 use Rattle.thread_local_buckets.specs.Slots.{each, word_offset, value_offset, flags_at}
 use Rattle.thread_local_buckets.proofs.Each.{Put, each_at}
-use Rattle.thread_local_shared_buckets.specs.Shared.{BucketView, Turn, StandingBlock, Who, block_code, value_code}
+use Rattle.thread_local_shared_buckets.specs.Shared.{BucketView, Turn, StandingBlock, Who, block_code}
 use Rattle.thread_local_shared_buckets.specs.Shared.{age, opened, shared_value, shared_slot_as}
 use Rattle.thread_local_shared_buckets.specs.Shared.{shared_slot, numbered_slot, AreFlagWords, len, first, bucket_invariant}
 use Rattle.thread_local_shared_buckets.specs.Shared.{pinned_and_told, if_set}
@@ -38,7 +38,7 @@ use Rattle.thread_local_ids.specs.Told.{tells, untold_in}
 use Rattle.thread_local_ids.specs.Views.{TokenView}
 use Rattle.thread_local_ids.specs.TokenLists.{AllOf, tell_each}
 use Rattle.thread_local_ids.proofs.TokenListLaws.{slot_agrees}
-use Rattle.thread_local_ids.proofs.ToldElements.{told_dup}
+use Rattle.thread_local_ids.proofs.ToldElements.{tells_dup}
 use Rattle.thread_local_base.proofs.Signs.{signs}
 
 -- a flag of a chunk, by the chunk's word
@@ -166,7 +166,7 @@ module _ {M : Type 1} {𝓤 : Ura M} (𝓛 : Logic 𝓤) where
         qed 𝓛 (‵ (SlotAs set k e η (Some x, w)) ∷ []) ∵ fsplit3 ! $ fpick ! (λ is. drop ! $
         -- [what stays; who has it]
         fsplit3 ! $ move ! (1 ∷ []) $ fsplit ! $ res_dup ! $ move ! (2 ∷ []) $
-        use1 𝓛 (‵ Told ⊛ ‵ Told) (told_dup 𝓛 d.sharing k (value_code R (Some x))) $ split ! $
+        use1 𝓛 (‵ Told ⊛ ‵ Told) (tells_dup 𝓛 R d.sharing k (Some x)) $ split ! $
         -- [what is told, twice; the pin, twice; the token; opened; who has it]
         move ! (2 ∷ 0 ∷ []) $ fjoin ! $ move ! (2 ∷ 1 ∷ []) $ fjoin ! $ move ! (3 ∷ []) $
         use1 𝓛 (‵ Shared) (all_e 𝓤 (λ (_ : Shareable R). ⟦ Shared ⟧) j) $

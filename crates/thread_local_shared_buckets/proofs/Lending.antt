@@ -32,7 +32,7 @@ use Rattle.thread_local_ids.specs.Rights.{right_owns}
 use Rattle.thread_local_buckets.specs.Slots.{value_offset, content_at}
 use Rattle.thread_local_base.specs.Fact.{fact}
 use Rattle.thread_local_ids.specs.Told.{tells}
-use Rattle.thread_local_ids.proofs.ToldElements.{told_dup}
+use Rattle.thread_local_ids.proofs.ToldElements.{tells_dup}
 use Rattle.thread_local_ids.proofs.Twice.{tells_laws}
 use Rattle.thread_local_shared_buckets.specs.Shared.{name_at, BucketView, Turn, StandingBlock, Sized, len, value_code}
 use Rattle.thread_local_shared_buckets.specs.Shared.{pinned, tracked_value, age, kept, loaded}
@@ -218,7 +218,7 @@ module _ {M : Type 1} {𝓤 : Ura M} (𝓛 : Logic 𝓤) where
           qed 𝓛 (‵ Pinned ∷ []) ∵ fsplit ! $
           use1 𝓛 (‵ Pin ⊛ ‵ Pin) (𝓛.names.res_dup η (value_code R (Some x))) $ split ! $
           move ! (2 ∷ []) $
-          use1 𝓛 (‵ Told ⊛ ‵ Told) (told_dup 𝓛 d.sharing c.id (value_code R (Some x))) $ split ! $
+          use1 𝓛 (‵ Told ⊛ ‵ Told) (tells_dup 𝓛 R d.sharing c.id (Some x)) $ split ! $
           move ! (2 ∷ 0 ∷ []) $ fjoin ! $ frame ! $ move ! (1 ∷ 0 ∷ []) $ fjoin ! $ done !
 
       lends_shared : (q : Share) (σ : Shareable R)

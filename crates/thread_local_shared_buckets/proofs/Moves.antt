@@ -15,8 +15,8 @@ use Rattle.thread_local_ids.specs.Rights.{right_owns}
 use Rattle.thread_local_ids.proofs.RightElements.{right_once}
 use Rattle.thread_local_shared_buckets.specs.Shared.{Turn, Who, free, claimed, early, value_code, pinned}
 use Rattle.thread_local_shared_buckets.specs.Shared.{pinned_and_told, opened, holds, stays, lies_with_slot}
-use Rattle.thread_local_ids.specs.Told.{tells}
-use Rattle.thread_local_ids.proofs.ToldElements.{told_dup, tells_it}
+use Rattle.thread_local_ids.specs.Told.{tells, noted_in}
+use Rattle.thread_local_ids.proofs.ToldElements.{tells_dup, tells_some}
 use Rattle.thread_local_base.proofs.Signs.{signs}
 use Rattle.std.proofs.lemmas.Option.{same_Some}
 
@@ -164,9 +164,13 @@ module _ {M : Type 1} {𝓤 : Ura M} (𝓛 : Logic 𝓤) (R : RattleType) (t : T
       rewrite ! 0 (λ (z : Option R.Denot). ‵ (Holds z)) (sym same) refl $ move ! (2 ∷ 0 ∷ []) $
       fjoin ! $ move ! (2 ∷ 0 ∷ 1 ∷ []) $ done !)
 
-  -- what stays with the slot once the value is published
+  -- what is noted before the value is published
+  abbrev pub Noted : R.Denot → Fml
+  Noted x = noted_in sharing k (R.coded.code x)
+
+  -- what stays with the slot once the value is published, and that this is noted
   abbrev pub Offer : R.Denot → Fml
-  Offer x = fsep (right_owns t.vacant k) (fsep (pinned R η x) (opened R t b ν e x))
+  Offer x = fsep (fsep (right_owns t.vacant k) (fsep (pinned R η x) (opened R t b ν e x))) (Noted x)
 
   -- what the claim has of it then, beside the value
   abbrev pub Gain : R.Denot → Fml
@@ -180,24 +184,23 @@ module _ {M : Type 1} {𝓤 : Ura M} (𝓛 : Logic 𝓤) (R : RattleType) (t : T
       → ⟦ Stays v ⟧ ∗ ⟦ Had v w ⟧ ∗ ⟦ Offer x ⟧ ⊢ upd 𝓤 (Made v x)
   publishes (Some z) w x =
       qed 𝓛 (‵ (Stays (Some z)) ∷ ‵ (Had (Some z) w) ∷ ‵ (Offer x) ∷ []) ∵ fsplit3 ! $
-      move ! (4 ∷ []) $ fsplit3 ! $ keep ! (0 ∷ 3 ∷ []) $ by ! (twice t.vacant _)
+      move ! (4 ∷ []) $ fsplit ! $ fsplit3 ! $ keep ! (0 ∷ 4 ∷ []) $ by ! (twice t.vacant _)
   publishes None free x =
       qed 𝓛 (‵ (Stays None) ∷ ‵ (Had None free) ∷ ‵ (Offer x) ∷ []) ∵ drop ! $ fsplit ! $
-      move ! (1 ∷ []) $ fsplit3 ! $ move ! (4 ∷ []) $ fsplit3 ! $ keep ! (0 ∷ 3 ∷ []) $
+      move ! (1 ∷ []) $ fsplit3 ! $ move ! (4 ∷ []) $ fsplit ! $ fsplit3 ! $ keep ! (0 ∷ 4 ∷ []) $
       by ! (twice t.vacant _)
   publishes None early x =
       qed 𝓛 (‵ (Stays None) ∷ ‵ (Had None early) ∷ ‵ (Offer x) ∷ []) ∵ drop ! $ fsplit ! $
-      move ! (1 ∷ []) $ fsplit3 ! $ move ! (4 ∷ []) $ fsplit3 ! $ keep ! (0 ∷ 3 ∷ []) $
+      move ! (1 ∷ []) $ fsplit3 ! $ move ! (4 ∷ []) $ fsplit ! $ fsplit3 ! $ keep ! (0 ∷ 4 ∷ []) $
       by ! (twice t.vacant _)
   publishes None claimed x =
-      let g : Gv = value_code R (Some x) in
       let Told : Fml = tells R sharing k (Some x) in
       let Z : SProp 𝓤 = Made None x in
       qed 𝓛 (‵ (Stays None) ∷ ‵ (Had None claimed) ∷ ‵ (Offer x) ∷ []) ∵ fsplit ! $
-      move ! (1 ∷ []) $
-      use1 𝓛 (raw (upd 𝓤 ⟦ Told ⟧)) (tells_it 𝓛 sharing k g) $ settle 𝓛 Z (‵ Told) $
-      suffices ! _ (upd_i 𝓤 Z) $ use1 𝓛 (‵ Told ⊛ ‵ Told) (told_dup 𝓛 sharing k g) $ split ! $
-      move ! (4 ∷ []) $ fsplit3 ! $
+      move ! (3 ∷ []) $ fsplit ! $ move ! (3 ∷ 1 ∷ []) $
+      use2 𝓛 (raw (upd 𝓤 ⟦ Told ⟧)) (tells_some 𝓛 R sharing k x) $ settle 𝓛 Z (‵ Told) $
+      suffices ! _ (upd_i 𝓤 Z) $ use1 𝓛 (‵ Told ⊛ ‵ Told) (tells_dup 𝓛 R sharing k (Some x)) $ split ! $
+      move ! (2 ∷ []) $ fsplit3 ! $
       -- [vacant; the pin; opened; what is told, twice; filled; who has it]
       move ! (1 ∷ 3 ∷ []) $ fjoin ! $ move ! (1 ∷ 0 ∷ 2 ∷ []) $ fjoin3 ! $ move ! (2 ∷ 1 ∷ []) $
       fjoin ! $ check ! refl $ move ! (1 ∷ 2 ∷ 0 ∷ []) $ done !

@@ -20,7 +20,7 @@ use contract.BorrowLft.{meet_⊑_left, meet_⊑_right, ⊑_meet}
 use contract.Monad.{fact_use}
 use ghost.Rules.{Toks, span}
 use types.Logic.{Logic, lfts}
-use types.Kit.{‵, raw, ◌⊛◌, some, given, later, ◌$◌, ◌∵◌, !, qed, by, move, keep, drop, use0, use1, use2, use3, split}
+use types.Kit.{‵, raw, ◌⊛◌, some, given, later, ◌$◌, ◌∵◌, !, qed, by, move, keep, drop, use0, use1, use2, split}
 use types.Kit.{split3, group, join, fsplit, fsplit3, fjoin, fjoin3, fpick, fpack, pick, learn, check, show, frame, assume}
 use types.Kit.{suffices, settle, await, updating, now, rewrite, done}
 use types.Tokens.{name_new, name_agree, res_dup, res_agree, lft_new, lft_end, bor_new, lent_back}
@@ -44,8 +44,8 @@ use Rattle.thread_local_shared_buckets.specs.Shared.{by as lent_by}
 use Rattle.thread_local_shared_buckets.specs.Shared.{numbered_slot, AreFlagWords, slots_under, slots_stand, block_stands}
 use Rattle.thread_local_shared_buckets.specs.Shared.{slots_side, all_unborn, Sized, len, first, standing, beside_pointer, grown}
 use Rattle.thread_local_shared_buckets.specs.Shared.{bucket_invariant}
-use Rattle.thread_local_ids.specs.Told.{untold_in, tells}
-use Rattle.thread_local_ids.proofs.ToldElements.{told_dup, tells_it}
+use Rattle.thread_local_ids.specs.Told.{untold_in, tells, noted_in, noted_if, left_of}
+use Rattle.thread_local_ids.proofs.ToldElements.{tells_dup, tells_some}
 use Rattle.thread_local_shared_buckets.proofs.Rested.{publishes}
 use Rattle.thread_local_base.proofs.Pointers.{Compared, opened_to_compare, alike_null}
 use Rattle.thread_local_shared_buckets.proofs.Loads.{part, glimpse, parted}
@@ -307,20 +307,20 @@ module _ {M : Type 1} {𝓤 : Ura M} (𝓛 : Logic 𝓤) (R : RattleType) (t : T
           full_reborn : (i : ℕ) (η : GName) → is_set_in ns i ≡ true
               → ⟦ right_owns t.vacant (i + k) ⟧ ∗ ⟦ fsep (right_owns t.filled (i + k)) (untold_in sharing (i + k)) ⟧
               ∗ ⟦ right_owns table (i + k) ⟧ ∗ ⟦ right_owns t.pass (i + k) ⟧ ∗ ⟦ full (value_offset R o i) η ⟧
+              ∗ ⟦ noted_in sharing (i + k) (R.coded.code x) ⟧
               ⊢ upd 𝓤 (⟦ numbered_slot R t b ν sharing table k o ns η i ⟧ ∗ ⟦ won_by sharing (Some x) (i + k) ⟧)
           full_reborn i η set =
               let j : ℕ = i + k in
               let e : ℕ = value_offset R o i in
               let bit : Bool = is_set_in ns i in
               let v : Option R.Denot = Some x in
-              let g = value_code R v in
               let Told : Fml = tells R sharing j v in
               let Z : SProp 𝓤 = ⟦ numbered_slot R t b ν sharing table k o ns η i ⟧ ∗ ⟦ won_by sharing v j ⟧ in
               qed 𝓛 (‵ (right_owns t.vacant j) ∷ ‵ (fsep (right_owns t.filled j) (untold_in sharing j))
-              ∷ ‵ (right_owns table j) ∷ ‵ (right_owns t.pass j) ∷ ‵ (full e η) ∷ []) ∵
-              move ! (1 ∷ []) $ fsplit ! $ move ! (1 ∷ []) $
-              use1 𝓛 (raw (upd 𝓤 ⟦ Told ⟧)) (tells_it 𝓛 sharing j g) $ settle 𝓛 Z (‵ Told) $
-              suffices ! _ (upd_i 𝓤 Z) $ use1 𝓛 (‵ Told ⊛ ‵ Told) (told_dup 𝓛 sharing j g) $ split ! $
+              ∷ ‵ (right_owns table j) ∷ ‵ (right_owns t.pass j) ∷ ‵ (full e η) ∷ ‵ (noted_in sharing j (R.coded.code x)) ∷ []) ∵
+              move ! (1 ∷ []) $ fsplit ! $ move ! (1 ∷ 6 ∷ []) $
+              use2 𝓛 (raw (upd 𝓤 ⟦ Told ⟧)) (tells_some 𝓛 R sharing j x) $ settle 𝓛 Z (‵ Told) $
+              suffices ! _ (upd_i 𝓤 Z) $ use1 𝓛 (‵ Told ⊛ ‵ Told) (tells_dup 𝓛 R sharing j v) $ split ! $
               move ! (6 ∷ []) $ fsplit3 ! $
               -- [the way to its end; pinned; opened; told, twice; filled; vacant; the right; the pass]
               move ! (1 ∷ 3 ∷ []) $ fjoin ! $ move ! (5 ∷ 0 ∷ 2 ∷ []) $ fjoin3 ! $
@@ -334,11 +334,13 @@ module _ {M : Type 1} {𝓤 : Ura M} (𝓛 : Logic 𝓤) (R : RattleType) (t : T
           full_born : (i : ℕ) (η : GName) (w : Bool) → is_set_in ns i ≡ true
               → ⟦ right_owns t.vacant (i + k) ⟧ ∗ ⟦ fsep (right_owns t.filled (i + k)) (untold_in sharing (i + k)) ⟧
               ∗ ⟦ slots_side R w table t.pass (i + k) ⟧ ∗ ⟦ right_owns t.pass (i + k) ⟧ ∗ ⟦ full (value_offset R o i) η ⟧
+              ∗ ⟦ noted_in sharing (i + k) (R.coded.code x) ⟧
               ⊢ upd 𝓤 (⟦ numbered_slot R t b ν sharing table k o ns η i ⟧ ∗ ⟦ won_by sharing (Some x) (i + k) ⟧)
           full_born i η false set =
               let j : ℕ = i + k in
               qed 𝓛 (‵ (right_owns t.vacant j) ∷ ‵ (fsep (right_owns t.filled j) (untold_in sharing j))
-              ∷ ‵ (right_owns t.pass j) ∷ ‵ (right_owns t.pass j) ∷ ‵ (full (value_offset R o i) η) ∷ []) ∵
+              ∷ ‵ (right_owns t.pass j) ∷ ‵ (right_owns t.pass j) ∷ ‵ (full (value_offset R o i) η)
+              ∷ ‵ (noted_in sharing j (R.coded.code x)) ∷ []) ∵
               keep ! (2 ∷ 3 ∷ []) $ by ! (right_once 𝓛 t.pass j _)
           full_born i η true set = full_reborn i η set
 
@@ -373,13 +375,14 @@ module _ {M : Type 1} {𝓤 : Ura M} (𝓛 : Logic 𝓤) (R : RattleType) (t : T
           mine_born : (v : Option R.Denot) (i : ℕ) (η : GName) (w : Bool) → is_set_in ns i ≡ is_some v
               → ⟦ right_owns t.vacant (i + k) ⟧ ∗ ⟦ fsep (right_owns t.filled (i + k)) (untold_in sharing (i + k)) ⟧
               ∗ ⟦ slots_side R w table t.pass (i + k) ⟧ ∗ ⟦ right_owns t.pass (i + k) ⟧ ∗ ⟦ mine v (value_offset R o i) η ⟧
+              ∗ ⟦ noted_if sharing (i + k) (left_of R v) ⟧
               ⊢ upd 𝓤 (⟦ numbered_slot R t b ν sharing table k o ns η i ⟧ ∗ ⟦ won_by sharing v (i + k) ⟧)
           mine_born None i η w clear =
               let j : ℕ = i + k in
               qed 𝓛 (‵ (right_owns t.vacant j) ∷ ‵ (Unborn sharing table k ns j) ∷ ‵ (slots_side R w table t.pass j) ∷ ‵ (right_owns t.pass j)
-              ∷ ‵ (bare (value_offset R o i) η) ∷ []) ∵
+              ∷ ‵ (bare (value_offset R o i) η) ∷ ‵ ftrue ∷ []) ∵
               suffices ! _ (upd_i 𝓤 (⟦ numbered_slot R t b ν sharing table k o ns η i ⟧ ∗ ⟦ right_owns t.pass j ⟧)) $
-              move ! (0 ∷ 1 ∷ 2 ∷ 4 ∷ []) $ group ! 4 $
+              keep ! (0 ∷ 1 ∷ 2 ∷ 4 ∷ 3 ∷ []) $ group ! 4 $
               use1 𝓛 (‵ (numbered_slot R t b ν sharing table k o ns η i)) (born_one sharing table k ns i η w clear) $ done !
           mine_born (Some x) i η w set = full_born L x sharing table k ns i η w set
 
@@ -582,9 +585,16 @@ module _ {M : Type 1} {𝓤 : Ura M} (𝓛 : Logic 𝓤) (R : RattleType) (t : T
     abbrev pub Won : Fml
     Won = won_by d.sharing v id
 
+    -- what the claim needs for that: its pass, and that its value is noted if there is one
+    abbrev pub Noted : Fml
+    Noted = noted_if d.sharing id (left_of R v)
+
+    abbrev pub Ticket : Fml
+    Ticket = fsep (right_owns t.pass id) Noted
+
     -- the block's slots are born under the turn, the claim's for whoever has its pass
     born_block : (p : Ptr) (ν : ℕ) (z : Names) → Lies p z
-        → ⟦ all_unborn R d.sharing d.table t n (first R d) ⟧ ∗ ⟦ idle p ν z ⟧ ∗ ⟦ right_owns t.pass id ⟧
+        → ⟦ all_unborn R d.sharing d.table t n (first R d) ⟧ ∗ ⟦ idle p ν z ⟧ ∗ ⟦ right_owns t.pass id ⟧ ∗ ⟦ Noted ⟧
         ⊢ upd 𝓤 (⟦ fsep (block_stands R d t p (block_as p ν z)) (heap_token τ p) ⟧
         ∗ ⟦ Won ⟧)
     born_block p ν z so =
@@ -597,7 +607,7 @@ module _ {M : Type 1} {𝓤 : Ura M} (𝓛 : Logic 𝓤) (R : RattleType) (t : T
         let Unborn : ℕ → ℕ → Fml = λ m j. all_unborn R d.sharing d.table t m j in
         let from_first : k ≡ 0 + k = omega arith in
         let next : suc id ≡ suc at + k = omega arith in
-        qed 𝓛 (‵ (Unborn n k) ∷ ‵ (idle p ν z) ∷ ‵ (right_owns t.pass id) ∷ []) ∵
+        qed 𝓛 (‵ (Unborn n k) ∷ ‵ (idle p ν z) ∷ ‵ (right_owns t.pass id) ∷ ‵ Noted ∷ []) ∵
         use1 𝓛 (‵ (Unborn at k) ⊛ ‵ (Unborn (suc rest) id)) (unborn_apart d.sharing d.table n at (suc rest) k id many refl) $ split ! $
         move ! (1 ∷ []) $ fsplit ! $
         -- [the claim's slot, unborn; the slots behind, unborn; the slots before, unborn; the block; the pass]
@@ -607,7 +617,7 @@ module _ {M : Type 1} {𝓤 : Ura M} (𝓛 : Logic 𝓤) (R : RattleType) (t : T
         -- [the slots before; the claim's; those behind; the words; the ends; what waits; vacant; filled; the slots behind, unborn;
         -- before, unborn; the pass]
         let N : GName → ℕ → Fml = numbered_slot R t b ν d.sharing d.table k o ns in
-        move ! (6 ∷ 7 ∷ 5 ∷ 10 ∷ 1 ∷ []) $ group ! 5 $
+        move ! (6 ∷ 7 ∷ 5 ∷ 10 ∷ 1 ∷ 11 ∷ []) $ group ! 6 $
         use1 𝓛 (raw (upd 𝓤 (⟦ N z.here at ⟧ ∗ ⟦ Won ⟧)))
         (mine_born b ν o L d.sharing d.table k ns v at z.here w (here_set R v at rest ns are.1)) $
         settle 𝓛 Z (‵ (N z.here at) ⊛ ‵ Won) $ suffices ! _ (upd_i 𝓤 Z) $ split ! $
@@ -650,14 +660,11 @@ module _ {M : Type 1} {𝓤 : Ura M} (𝓛 : Logic 𝓤) (R : RattleType) (t : T
       abbrev Held : Ptr → Fml
       Held p = fsep (cell b o p) (beside_pointer R d t p)
 
-      abbrev Pass : Fml
-      Pass = right_owns t.pass id
-
       abbrev pub won : Ptr → Fml
       won p = fsep (part 𝓛 R d t new (s, right full_share)) Won
 
       abbrev pub lost : Ptr → Fml
-      lost p = fsep (fsep (private new ν z) (glimpse 𝓛 R d t ffalse ftrue p)) Pass
+      lost p = fsep (fsep (private new ν z) (glimpse 𝓛 R d t ffalse ftrue p)) Ticket
 
       abbrev F : Ptr × Bool → SProp 𝓤
       F = Compared 𝓛 t.life q J b o null_ptr new won lost
@@ -670,13 +677,13 @@ module _ {M : Type 1} {𝓤 : Ura M} (𝓛 : Logic 𝓤) (R : RattleType) (t : T
 
       -- what the exchange finds in the pointer
       abbrev Finds : Ptr → Type 1
-      Finds p = ⟦ cell b o p ⟧ ∗ ⟦ beside_pointer R d t p ⟧ ∗ ⟦ private new ν z ⟧ ∗ ⟦ grown d ⟧ ∗ ⟦ Pass ⟧ ⊢ ex 𝓤 F
+      Finds p = ⟦ cell b o p ⟧ ∗ ⟦ beside_pointer R d t p ⟧ ∗ ⟦ private new ν z ⟧ ∗ ⟦ grown d ⟧ ∗ ⟦ Ticket ⟧ ⊢ ex 𝓤 F
 
       -- no block was installed: this one is
       found_none : Finds null_ptr
       found_none = let m = block_code s in let γ : GName = t.which in let G : SProp 𝓤 = ⟦ J ⟧ ∗ ⟦ won null_ptr ⟧ in
           qed 𝓛
-          (‵ (cell b o null_ptr) ∷ ‵ (beside_pointer R d t null_ptr) ∷ ‵ (private new ν z) ∷ ‵ (grown d) ∷ ‵ Pass ∷ []) ∵
+          (‵ (cell b o null_ptr) ∷ ‵ (beside_pointer R d t null_ptr) ∷ ‵ (private new ν z) ∷ ‵ (grown d) ∷ ‵ Ticket ∷ []) ∵
           show ! F (null_ptr, true) $ frame ! $
           use0 𝓛 (‵ (alike null_ptr null_ptr true)) (alike_null 𝓛 null_ptr (lit< tt)) $ frame ! $
           assume ! (‵ (cell b o new)) $ move ! (1 ∷ []) $ fsplit3 ! $ drop ! $
@@ -684,9 +691,9 @@ module _ {M : Type 1} {𝓤 : Ura M} (𝓛 : Logic 𝓤) (R : RattleType) (t : T
           settle 𝓛 G (‵ (fobs γ m) ⊛ ‵ (fauth γ m)) $ split ! $
           -- [what the name says now; its authority; what waits; the pointer; the private block; what it shows; the pass]
           use1 𝓛 (‵ (fres γ m)) (𝓛.names.obs-res γ m) $ move ! (1 ∷ 0 ∷ 5 ∷ []) $ fjoin3 ! $ move ! (3 ∷ []) $ fsplit ! $
-          -- [its own token; the block; settled; what waits; the pointer; the pass]
-          move ! (3 ∷ 1 ∷ 5 ∷ []) $
-          use3 𝓛 (raw (upd 𝓤 (⟦ fsep (block_stands R d t new s) (heap_token τ new) ⟧ ∗ ⟦ Won ⟧))) (born_block new ν z so) $
+          -- [its own token; the block; settled; what waits; the pointer; the ticket]
+          move ! (5 ∷ []) $ fsplit ! $ move ! (5 ∷ 3 ∷ 0 ∷ 1 ∷ []) $ group ! 4 $
+          use1 𝓛 (raw (upd 𝓤 (⟦ fsep (block_stands R d t new s) (heap_token τ new) ⟧ ∗ ⟦ Won ⟧))) (born_block new ν z so) $
           settle 𝓛 G (‵ (fsep (block_stands R d t new s) (heap_token τ new)) ⊛ ‵ Won) $
           suffices ! _ (upd_i 𝓤 G) $ split ! $
           -- [the block; what the claim gets; its own token; settled; the pointer]
@@ -703,7 +710,7 @@ module _ {M : Type 1} {𝓤 : Ura M} (𝓛 : Logic 𝓤) (R : RattleType) (t : T
       found_other : (pb po : ℕ) → Finds (block_ptr pb po)
       found_other pb po =
           let p : Ptr = block_ptr pb po in
-          qed 𝓛 (‵ (cell b o p) ∷ ‵ (beside_pointer R d t p) ∷ ‵ (private new ν z) ∷ ‵ (grown d) ∷ ‵ Pass ∷ []) ∵
+          qed 𝓛 (‵ (cell b o p) ∷ ‵ (beside_pointer R d t p) ∷ ‵ (private new ν z) ∷ ‵ (grown d) ∷ ‵ Ticket ∷ []) ∵
           keep ! (0 ∷ 1 ∷ 2 ∷ 4 ∷ []) $ show ! F (p, false) $ frame ! $ fpick ! (λ y. fsplit ! $ fpick ! (λ h. drop ! $
           nothing ! $ fpack ! ((y.0.at ≡ p) × (length y.0.names ≡ n) × Sized R n p) (λ _. ftrue) h $ fjoin ! $
           use1 𝓛 (‵ (standing R d t p (y.0, left y.1)) ⊛ ‵ (part 𝓛 R d t p (y.0, right y.1)))
@@ -719,10 +726,10 @@ module _ {M : Type 1} {𝓤 : Ura M} (𝓛 : Logic 𝓤) (R : RattleType) (t : T
       found null_ptr = found_none
       found (block_ptr pb po) = found_other pb po
 
-      pub offers : A.inv (fbor t.life J) ∗ (A.lft t.life q ∗ (⟦ private new ν z ⟧ ∗ ⟦ grown d ⟧ ∗ ⟦ Pass ⟧))
+      pub offers : A.inv (fbor t.life J) ∗ (A.lft t.life q ∗ (⟦ private new ν z ⟧ ∗ ⟦ grown d ⟧ ∗ ⟦ Ticket ⟧))
           ⊢ compares 𝓛 (block_ptr b o) null_ptr new (λ p. fsep (flft t.life q) (won p))
           (λ p. fsep (flft t.life q) (lost p))
       offers =
-          opened_to_compare 𝓛 t.life q J b o null_ptr new won lost (⟦ private new ν z ⟧ ∗ ⟦ grown d ⟧ ∗ ⟦ Pass ⟧)
-          (qed 𝓛 (‵ J ∷ ‵ (private new ν z) ∷ ‵ (grown d) ∷ ‵ Pass ∷ []) ∵ suffices ! _ (upd_i 𝓤 (ex 𝓤 F)) $ fpick ! (λ p.
+          opened_to_compare 𝓛 t.life q J b o null_ptr new won lost (⟦ private new ν z ⟧ ∗ ⟦ grown d ⟧ ∗ ⟦ Ticket ⟧)
+          (qed 𝓛 (‵ J ∷ ‵ (private new ν z) ∷ ‵ (grown d) ∷ ‵ Ticket ∷ []) ∵ suffices ! _ (upd_i 𝓤 (ex 𝓤 F)) $ fpick ! (λ p.
           fsplit ! $ by ! (found p)))

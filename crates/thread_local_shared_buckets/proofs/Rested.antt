@@ -33,7 +33,7 @@ use Rattle.thread_local_shared_buckets.specs.Shared.{shared_value, opened, by as
 use Rattle.thread_local_shared_buckets.specs.Shared.{shared_slot, numbered_slot, slots_under, slots_side, all_unborn, due}
 use Rattle.thread_local_shared_buckets.specs.Shared.{rests, slot_rests_as, slot_rests, slots_rest, block_rests}
 use Rattle.thread_local_ids.specs.Told.{untold_in, tells, told_or_untold, all_told_or_untold}
-use Rattle.thread_local_ids.proofs.ToldElements.{told_dup}
+use Rattle.thread_local_ids.proofs.ToldElements.{tells_dup}
 use Rattle.thread_local_shared_buckets.proofs.ClaimTokens.{tokens_from, token_off}
 use Rattle.thread_local_base.proofs.Signs.{signs}
 
@@ -255,7 +255,7 @@ module _ {M : Type 1} {𝓤 : Ura M} (𝓛 : Logic 𝓤) where
             -- [opened; by; the lifetimes; pinned; pinned; the way to the end; the tokens; what is
             -- told]
             move ! (7 ∷ []) $
-            use1 𝓛 (‵ Told ⊛ ‵ Told) (told_dup 𝓛 sharing k (value_code R (Some x))) $ split ! $
+            use1 𝓛 (‵ Told ⊛ ‵ Told) (tells_dup 𝓛 R sharing k (Some x)) $ split ! $
             move ! (5 ∷ 0 ∷ []) $ fjoin ! $ move ! (5 ∷ 1 ∷ []) $ fjoin ! $
             move ! (6 ∷ []) $ fsplit3 ! $
             -- [vacant; filled; pass; published; published; opened; by; the lifetimes; the way to the

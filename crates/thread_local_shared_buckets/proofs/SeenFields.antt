@@ -28,8 +28,8 @@ use Rattle.thread_local_base.specs.Bits.{is_set_in}
 use Rattle.thread_local_base.specs.Judged.{Shareable}
 use Rattle.thread_local_buckets.specs.Slots.{each, value_offset}
 use Rattle.thread_local_ids.specs.Told.{tells}
-use Rattle.thread_local_ids.proofs.ToldElements.{told_dup}
-use Rattle.thread_local_shared_buckets.specs.Shared.{BucketView, first, value_code, if_set, seen_value}
+use Rattle.thread_local_ids.proofs.ToldElements.{tells_dup}
+use Rattle.thread_local_shared_buckets.specs.Shared.{BucketView, first, if_set, seen_value}
 use Rattle.thread_local_shared_buckets.specs.Shared.{seen_slot, WereFlags, seen_as, seen_owns}
 use Rattle.thread_local_shared_buckets.specs.contracts.seen.Seen as Seen
 use Rattle.thread_local_shared_buckets.proofs.ChunkLooks.{each_gives}
@@ -91,7 +91,7 @@ module _ {M : Type 1} {𝓤 : Ura M} (𝓛 : Logic 𝓤) (R : RattleType) (L : L
       qed 𝓛 (‵ Shared ∷ []) ∵ for_each ! (λ (_ : Shareable R). sem 𝓛 Shared) (λ _. done !) in
       let Told : Fml = tells R d.sharing k (Some x) in
       fsplit ! $ fsplit ! $ res_dup ! $ move ! (2 ∷ []) $
-      use1 𝓛 (‵ Told ⊛ ‵ Told) (told_dup 𝓛 d.sharing k (value_code R (Some x))) $ split ! $
+      use1 𝓛 (‵ Told ⊛ ‵ Told) (tells_dup 𝓛 R d.sharing k (Some x)) $ split ! $
       -- [what is told, twice; the pin, twice; opened]
       move ! (2 ∷ 0 ∷ []) $ fjoin ! $ move ! (2 ∷ 1 ∷ []) $ fjoin ! $ move ! (2 ∷ []) $
       use1 𝓛 (‵ Shared) (all_e 𝓤 (λ (_ : Shareable R). sem 𝓛 Shared) j) $

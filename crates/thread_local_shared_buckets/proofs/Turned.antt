@@ -40,7 +40,7 @@ use Rattle.thread_local_shared_buckets.specs.Announcing.{Announcing, BeginsWithF
 use Rattle.thread_local_shared_buckets.specs.contracts.announcements.Announcements as shared_word
 use Rattle.thread_local_shared_buckets.proofs.AnnouncingLaws.{bits_untold, new_rights, rights_new, first_set, none_past, begins}
 use Rattle.thread_local_shared_buckets.specs.Shared.{BucketView, at_rest}
-use Rattle.thread_local_ids.specs.Told.{rows_telling, rows_tell, book_owns}
+use Rattle.thread_local_ids.specs.Told.{rows_telling, rows_tell, book_owns, later_of}
 use Rattle.thread_local_ids.proofs.ToldElements.{source}
 use Rattle.thread_local_ids.proofs.Rows.{none_rows, rows_end, table_whole, rows_drawn}
 use Rattle.thread_local_shared_buckets.specs.contracts.shared_bucket.SharedBucket as shared
@@ -569,7 +569,7 @@ module _ {M : Type 1} {𝓤 : Ura M} (𝓛 : Logic 𝓤) (R : RattleType) (L : L
       use1 𝓛 (‵ (Shown s' y)) (grown_in 𝓛 R s s' refl (s.table == table) refl refl rows) $
       use0 𝓛 (later (‵ new_rights)) (via 𝓤 _ (rights_new 𝓛) (basic 𝓛 _)) $ await ! tt $ move ! (1 ∷ 0 ∷ []) $ fjoin ! $
       move ! (2 ∷ []) $
-      use1 𝓛 (later (‵ (rows_telling R (Some γ) 0 rows)))
+      use1 𝓛 (later (‵ (rows_telling R (Some (later_of γ)) 0 rows)))
       (via 𝓤 _ (rows_drawn 𝓛 R γ 0 rows (table_whole y.contents owned.table)) (basic 𝓛 _)) $
       await ! tt $ move ! (2 ∷ 0 ∷ 1 ∷ []) $
       use3 𝓛 (‵ (Shared.own_val s' vs)) (turns_shared so.0 s' y vs (sym so.1)) $

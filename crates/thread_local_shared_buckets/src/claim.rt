@@ -6,10 +6,11 @@ ghost use Rattle.thread_local_base.specs.Learnt.{Unknown, Missing, Vacant, Holdi
 ghost use Rattle.thread_local_base.specs.Place.{IsPlaceOf};
 ghost use Rattle.thread_local_buckets.specs.Slots.{empty_slots, slot_value, flag_word_at};
 ghost use Rattle.thread_local_shared_buckets.specs.Announcing.{BeginsWithFirst};
-ghost use Rattle.thread_local_shared_buckets.specs.Known.{HasLooked, found_as, state_of};
+ghost use Rattle.thread_local_ids.specs.Sharings.{Belongs, is_first, left_of};
+ghost use Rattle.thread_local_shared_buckets.specs.Known.{HasLooked, value_held};
 ghost use Rattle.thread_local_shared_buckets.specs.Room.{IsEmpty, HasRoom, IsFilledBy};
 
-use crate::claimed::{ClaimedSlot, HOLDING, MISSING, VACANT};
+use crate::claimed::{ClaimedSlot, HOLDING, MISSING};
 use crate::{Announcements, SharedBucket};
 use std::alloc::{AllocError, Global};
 use std::marker::Model;
@@ -35,8 +36,9 @@ pub struct Claim<'a, T> {
 }
 
 impl<'a, T> Model for Claim<'a, T> {
-    ghost use Rattle.std.specs.Prelude.{◌≡◌, ◌<◌};
+    ghost use Rattle.std.specs.Prelude.{◌≡◌, ◌<◌, true};
     ghost use Rattle.thread_local_base.specs.Place.{index_of};
+    ghost use Rattle.thread_local_ids.specs.Sharings.{Belongs};
     ghost use Rattle.thread_local_shared_buckets.specs.Announcing.{BeginsWithFirst};
     ghost use Rattle.thread_local_shared_buckets.specs.Known.{HasLooked};
     ghost use Rattle.thread_local_shared_buckets.specs.Views.{ClaimView, claim_view_coded};
@@ -59,6 +61,8 @@ impl<'a, T> Model for Claim<'a, T> {
         × (c.slot.index ≡ index_of c.held.id)
         × HasLooked c.slot.learnt
         × (c.held.mark.table ≡ c.slot.table)
+        × (c.held.mark.told ≡ true)
+        × Belongs c.slot.sharing c.slot.table
         × (c.slot.word ≡ c.announcements.now)
         × BeginsWithFirst c.announcements.now
         × (c.reached.table ≡ c.slot.table)
@@ -80,6 +84,8 @@ impl<'a, T> Claim<'a, T> {
     ) -> Claim<'a, T>
         requires word { (bucket.now.word ≡ announcements.now) × BeginsWithFirst announcements.now }
         requires table { (right.table ≡ bucket.now.table) × (held.mark.table ≡ bucket.now.table) }
+        requires told { held.mark.told ≡ true }
+        requires sharing { Belongs bucket.now.sharing bucket.now.table }
         requires id { right.id ≡ held.id }
         requires place { IsPlaceOf thread.bucket thread.index held.id }
         requires bucket { bucket.now.bucket ≡ thread.bucket }
@@ -91,9 +97,13 @@ impl<'a, T> Claim<'a, T> {
         ensures learnt { HasLooked result.learnt }
         ensures reserved { (result.reserved ≡ bucket.now.reserved)
             × (result.reserved ≡ true → result.learnt ≢ Missing) }
+        ensures left { is_first result.sharing result.table ≡ true
+            → held.mark.left ≡ left_of T.row (value_held result.learnt) }
     {
         let mut slot = ClaimedSlot::hold(bucket, thread.index, right);
         slot.find(thread.index, flag_word_of::<T>(thread));
+        let mut held = held;
+        slot.notes(&mut held.mark);
         Claim {
             slot,
             held,
@@ -224,8 +234,7 @@ impl<'a, T> Claim<'a, T> {
     }
 
     /// Installs a block without a value, for a bucket that was missing. The bucket is announced
-    /// before. Where another block was installed first, that one stays, and this block is freed. It
-    /// is never inlined, so that the way of who publishes is short.
+    /// before. It is never inlined, so that the way of who publishes is short.
     #[cold]
     #[inline(never)]
     fn install_empty(&mut self, alloc: &Global, thread: Thread, block: Block<T, Global>)
@@ -240,41 +249,10 @@ impl<'a, T> Claim<'a, T> {
         ensures learnt { self.new.learnt ≡ Vacant }
         ensures reserved { self.new.reserved ≡ self.old.reserved }
     {
-        let back = self.install(thread, block, VACANT);
-        if let Some(block) = back {
-            block.release(alloc, bucket_size(thread.bucket));
-        }
-    }
-
-    /// Announces a bucket that was missing, and offers a block for it, of whose slots only the claim's
-    /// may have a value. `state` is the number of what a look at that slot finds. Where another block
-    /// was installed first, this one comes back.
-    #[inline(always)]
-    fn install(
-        &mut self,
-        thread: Thread,
-        block: Block<T, Global>,
-        state: u64,
-    ) -> Option<Block<T, Global>>
-        requires missing { self.old.learnt ≡ Missing }
-        requires place { IsPlaceOf thread.bucket thread.index self.old.id }
-        requires left { block.left ≡ 0 }
-        requires others { slice_set block.slots thread.index None ≡ empty_slots (2 ^ thread.bucket) }
-        requires state { state ≡ state_of (found_as (slot_value block.slots thread.index)) }
-        ensures same_slot { (self.new.table ≡ self.old.table)
-            × (self.new.sharing ≡ self.old.sharing)
-            × (self.new.id ≡ self.old.id) }
-        ensures learnt { MatchOption result
-            (self.new.learnt ≡ found_as (slot_value block.slots thread.index))
-            (λ _. self.new.learnt ≡ Vacant) }
-        ensures back { IfSome result (λ back.
-            (back.heap ≡ block.heap) × (back.slots ≡ block.slots) × (back.left ≡ 0)) }
-        ensures reserved { self.new.reserved ≡ self.old.reserved }
-    {
         let announced = self.announcements.announce(thread.bucket);
         let reached = &self.reached;
         self.slot
-            .exchange(thread.index, block, reached, announced, state)
+            .install_empty(alloc, thread, block, reached, announced);
     }
 
     /// Publishes a value in a slot that is empty, for which a missing bucket is made. Where memory is
@@ -375,11 +353,15 @@ impl<'a, T> Claim<'a, T> {
         let Some(block) = block else {
             return self.publish_standing(thread, value);
         };
+        let held = &mut self.held;
+        let noted = self.slot.note(held, &value);
         let block = filled(block, alloc, thread, value);
-        let back = self.install(thread, block, HOLDING);
-        if let Some(block) = back {
-            self.publish_second(alloc, thread, block);
-        }
+        let announced = self.announcements.announce(thread.bucket);
+        let reached = &self.reached;
+        self.slot
+            .install(alloc, thread, block, reached, announced, noted);
+        let held = &mut self.held;
+        self.slot.told(held);
     }
 
     /// `publish`, which is never inlined, so that the way of who installs a block is short.
@@ -394,33 +376,12 @@ impl<'a, T> Claim<'a, T> {
         ensures learnt { self.new.learnt ≡ Holding value }
         ensures reserved { self.new.reserved ≡ self.old.reserved }
     {
-        self.slot
-            .publish(thread.index, flag_word_of::<T>(thread), value);
-    }
-
-    /// Publishes the value of a block where another block was installed first, and frees that block.
-    /// It is never inlined, so that the way of the first is short.
-    #[cold]
-    #[inline(never)]
-    fn publish_second(&mut self, alloc: &Global, thread: Thread, block: Block<T, Global>)
-        requires vacant { self.old.learnt ≡ Vacant }
-        requires place { IsPlaceOf thread.bucket thread.index self.old.id }
-        requires block { (block.heap ≡ alloc.now) × (block.left ≡ 0) }
-        requires others { slice_set block.slots thread.index None ≡ empty_slots (2 ^ thread.bucket) }
-        requires value { IsSome (slot_value block.slots thread.index) }
-        ensures same_slot { (self.new.table ≡ self.old.table)
-            × (self.new.sharing ≡ self.old.sharing)
-            × (self.new.id ≡ self.old.id) }
-        ensures learnt { IfSome (slot_value block.slots thread.index) (λ value. self.new.learnt ≡ Holding value) }
-        ensures reserved { self.new.reserved ≡ self.old.reserved }
-    {
-        let (value, block) = emptied(block, alloc, thread);
-        block.release(alloc, bucket_size(thread.bucket));
         self.publish(thread, value);
     }
 
     /// Publishes a value in a vacant slot: the value is written, and then the flag is set, by one
     /// atomic addition that never has to be tried again.
+    #[inline]
     pub fn publish(&mut self, thread: Thread, value: T)
         requires vacant { self.old.learnt ≡ Vacant }
         requires place { IsPlaceOf thread.bucket thread.index self.old.id }
@@ -430,8 +391,12 @@ impl<'a, T> Claim<'a, T> {
         ensures learnt { learnt_by_publish self.old.learnt value ≡ Some self.new.learnt }
         ensures reserved { self.new.reserved ≡ self.old.reserved }
     {
+        let held = &mut self.held;
+        let noted = self.slot.note(held, &value);
         self.slot
-            .publish(thread.index, flag_word_of::<T>(thread), value);
+            .publish(thread.index, flag_word_of::<T>(thread), value, noted);
+        let held = &mut self.held;
+        self.slot.told(held);
     }
 
     /// The id whose slot it is.
@@ -490,10 +455,14 @@ impl<'a, T> Claim<'a, T> {
         self.slot.agrees(token.witness());
     }
 
-    /// Gives the claim up, and returns the held id with its right.
+    /// Gives the claim up, and returns the held id with its right. The id's note says what the slot is
+    /// left with.
     pub fn give_up(self) -> (HeldId, Right)
         ensures table { (result.1.table ≡ self.entry.table) × (result.0.mark.table ≡ self.entry.table) }
         ensures id { (result.0.id ≡ self.entry.id) × (result.1.id ≡ self.entry.id) }
+        ensures told { result.0.mark.told ≡ true }
+        ensures left { is_first self.entry.sharing self.entry.table ≡ true
+            → result.0.mark.left ≡ left_of T.row (value_held self.entry.learnt) }
     {
         let Self {
             slot,
@@ -501,6 +470,9 @@ impl<'a, T> Claim<'a, T> {
             announcements: _,
             reached: _,
         } = self;
+        let mut slot = slot;
+        let mut held = held;
+        slot.notes(&mut held.mark);
         (held, slot.give_up())
     }
 
@@ -539,7 +511,7 @@ impl<'a, T: Sync> Claim<'a, T> {
 
 /// The number of the word that has the flag of the slot at a place.
 #[inline]
-fn flag_word_of<T>(thread: Thread) -> usize
+pub(crate) fn flag_word_of<T>(thread: Thread) -> usize
     ensures { result ≡ flag_word_at T.row (2 ^ thread.bucket) (thread.index / 64) }
 {
     flag_word_at::<T>(bucket_size(thread.bucket), thread.index / 64)
@@ -561,7 +533,11 @@ fn filled<T>(block: Block<T, Global>, alloc: &Global, thread: Thread, value: T) 
 
 /// Moves the value of a place's slot out of such a block.
 #[inline]
-fn emptied<T>(block: Block<T, Global>, alloc: &Global, thread: Thread) -> (T, Block<T, Global>)
+pub(crate) fn emptied<T>(
+    block: Block<T, Global>,
+    alloc: &Global,
+    thread: Thread,
+) -> (T, Block<T, Global>)
     requires left { block.left ≡ 0 }
     requires others { slice_set block.slots thread.index None ≡ empty_slots (2 ^ thread.bucket) }
     requires published { IsSome (slot_value block.slots thread.index) }

@@ -1,11 +1,12 @@
 //! A claimed slot as it is stored: it points to the bucket's pointer until the bucket is found, and
 //! to the slot's value from then on.
-ghost use Rattle.std.specs.Prelude.{◌≡◌, ◌≢◌, ◌<◌, ◌^◌, ◌⊎◌, ℕ, Bool, true, Option, is_some};
+ghost use Rattle.std.specs.Prelude.{◌≡◌, ◌≢◌, ◌<◌, ◌^◌, ◌⊎◌, ℕ, Bool, true, Option, Some, is_some};
 ghost use base.Stored.{coded_bool};
 ghost use Rattle.std.specs.Coded.{coded_option, coded_ℕ};
 ghost use denote.RawPtr.{Ptr, coded_ptr};
 ghost use Rattle.thread_local_base.specs.Learnt.{Learnt, learnt_coded, Unknown, Missing, Vacant, Holding, Finds};
 ghost use Rattle.thread_local_base.specs.Place.{id_at};
+ghost use Rattle.thread_local_ids.specs.Sharings.{left_of};
 ghost use Rattle.thread_local_shared_buckets.specs.Announcing.{Announcing, announcing_coded};
 ghost use Rattle.thread_local_shared_buckets.specs.Known.{HasLooked, MayLook, state_of, value_held};
 ghost use Rattle.thread_local_shared_buckets.specs.Claims.{flag_word_of, claim_fields, claim_owns, claim_shares};
@@ -16,9 +17,10 @@ use std::mem::size_of;
 use std::sync::atomic::Ordering::SeqCst;
 use std::sync::atomic::raw;
 use std::sync::atomic::raw::ptr;
-use thread_local_ids::Right;
+use thread_local_ids::{Noted, Right};
 
-// `exchange` stands in `install`, `witness` and `agrees` in `told`.
+// `exchange` and what installs a block by it stand in `install`, `witness`, `agrees` and `notes` in
+// `told`.
 mod give_up;
 mod install;
 mod lasting;
@@ -131,12 +133,16 @@ impl<'a, T> ClaimedSlot<'a, T> {
 
     /// Publishes a value in a vacant slot: the value is written, and then the flag is set, by one
     /// atomic addition to the word `flag_word` of the block. The flag is unset, so the addition
-    /// changes no other bit, whatever others publish in the same word.
+    /// changes no other bit, whatever others publish in the same word. It is noted before what is
+    /// published.
     #[inline]
-    pub(crate) fn publish(&mut self, index: usize, flag_word: usize, value: T)
+    pub(crate) fn publish(&mut self, index: usize, flag_word: usize, value: T, noted: Noted)
         requires vacant { self.old.learnt ≡ Vacant }
         requires index { index ≡ self.old.index }
         requires flag_word { flag_word ≡ flag_word_of T.row self.old.id }
+        requires noted { (noted.sharing ≡ self.old.sharing)
+            × (noted.id ≡ self.old.id)
+            × (noted.value ≡ left_of T.row (Some value)) }
         ensures same_slot { (self.new.table ≡ self.old.table)
             × (self.new.sharing ≡ self.old.sharing)
             × (self.new.word ≡ self.old.word)

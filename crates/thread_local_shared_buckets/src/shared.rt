@@ -1,13 +1,15 @@
 //! A table's buckets while threads share them through a `&`. By value or through a `&mut` they are
 //! an owner's `Buckets` again.
-ghost use Rattle.std.specs.Prelude.{◌≡◌, ◌≢◌, ◌+◌, ◌-◌, ◌*◌, ◌^◌, ◌<◌, ◌≤◌, ℕ, max, length, true, Option, IsSome, All};
+ghost use Rattle.std.specs.Prelude.{◌≡◌, ◌≢◌, ◌+◌, ◌-◌, ◌*◌, ◌^◌, ◌<◌, ◌≤◌, ℕ, max, length, true, false, Option, None, Some, IsSome, All};
 ghost use Rattle.std.specs.List.{AllPairs};
 ghost use Rattle.thread_local_base.specs.Learnt.{Unknown, Missing, Finds};
 ghost use Rattle.thread_local_base.specs.Owned.{IsOwned, AreOfFirstBuckets};
 ghost use Rattle.thread_local_base.specs.Place.{bucket_of, id_at};
 ghost use Rattle.thread_local_base.specs.Judged.{Judged};
+ghost use Rattle.thread_local_ids.specs.Sharings.{Belongs, first_of, is_first, left_of};
+ghost use Rattle.thread_local_base.specs.Buckets.{values};
 ghost use Rattle.thread_local_ids.specs.TokenLists.{AllOf};
-ghost use Rattle.thread_local_shared_buckets.specs.Known.{HasLooked};
+ghost use Rattle.thread_local_shared_buckets.specs.Known.{HasLooked, value_held};
 ghost use Rattle.thread_local_shared_buckets.specs.Grown.{only_reserved};
 ghost use Rattle.thread_local_shared_buckets.specs.TableView.{TableView, table_view_coded, IsBucketOf};
 ghost use Rattle.thread_local_shared_buckets.specs.Parts.{parts_own, parts_share};
@@ -15,10 +17,12 @@ ghost use Rattle.thread_local_shared_buckets.specs.Parts.{parts_own, parts_share
 use crate::announcements::load_announced;
 use crate::parts::SharedParts;
 use crate::{Claim, SharedBucket};
+use std::alloc::Global;
 use std::marker::{Move, Owns, PhantomData};
+use std::mem::replace;
 use thread_local_base::Thread;
-use thread_local_buckets::{BucketPointers, take_first_bucket};
-use thread_local_ids::{Book, HeldId, Reached, Right, Told};
+use thread_local_buckets::{BucketPointers, Buckets, take_first_bucket};
+use thread_local_ids::{Book, HeldId, Reached, Right, SlotRights, Told};
 
 mod lends;
 
@@ -53,11 +57,33 @@ impl<T> Shared<T> {
         requires judged { Judged T.row }
         requires owned { IsOwned (record { contents = pointers; reserved = reserved }) }
         ensures table { result.table ≡ own.now.table }
-        ensures sharing { IsSome result.sharing }
+        ensures sharing { IsSome result.sharing × Belongs result.sharing result.table }
         ensures reserved { result.reserved ≡ reserved }
         ensures grown { result.grown_by_ids ≡ only_reserved (record { contents = pointers; reserved = reserved }) }
     {
         let _ = own;
+        Shared { pointers, reserved }
+    }
+
+    /// `new` where no slot has a value, in the first sharing of the table: its history of ids says what
+    /// each slot is published with.
+    pub fn first(
+        pointers: BucketPointers<T>,
+        reserved: usize,
+        own: &Right,
+        slots: SlotRights,
+    ) -> Shared<T>
+        requires judged { Judged T.row }
+        requires owned { IsOwned (record { contents = pointers; reserved = reserved }) }
+        requires blank { (id : ℕ) → values pointers id ≡ None }
+        requires table { slots.table ≡ own.now.table }
+        ensures table { result.table ≡ own.now.table }
+        ensures sharing { result.sharing ≡ Some (first_of result.table) }
+        ensures reserved { result.reserved ≡ reserved }
+        ensures grown { result.grown_by_ids ≡ only_reserved (record { contents = pointers; reserved = reserved }) }
+    {
+        let _ = own;
+        let _ = slots;
         Shared { pointers, reserved }
     }
 
@@ -68,6 +94,8 @@ impl<T> Shared<T> {
         requires judged { Judged T.row }
         ensures table { self.new.table ≡ own.now.table }
         ensures sharing { IsSome self.new.sharing × (self.new.sharing ≢ past) }
+        ensures belongs { Belongs self.new.sharing self.new.table }
+        ensures later { is_first self.new.sharing self.new.table ≡ false }
         ensures reserved { self.new.reserved ≡ self.old.reserved }
         ensures grown { self.old.table ≡ own.now.table → self.new.grown_by_ids ≡ self.old.grown_by_ids }
     {
@@ -75,22 +103,27 @@ impl<T> Shared<T> {
     }
 
     /// Drops every value, and frees every bucket that isn't reserved. From then on the buckets are
-    /// those of the table that the right belongs to, in a sharing with a name other than `past`.
-    pub fn clear(&mut self, own: &Right)
+    /// those of the table that the right belongs to, in its first sharing.
+    pub fn clear(&mut self, alloc: Global, own: &Right, slots: SlotRights)
     where
         T: Drop,
-        ghost past: { Option ℕ }
+        requires table { slots.table ≡ own.now.table }
         ensures table { self.new.table ≡ own.now.table }
-        ensures sharing { IsSome self.new.sharing × (self.new.sharing ≢ past) }
+        ensures sharing { self.new.sharing ≡ Some (first_of self.new.table) }
         ensures reserved { self.new.reserved ≡ self.old.reserved }
         ensures grown { self.new.grown_by_ids ≡ true }
     {
         self.judged();
-        // The loan's end shows of the table that has the buckets then that reserved ones alone are
-        // left. So it is the new table already.
-        self.renew(own);
-        self.owner().clear();
-        self.renew(own);
+        let (none, no_slots) = Buckets::new(alloc).into_parts();
+        let (pointers, reserved, book) = replace(
+            self,
+            Shared::new(none, no_slots, own),
+        ).into_parts();
+        drop(book);
+        let mut buckets = Buckets::from_parts(pointers, reserved);
+        buckets.clear();
+        let (pointers, reserved) = buckets.into_parts();
+        *self = Shared::first(pointers, reserved, own, slots);
     }
 
     /// Gives the pointers and the number of reserved slots back to an owner, with all that was lent
@@ -128,6 +161,8 @@ impl<T> Shared<T> {
     /// The bucket of a reserved slot is never missing. All ids up to this one were held at once.
     pub fn claim(&self, held: HeldId, right: Right, reached: Reached) -> Claim<'_, T>
         requires table { (right.table ≡ self.now.table) × (held.mark.table ≡ self.now.table) }
+        requires told { held.mark.told ≡ true }
+        requires sharing { Belongs self.now.sharing self.now.table }
         requires id { right.id ≡ held.id }
         requires reached { (reached.table ≡ self.now.table) × (held.id < reached.ids) }
         ensures same_slot { (result.table ≡ self.now.table)
@@ -136,6 +171,8 @@ impl<T> Shared<T> {
         ensures found { Finds Unknown result.learnt }
         ensures learnt { HasLooked result.learnt }
         ensures reserved { id_at (bucket_of held.id) 0 < self.now.reserved → result.learnt ≢ Missing }
+        ensures left { is_first self.now.sharing self.now.table ≡ true
+            → held.mark.left ≡ left_of T.row (value_held result.learnt) }
     {
         let thread = Thread::new(held.id);
         let pointers = &self.parts().pointers;

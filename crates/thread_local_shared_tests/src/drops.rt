@@ -1,5 +1,6 @@
 //! Each value is dropped once, and a claim is forgotten.
-ghost use Rattle.std.specs.Prelude.{◌≡◌, ◌<◌};
+ghost use Rattle.std.specs.Prelude.{◌≡◌, ◌<◌, true};
+ghost use Rattle.thread_local_ids.specs.Sharings.{Belongs};
 
 use crate::same::assert_same;
 use crate::steps::{Kept, Table, first_three, look, publish, share, take_back};
@@ -18,7 +19,7 @@ use thread_local_test_helpers::counted::Counted;
 #[test]
 fn each_value_is_dropped_once(rt: HostRuntime) -> Result<(), Fail> {
     let drops = Arc::new(rt.alloc(), AtomicU64::new(0))?;
-    let mut rights = Rights::new();
+    let (mut rights, _) = Rights::new();
     let mut buckets = Buckets::new(rt.alloc());
     for id in 0..100 {
         let value = Counted::new(&drops)?;
@@ -42,7 +43,8 @@ fn publish_counted<R: Wait>(
     drops: &Arc<AtomicU64, Global>,
     count: u64,
 ) -> u64
-    requires { table.now.ids.table ≡ shared.now.table }
+    requires table { table.now.ids.table ≡ shared.now.table }
+    requires sharing { Belongs shared.now.sharing shared.now.table }
 {
     let mut published = 0u64;
     for _ in 0..count {
@@ -87,6 +89,8 @@ fn each_published_value_is_dropped_once(rt: HostRuntime) -> Result<(), Fail> {
 /// What a new claim holds, which is forgotten then.
 fn found_and_forgotten(shared: &Shared<u32>, held: (HeldId, Right, Reached)) -> Option<u32>
     requires table { (held.1.table ≡ shared.now.table) × (held.0.mark.table ≡ shared.now.table) }
+    requires told { held.0.mark.told ≡ true }
+    requires sharing { Belongs shared.now.sharing shared.now.table }
     requires id { held.1.id ≡ held.0.id }
     requires reached { (held.2.table ≡ shared.now.table) × (held.0.id < held.2.ids) }
 {
@@ -106,7 +110,8 @@ fn forget_two<R: Wait>(
     rt: &R,
     alloc: Global,
 ) -> Result<([Option<u32>; 2], bool), LocalError>
-    requires { table.now.ids.table ≡ shared.now.table }
+    requires table { table.now.ids.table ≡ shared.now.table }
+    requires sharing { Belongs shared.now.sharing shared.now.table }
 {
     let found = [
         found_and_forgotten(shared, table.take_id(rt)?),

@@ -1,7 +1,8 @@
 //! Values are handed on, from thread to thread and back out of the buckets.
-ghost use Rattle.std.specs.Prelude.{◌≡◌, ◌-◌, ◌^◌, ◌<◌};
+ghost use Rattle.std.specs.Prelude.{◌≡◌, ◌-◌, ◌^◌, ◌<◌, true};
 ghost use Rattle.thread_local_base.specs.Judged.{Judged};
 ghost use Rattle.thread_local_ids.specs.Taken.{IsHeldIn};
+ghost use Rattle.thread_local_ids.specs.Sharings.{Belongs};
 
 use crate::same::assert_same;
 use crate::steps::{Table, look, publish, share, take_back};
@@ -23,9 +24,11 @@ fn add(
     tenure: &Tenure,
     more: u64,
 ) -> ((HeldId, Right), Option<u64>)
-    requires { IsHeldIn shared.now.table (held.0, held.1, tenure.now) }
+    requires held { IsHeldIn shared.now.table (held.0, held.1, tenure.now) }
+    requires sharing { Belongs shared.now.sharing shared.now.table }
     ensures table { (result.0.1.table ≡ shared.now.table) × (result.0.0.mark.table ≡ shared.now.table) }
     ensures id { (result.0.0.id ≡ held.0.id) × (result.0.1.id ≡ held.0.id) }
+    ensures told { result.0.0.mark.told ≡ true }
 {
     let claim = shared.claim(held.0, held.1, tenure.reached());
     let found = match claim.get() {
@@ -46,6 +49,8 @@ fn look_while_claimed<R: Threads>(
     held: (HeldId, Right, Reached),
 ) -> (Option<u32>, Option<u32>)
     requires table { (held.1.table ≡ shared.now.table) × (held.0.mark.table ≡ shared.now.table) }
+    requires told { held.0.mark.told ≡ true }
+    requires sharing { Belongs shared.now.sharing shared.now.table }
     requires id { held.1.id ≡ held.0.id }
     requires reached { (held.2.table ≡ shared.now.table) × (held.0.id < held.2.ids) }
     requires in_range { held.0.id < 2 ^ 63 - 1 }

@@ -2,6 +2,7 @@
 ghost use Rattle.std.specs.Prelude.{◌≡◌, ◌<◌, ◌^◌};
 ghost use Rattle.thread_local_buckets.specs.Slots.{empty_slots};
 ghost use Rattle.thread_local_ids.specs.Taken.{IsHeldIn};
+ghost use Rattle.thread_local_ids.specs.Sharings.{Belongs};
 ghost use Rattle.thread_local_base.specs.Place.{bucket_of};
 
 use crate::same::assert_same;
@@ -51,7 +52,8 @@ impl<'a, T: Drop> Kept<'a, T> {
 
 /// Claims an id that was taken.
 fn claim_early<T>(shared: &Shared<T>, taken: Taken) -> Kept<'_, T>
-    requires { IsHeldIn shared.now.table taken }
+    requires taken { IsHeldIn shared.now.table taken }
+    requires sharing { Belongs shared.now.sharing shared.now.table }
 {
     let (held, right, tenure) = taken;
     Kept {
@@ -68,7 +70,8 @@ fn offer_by_all<R: Wait>(
     alloc: &Global,
     count: u64,
 ) -> u64
-    requires { table.now.ids.table ≡ shared.now.table }
+    requires table { table.now.ids.table ≡ shared.now.table }
+    requires sharing { Belongs shared.now.sharing shared.now.table }
 {
     let mut offered = 0u64;
     let Ok(heap) = alloc.clone() else {

@@ -14,6 +14,8 @@ mod installs;
 #[cfg(test)]
 mod looks;
 #[cfg(test)]
+mod notes;
+#[cfg(test)]
 mod races;
 #[cfg(test)]
 mod same;

@@ -1,29 +1,28 @@
 //! Threads race to install buckets and to publish.
-ghost use Rattle.std.specs.Prelude.{◌≡◌};
+ghost use Rattle.std.specs.Prelude.{◌≡◌, Some};
+ghost use Rattle.thread_local_ids.specs.Sharings.{first_of};
 
 use crate::same::assert_same;
-use crate::steps::{Table, publish, share, take_back};
+use crate::steps::{Table, begun, publish, take_back};
 use std::alloc::Global;
 use std::sync::Wait;
 use std::test::Fail;
 use std::thread;
 use std::thread::Threads;
-use thread_local_buckets::Buckets;
 use thread_local_shared_buckets::Shared;
 
-/// Shared buckets, and their ids.
+/// Shared buckets in the first sharing of a table, and its ids.
 #[derive(Drop)]
 struct Racing {
     shared: Shared<usize>,
     table: Table,
-    ghost tied: { table.ids.table ≡ shared.table },
+    ghost tied: { (table.ids.table ≡ shared.table) × (shared.sharing ≡ Some (first_of shared.table)) },
 }
 
 impl Racing {
     /// Empty buckets, and no id held.
     fn new(alloc: Global) -> Racing {
-        let table = Table::new(alloc);
-        let shared = share(Buckets::new(alloc), &table.right);
+        let (table, shared) = begun(alloc);
         Racing { shared, table }
     }
 

@@ -1,7 +1,8 @@
 //! What a test does with one id of a table.
-ghost use Rattle.std.specs.Prelude.{◌≡◌, ◌-◌, ◌^◌, ◌<◌, IfOk, IsSome};
+ghost use Rattle.std.specs.Prelude.{◌≡◌, ◌-◌, ◌^◌, ◌<◌, IfOk, IsSome, Some, true};
 ghost use Rattle.thread_local_base.specs.Judged.{Judged};
 ghost use Rattle.thread_local_ids.specs.Taken.{IsHeldIn};
+ghost use Rattle.thread_local_ids.specs.Sharings.{Belongs, IsFirst, first_of};
 ghost use Rattle.thread_local_base.specs.Bits.{is_set};
 
 use std::alloc::Global;
@@ -9,7 +10,7 @@ use std::sync::Wait;
 use thread_local_base::{LocalError, Thread, bucket_size};
 use thread_local_buckets::{Buckets, flag_word_at};
 use thread_local_ids::{
-    Book, HeldId, Page, Reached, Right, Room, SharedIds, Taken, Tenure, TokenList,
+    Book, HeldId, Page, Reached, Right, Room, SharedIds, SlotRights, Taken, Tenure, TokenList,
 };
 use thread_local_shared_buckets::{Claim, Shared};
 
@@ -26,13 +27,54 @@ pub struct Table {
 impl Table {
     /// None of the ids is held.
     pub fn new(alloc: Global) -> Table {
-        let (ids, right, start, room) = SharedIds::new(alloc);
-        Table {
+        Table::with_slots(alloc).0
+    }
+
+    /// The same, with the rights to the slots.
+    pub fn with_slots(alloc: Global) -> (Table, SlotRights)
+        ensures { result.1.table ≡ result.0.ids.table }
+    {
+        let (ids, right, start, room, slots) = SharedIds::new(alloc);
+        let table = Table {
             ids,
             right,
             start,
             room,
-        }
+        };
+        (table, slots)
+    }
+
+    /// Takes every id back, and answers what is another table from then on, with the rights to its slots.
+    pub fn cleared(self) -> (Table, SlotRights)
+        ensures { result.1.table ≡ result.0.ids.table }
+    {
+        let Self {
+            mut ids,
+            right: _,
+            start: _,
+            room: _,
+        } = self;
+        let (right, start, room, slots) = ids.clear();
+        let table = Table {
+            ids,
+            right,
+            start,
+            room,
+        };
+        (table, slots)
+    }
+
+    /// The ids alone.
+    pub fn into_ids(self) -> SharedIds
+        ensures { result ≡ self.ids }
+    {
+        let Self {
+            ids,
+            right: _,
+            start: _,
+            room: _,
+        } = self;
+        ids
     }
 
     /// Takes an id that isn't given back.
@@ -45,7 +87,7 @@ impl Table {
     /// The same without its tenure, but with what that says of the ids up to its own.
     pub fn take_id<R: Wait>(&self, rt: &R) -> Result<(HeldId, Right, Reached), LocalError>
         ensures right { IfOk result (λ taken. (taken.1.table ≡ self.now.ids.table) × (taken.1.id ≡ taken.0.id)) }
-        ensures mark { IfOk result (λ taken. taken.0.mark.table ≡ self.now.ids.table) }
+        ensures mark { IfOk result (λ taken. (taken.0.mark.table ≡ self.now.ids.table) × (taken.0.mark.told ≡ true)) }
         ensures reached { IfOk result (λ taken. (taken.2.table ≡ self.now.ids.table) × (taken.0.id < taken.2.ids)) }
     {
         let (held, right, tenure) = self.take(rt)?;
@@ -53,11 +95,26 @@ impl Table {
     }
 }
 
+/// A new table whose buckets have no value, in its first sharing.
+pub fn begun<T>(alloc: Global) -> (Table, Shared<T>)
+    requires judged { Judged T.row }
+    ensures table { result.1.table ≡ result.0.ids.table }
+    ensures sharing { result.1.sharing ≡ Some (first_of result.1.table) }
+    ensures first { IsFirst result.1.sharing result.1.table }
+    ensures belongs { Belongs result.1.sharing result.1.table }
+{
+    let (table, slots) = Table::with_slots(alloc);
+    let (pointers, reserved) = Buckets::new(alloc).into_parts();
+    let shared = Shared::first(pointers, reserved, &table.right, slots);
+    (table, shared)
+}
+
 /// Lets threads share an owner's buckets. The sharing may have any name.
 pub fn share<T>(buckets: Buckets<T>, own: &Right) -> Shared<T>
     requires judged { Judged T.row }
     ensures table { result.table ≡ own.now.table }
     ensures sharing { IsSome result.sharing }
+    ensures belongs { Belongs result.sharing result.table }
     ensures reserved { result.reserved ≡ buckets.reserved }
 {
     let (pointers, reserved) = buckets.into_parts();
@@ -105,9 +162,11 @@ pub fn publish<T: Drop>(
     alloc: Global,
     value: T,
 ) -> ((HeldId, Right), bool)
-    requires { IsHeldIn shared.now.table (held.0, held.1, tenure.now) }
+    requires held { IsHeldIn shared.now.table (held.0, held.1, tenure.now) }
+    requires sharing { Belongs shared.now.sharing shared.now.table }
     ensures table { (result.0.1.table ≡ shared.now.table) × (result.0.0.mark.table ≡ shared.now.table) }
     ensures id { (result.0.0.id ≡ held.0.id) × (result.0.1.id ≡ held.0.id) }
+    ensures told { result.0.0.mark.told ≡ true }
 {
     let mut claim = shared.claim(held.0, held.1, tenure.reached());
     if claim.get().is_some() {
@@ -122,6 +181,7 @@ pub fn publish_claimed<T: Drop>(claim: Claim<'_, T>, value: T) -> ((HeldId, Righ
     ensures table { (result.0.1.table ≡ claim.entry.table)
         × (result.0.0.mark.table ≡ claim.entry.table) }
     ensures id { (result.0.0.id ≡ claim.entry.id) × (result.0.1.id ≡ claim.entry.id) }
+    ensures told { result.0.0.mark.told ≡ true }
 {
     let mut claim = claim;
     if claim.is_missing() || claim.get().is_some() {

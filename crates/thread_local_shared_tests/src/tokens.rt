@@ -1,6 +1,7 @@
 //! What slots were published with, as tokens say it: to claims, to walkers and to an owner.
-ghost use Rattle.std.specs.Prelude.{◌≡◌, ◌≢◌, ◌-◌, ◌<◌, Some, IfSome, IsSome};
+ghost use Rattle.std.specs.Prelude.{◌≡◌, ◌≢◌, ◌-◌, ◌<◌, Some, IfSome, IsSome, true};
 ghost use Rattle.thread_local_ids.specs.Taken.{IsHeldIn};
+ghost use Rattle.thread_local_ids.specs.Sharings.{Belongs};
 ghost use Rattle.thread_local_base.specs.Buckets.{values};
 ghost use Rattle.thread_local_base.specs.Learnt.{Vacant};
 
@@ -22,9 +23,11 @@ fn told<T: Drop>(
     alloc: Global,
     value: T,
 ) -> ((HeldId, Right), Option<Token<T>>)
-    requires { IsHeldIn shared.now.table (held.0, held.1, tenure.now) }
+    requires held { IsHeldIn shared.now.table (held.0, held.1, tenure.now) }
+    requires sharing { Belongs shared.now.sharing shared.now.table }
     ensures table { (result.0.1.table ≡ shared.now.table) × (result.0.0.mark.table ≡ shared.now.table) }
     ensures id { (result.0.0.id ≡ held.0.id) × (result.0.1.id ≡ held.0.id) }
+    ensures told { result.0.0.mark.told ≡ true }
     ensures token { IfSome result.1 (λ token.
         (token.sharing ≡ shared.now.sharing) × (token.id ≡ held.0.id)) }
 {
@@ -94,6 +97,7 @@ fn read<'a, T: Sync>(shared: &'a Shared<T>, token: &Token<T>) -> &'a T
 fn renewed<T>(shared: &mut Shared<T>, own: &Right)
     ensures table { shared.new.table ≡ own.now.table }
     ensures sharing { IsSome shared.new.sharing × (shared.new.sharing ≢ shared.old.sharing) }
+    ensures belongs { Belongs shared.new.sharing shared.new.table }
 {
     shared.judged();
     shared.renew(own);
@@ -108,6 +112,7 @@ fn held_again(
 ) -> (u32, Option<usize>)
     requires held { IsHeldIn shared.now.table (held.0, held.1, tenure.now) }
     requires id { held.0.id ≡ token.now.id }
+    requires belongs { Belongs shared.now.sharing shared.now.table }
     requires sharing { (shared.now.sharing ≡ token.now.sharing) × IsSome shared.now.sharing }
 {
     let mut claim = shared.claim(held.0, held.1, tenure.reached());
@@ -184,7 +189,8 @@ fn a_text_is_read_by_its_token(rt: HostRuntime) -> Result<(), Fail> {
 
 /// Cells that threads hand on, in no bucket yet.
 fn cells(alloc: Global, own: &Right) -> Shared<Cell<u32>>
-    ensures { result.table ≡ own.now.table }
+    ensures table { result.table ≡ own.now.table }
+    ensures belongs { Belongs result.sharing result.table }
 {
     Cell::<u32>::judge();
     share(Buckets::new(alloc), own)

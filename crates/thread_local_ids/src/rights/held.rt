@@ -1,6 +1,7 @@
 //! An id that is held.
-ghost use Rattle.std.specs.Prelude.{◌≡◌, ◌+◌, ◌-◌, ◌^◌, ◌<◌};
+ghost use Rattle.std.specs.Prelude.{◌≡◌, ◌-◌, ◌^◌, ◌<◌};
 
+use crate::rights::mark::Mark;
 use crate::rights::page::Tenure;
 use crate::rights::right::Right;
 
@@ -16,7 +17,7 @@ pub type Taken = (HeldId, Right, Tenure);
 #[derive(Drop)]
 pub struct HeldId {
     pub id: usize,
-    pub mark: Right,
-    pub ghost marked: { mark.id ≡ id + 2 ^ 63 },
+    pub mark: Mark,
+    pub ghost marked: { mark.id ≡ id },
     pub ghost in_range: { id < 2 ^ 63 - 1 },
 }

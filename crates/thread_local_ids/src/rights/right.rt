@@ -1,9 +1,9 @@
 //! The right to an id is out, as a `Right` with one holder, or it is in the table's `Rights`. The
 //! same holds of numbers that are no ids, which marks, the table's own right, its history, its room
-//! and its log are to. Neither type has bytes, and no call does anything at run time.
+//! and its log are to. No type here has bytes, and no call does anything at run time.
 ghost use Rattle.std.specs.Prelude.{◌≡◌, ◌≢◌, ℕ, ◌==◌, ◌^◌, ◌-◌, true, false, List, [], if◌then◌else◌};
 ghost use types.Logic.{sem};
-ghost use Rattle.thread_local_ids.specs.Rights.{is_out, right_owns, rights_own};
+ghost use Rattle.thread_local_ids.specs.Rights.{is_out, right_owns, rights_own, slots_own};
 
 use crate::rights::page::History;
 use crate::rights::room::Room;
@@ -36,14 +36,33 @@ impl Model for Rights {
     ghost also_owns = { λ r. rights_own r.table r.out };
 }
 
+/// A new table's rights to tell what its slots are published with in its first sharing: of none of them
+/// anything is told yet.
+#[derive(Drop)]
+pub struct SlotRights {
+    pub(crate) marker: PhantomData<()>,
+    pub ghost table: { ℕ },
+}
+
+impl Model for SlotRights {
+    ghost also_owns = { λ r. slots_own r.table 0 };
+}
+
 impl Rights {
-    /// All rights of a new table, under a fresh name that no other table has.
-    pub fn new() -> Rights
-        ensures { result.out ≡ [] }
+    /// All rights of a new table, under a fresh name that no other table has. Those to its slots are
+    /// beside the others.
+    pub fn new() -> (Rights, SlotRights)
+        ensures table { result.0.table ≡ result.1.table }
+        ensures out { result.0.out ≡ [] }
     {
-        Rights {
-            marker: PhantomData,
-        }
+        (
+            Rights {
+                marker: PhantomData,
+            },
+            SlotRights {
+                marker: PhantomData,
+            },
+        )
     }
 
     /// Hands out the right to an id that isn't out yet.
@@ -117,6 +136,10 @@ unsafe impl Send for Right {}
 
 unsafe impl Send for Rights {}
 
+unsafe impl Send for SlotRights {}
+
 unsafe impl Sync for Right {}
 
 unsafe impl Sync for Rights {}
+
+unsafe impl Sync for SlotRights {}

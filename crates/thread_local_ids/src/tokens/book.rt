@@ -1,13 +1,17 @@
 //! What every slot of a table held at the end of a sharing.
-ghost use Rattle.std.specs.Prelude.{◌≡◌, ◌≢◌, ◌-◌, ◌^◌, ◌<◌, ℕ, Option, Some, IsSome, All, map, length, IsPermutation};
+ghost use Rattle.std.specs.Prelude.{◌≡◌, ◌≢◌, ◌-◌, ◌^◌, ◌<◌, ℕ, Bool, true, List, Option, Some, IsSome, All, map, length, IsPermutation};
 ghost use Rattle.std.specs.List.{AllPairs};
 ghost use Rattle.std.specs.Coded.{coded_option, coded_ℕ};
 ghost use Rattle.thread_local_base.specs.Buckets.{Contents, values};
 ghost use Rattle.thread_local_base.specs.Code.{contents_coded};
 ghost use Rattle.thread_local_base.specs.Walk.{walk};
-ghost use Rattle.thread_local_ids.specs.Told.{book_owns};
+ghost use Rattle.thread_local_base.specs.IdMoves.{IdMove, moves_coded};
+ghost use Rattle.thread_local_ids.specs.Told.{book_owns, book_with};
+ghost use base.Stored.{coded_bool};
+ghost use mathlib.Core.List.{IsPrefix};
 ghost use denote.Sharing.{said};
 
+use crate::rights::page::Page;
 use crate::tokens::token::Token;
 use crate::tokens::witness::Witness;
 use std::marker::{Model, PhantomData};
@@ -18,10 +22,14 @@ pub struct Book<T> {
     pub marker: PhantomData<T>,
     pub ghost sharing: { Option ℕ } by { coded_option coded_ℕ },
     pub ghost contents: { Contents T } by { contents_coded T.code },
+    pub ghost table: { ℕ },
+    /// All that was done with the table's ids by then, where that is known.
+    pub ghost moves: { List IdMove } by { moves_coded },
+    pub ghost whole: { Bool } by { coded_bool },
 }
 
 impl<T> Model for Book<T> {
-    ghost also_owns = { λ b. book_owns T.row b.sharing b.contents };
+    ghost also_owns = { λ b. book_with T.row b.sharing b.contents b.table b.whole b.moves };
 
     ghost also_shares = { λ b _ κ. said (book_owns T.row b.sharing b.contents) κ };
 }
@@ -64,6 +72,16 @@ impl<T> Book<T> {
         ensures value { values self.now.contents id ≡ Some result.value }
     {
         Token::new(id, self.witness(id))
+    }
+
+    /// Shows that the history goes on from a page of the table. At run time it does nothing.
+    pub fn extends(&mut self, page: &Page)
+        requires table { page.now.table ≡ self.old.table }
+        requires whole { self.old.whole ≡ true }
+        ensures early { IsPrefix page.now.moves self.old.moves }
+        ensures same { self.new ≡ self.old }
+    {
+        let _ = page;
     }
 
     /// What shows the value that the slot of an id had.

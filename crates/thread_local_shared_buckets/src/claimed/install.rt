@@ -1,36 +1,145 @@
 //! A claim that found its bucket missing installs a block for it, with the value of its slot if there
 //! is one.
-ghost use Rattle.std.specs.Prelude.{◌≡◌, ◌^◌, ◌<◌, None, IfSome, MatchOption, slice_set};
+ghost use Rattle.std.specs.Prelude.{◌≡◌, ◌^◌, ◌<◌, None, IsSome, IfSome, MatchOption, slice_set};
 ghost use Rattle.thread_local_buckets.specs.Slots.{empty_slots, slot_value};
 ghost use Rattle.thread_local_shared_buckets.specs.Known.{found_as, state_of};
 ghost use Rattle.thread_local_base.specs.Learnt.{Missing, Vacant};
-ghost use Rattle.thread_local_base.specs.Place.{bucket_of};
+ghost use Rattle.thread_local_base.specs.Place.{IsPlaceOf, bucket_of};
+ghost use Rattle.thread_local_ids.specs.Sharings.{left_of};
 
-use super::{ClaimedSlot, VACANT};
+use super::{ClaimedSlot, HOLDING, VACANT};
 use crate::SharedBucket;
 use crate::announcements::Announced;
+use crate::claim::{emptied, flag_word_of};
 use std::alloc::Global;
 use std::marker::Brand;
 use std::ptr::null_mut;
 use std::sync::atomic::Ordering::SeqCst;
 use std::sync::atomic::raw::ptr;
+use thread_local_base::{Thread, bucket_size};
 use thread_local_buckets::Block;
-use thread_local_ids::Reached;
+use thread_local_ids::{Noted, Reached};
 
 impl<'a, T> ClaimedSlot<'a, T> {
+    /// Offers a block that has the slot's value, which it publishes. Where another block was installed
+    /// first, that one stays, the value is published there, and this block is freed. The bucket is
+    /// announced, and it is noted what is published.
+    #[inline(always)]
+    pub(crate) fn install(
+        &mut self,
+        alloc: &Global,
+        thread: Thread,
+        block: Block<T, Global>,
+        reached: &Reached,
+        announced: Announced,
+        noted: Noted,
+    )
+        requires missing { self.old.learnt ≡ Missing }
+        requires place { IsPlaceOf thread.bucket thread.index self.old.id }
+        requires index { thread.index ≡ self.old.index }
+        requires block { (block.heap ≡ alloc.now) × (block.left ≡ 0) }
+        requires others { slice_set block.slots thread.index None ≡ empty_slots (2 ^ thread.bucket) }
+        requires reached { (reached.now.table ≡ self.old.table) × (self.old.id < reached.now.ids) }
+        requires announced { (announced.by ≡ self.old.word) × (announced.bucket ≡ thread.bucket) }
+        requires value { IsSome (slot_value block.slots thread.index) }
+        requires noted { (noted.sharing ≡ self.old.sharing)
+            × (noted.id ≡ self.old.id)
+            × (noted.value ≡ left_of T.row (slot_value block.slots thread.index)) }
+        ensures same_slot { (self.new.table ≡ self.old.table)
+            × (self.new.sharing ≡ self.old.sharing)
+            × (self.new.word ≡ self.old.word)
+            × (self.new.id ≡ self.old.id)
+            × (self.new.index ≡ self.old.index) }
+        ensures reserved { self.new.reserved ≡ self.old.reserved }
+        ensures learnt { self.new.learnt ≡ found_as (slot_value block.slots thread.index) }
+    {
+        let (noted, again) = noted.twice();
+        let back = self.exchange(thread.index, block, reached, announced, HOLDING, noted);
+        if let Some(block) = back {
+            self.publish_second(alloc, thread, block, again);
+        }
+    }
+
+    /// Publishes the value of a block where another block was installed first, and frees that block.
+    /// It is never inlined, so that the way of the first is short.
+    #[cold]
+    #[inline(never)]
+    fn publish_second(
+        &mut self,
+        alloc: &Global,
+        thread: Thread,
+        block: Block<T, Global>,
+        noted: Noted,
+    )
+        requires vacant { self.old.learnt ≡ Vacant }
+        requires place { IsPlaceOf thread.bucket thread.index self.old.id }
+        requires index { thread.index ≡ self.old.index }
+        requires block { (block.heap ≡ alloc.now) × (block.left ≡ 0) }
+        requires others { slice_set block.slots thread.index None ≡ empty_slots (2 ^ thread.bucket) }
+        requires value { IsSome (slot_value block.slots thread.index) }
+        requires noted { (noted.sharing ≡ self.old.sharing)
+            × (noted.id ≡ self.old.id)
+            × (noted.value ≡ left_of T.row (slot_value block.slots thread.index)) }
+        ensures same_slot { (self.new.table ≡ self.old.table)
+            × (self.new.sharing ≡ self.old.sharing)
+            × (self.new.word ≡ self.old.word)
+            × (self.new.id ≡ self.old.id)
+            × (self.new.index ≡ self.old.index) }
+        ensures reserved { self.new.reserved ≡ self.old.reserved }
+        ensures learnt { self.new.learnt ≡ found_as (slot_value block.slots thread.index) }
+    {
+        let (value, block) = emptied(block, alloc, thread);
+        block.release(alloc, bucket_size(thread.bucket));
+        self.publish(thread.index, flag_word_of::<T>(thread), value, noted);
+    }
+
+    /// Offers a block without a value. Where another block was installed first, that one stays, and this
+    /// block is freed. The bucket is announced.
+    pub(crate) fn install_empty(
+        &mut self,
+        alloc: &Global,
+        thread: Thread,
+        block: Block<T, Global>,
+        reached: &Reached,
+        announced: Announced,
+    )
+        requires missing { self.old.learnt ≡ Missing }
+        requires place { IsPlaceOf thread.bucket thread.index self.old.id }
+        requires index { thread.index ≡ self.old.index }
+        requires block { (block.heap ≡ alloc.now)
+            × (block.slots ≡ empty_slots (2 ^ thread.bucket))
+            × (block.left ≡ 0) }
+        requires reached { (reached.now.table ≡ self.old.table) × (self.old.id < reached.now.ids) }
+        requires announced { (announced.by ≡ self.old.word) × (announced.bucket ≡ thread.bucket) }
+        ensures same_slot { (self.new.table ≡ self.old.table)
+            × (self.new.sharing ≡ self.old.sharing)
+            × (self.new.word ≡ self.old.word)
+            × (self.new.id ≡ self.old.id)
+            × (self.new.index ≡ self.old.index) }
+        ensures reserved { self.new.reserved ≡ self.old.reserved }
+        ensures learnt { self.new.learnt ≡ Vacant }
+    {
+        let noted = self.nothing();
+        let back = self.exchange(thread.index, block, reached, announced, VACANT, noted);
+        if let Some(block) = back {
+            block.release(alloc, bucket_size(thread.bucket));
+        }
+    }
+
     /// One compare and exchange: where the bucket's pointer is null, it points to the block from
     /// then on, of whose slots only that of this id may have a value. `state` is the number of what a
     /// look at that slot finds. Else the block comes back, and the slot is vacant from then on. The
     /// bucket is announced. All ids up to this one were held at once, so as many as the bucket has
     /// slots.
     #[inline(always)]
-    pub(crate) fn exchange(
+    fn exchange(
         &mut self,
         index: usize,
         block: Block<T, Global>,
         reached: &Reached,
         announced: Announced,
         state: u64,
+        noted: Noted,
     ) -> Option<Block<T, Global>>
         requires missing { self.old.learnt ≡ Missing }
         requires index { index ≡ self.old.index }
@@ -39,6 +148,9 @@ impl<'a, T> ClaimedSlot<'a, T> {
         requires reached { (reached.now.table ≡ self.old.table) × (self.old.id < reached.now.ids) }
         requires announced { (announced.by ≡ self.old.word) × (announced.bucket ≡ bucket_of self.old.id) }
         requires state { state ≡ state_of (found_as (slot_value block.slots self.old.index)) }
+        requires noted { (noted.sharing ≡ self.old.sharing)
+            × (noted.id ≡ self.old.id)
+            × (noted.value ≡ left_of T.row (slot_value block.slots self.old.index)) }
         ensures same_slot { (self.new.table ≡ self.old.table)
             × (self.new.sharing ≡ self.old.sharing)
             × (self.new.word ≡ self.old.word)

@@ -1,8 +1,9 @@
 //! Claims at concrete types.
-ghost use Rattle.std.specs.Prelude.{◌≡◌, ◌≢◌, ◌<◌, ◌^◌, ◌⊎◌, MatchBool, MatchOption};
+ghost use Rattle.std.specs.Prelude.{◌≡◌, ◌≢◌, ◌<◌, ◌^◌, ◌⊎◌, MatchBool, MatchOption, true};
 ghost use Rattle.thread_local_buckets.specs.Slots.{empty_slots};
 ghost use Rattle.thread_local_base.specs.Learnt.{Missing, Vacant, Holding};
 ghost use Rattle.thread_local_base.specs.Place.{bucket_of, IsPlaceOf};
+ghost use Rattle.thread_local_ids.specs.Sharings.{Belongs};
 ghost use Rattle.thread_local_shared_buckets.specs.Announcing.{BeginsWithFirst};
 
 use std::alloc::Global;
@@ -67,12 +68,15 @@ fn visit<T: Send>(
 ) -> (HeldId, Right)
     requires word { (bucket.now.word ≡ announcements.now) × BeginsWithFirst announcements.now }
     requires table { (right.table ≡ bucket.now.table) × (held.mark.table ≡ bucket.now.table) }
+    requires told { held.mark.told ≡ true }
+    requires sharing { Belongs bucket.now.sharing bucket.now.table }
     requires id { right.id ≡ held.id }
     requires place { IsPlaceOf thread.bucket thread.index held.id }
     requires bucket { bucket.now.bucket ≡ thread.bucket }
     requires reached { (reached.table ≡ bucket.now.table) × (held.id < reached.ids) }
     ensures table { (result.1.table ≡ right.table) × (result.0.mark.table ≡ right.table) }
     ensures id { (result.0.id ≡ held.id) × (result.1.id ≡ held.id) }
+    ensures told { result.0.mark.told ≡ true }
 {
     Claim::look(bucket, announcements, thread, held, right, reached).give_up()
 }

@@ -11,7 +11,7 @@ pub returns-clause-least_id : goal.returns-clause-least_id
 returns-clause-least_id g c = λ capacity extra events event l. clause.least_taken (run (made_core capacity extra) events) event
 
 pub returns-clause-history : goal.returns-clause-history
-returns-clause-history g c = ids.history
+returns-clause-history g c = ids.held_by_history
 
 pub returns-clause-least_after : goal.returns-clause-least_after
 returns-clause-least_after g c = ids.least_after

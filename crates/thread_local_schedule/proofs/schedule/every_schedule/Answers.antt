@@ -8,6 +8,7 @@ use Rattle.thread_local_schedule.proofs.PeakLaws as bound
 use Rattle.thread_local_schedule.proofs.Publishings as publishing
 use Rattle.thread_local_schedule.proofs.TakingBelow as below
 use Rattle.thread_local_schedule.proofs.History as ids
+use Rattle.thread_local_schedule.proofs.AsPublished as values
 use Rattle.thread_local_schedule.proofs.TableLaws.{at_one_place}
 use Rattle.thread_local_schedule.specs.Core.{made_core}
 use Rattle.thread_local_schedule.proofs.Parts.{made_core-fits}
@@ -90,7 +91,13 @@ pub returns-clause-others : goal.returns-clause-others
 returns-clause-others g c = λ core event n local r. (clause.says core event r).others n local
 
 pub returns-clause-history : goal.returns-clause-history
-returns-clause-history g c = ids.history
+returns-clause-history g c = ids.held_by_history
+
+pub returns-clause-as_published : goal.returns-clause-as_published
+returns-clause-as_published g c = λ capacity extra events id. values.as_published capacity extra events id
+
+pub returns-clause-published_since : goal.returns-clause-published_since
+returns-clause-published_since g c = λ core events id r. values.published_since core events id (clause.fits core r)
 
 pub returns-clause-drained : goal.returns-clause-drained
 returns-clause-drained g c = clause.drained_sheet

@@ -2,6 +2,7 @@ use Rattle.std.proofs.Common.{refl}
 use Rattle.thread_local_schedule.proofs.Sayings as says
 use Rattle.thread_local_schedule.proofs.Counted as counted
 use Rattle.thread_local_schedule.proofs.History as ids
+use Rattle.thread_local_schedule.proofs.AsPublished as values
 use Rattle.thread_local_schedule.proofs.MoveLaws as moves
 use Rattle.thread_local_schedule.proofs.EventRules as rule
 use Rattle.thread_local_schedule.proofs.Clauses as clause
@@ -90,8 +91,8 @@ returns-clause-no_moves g c = λ core event other. moves.no_moves core event (λ
   clear = it.6;
 })
 
-pub returns-clause-no_id_moves : goal.returns-clause-no_id_moves
-returns-clause-no_id_moves g c = λ core. refl
+pub returns-clause-no_history : goal.returns-clause-no_history
+returns-clause-no_history g c = λ core. refl
 
 pub returns-clause-one_take : goal.returns-clause-one_take
 returns-clause-one_take g c = ids.one_take
@@ -99,11 +100,29 @@ returns-clause-one_take g c = ids.one_take
 pub returns-clause-one_give : goal.returns-clause-one_give
 returns-clause-one_give g c = ids.one_give
 
-pub returns-clause-ids_anew : goal.returns-clause-ids_anew
-returns-clause-ids_anew g c = ids.ids_anew
+pub returns-clause-one_publish : goal.returns-clause-one_publish
+returns-clause-one_publish g c = ids.one_publish
+
+pub returns-clause-history_anew : goal.returns-clause-history_anew
+returns-clause-history_anew g c = ids.history_anew
 
 pub returns-clause-no_more_noted : goal.returns-clause-no_more_noted
 returns-clause-no_more_noted g c = ids.no_more_noted
+
+pub returns-clause-published_at_first : goal.returns-clause-published_at_first
+returns-clause-published_at_first g c = λ core. refl
+
+pub returns-clause-rewritten : goal.returns-clause-rewritten
+returns-clause-rewritten g c = values.rewritten
+
+pub returns-clause-drained : goal.returns-clause-drained
+returns-clause-drained g c = values.drained
+
+pub returns-clause-cleared : goal.returns-clause-cleared
+returns-clause-cleared g c = values.cleared
+
+pub returns-clause-published_as_before : goal.returns-clause-published_as_before
+returns-clause-published_as_before g c = values.as_before
 
 pub returns-clause-take : goal.returns-clause-take
 returns-clause-take g c = says.take
@@ -119,6 +138,9 @@ returns-clause-of_walk g c = says.walk
 
 pub returns-clause-walk_begins : goal.returns-clause-walk_begins
 returns-clause-walk_begins g c = says.begins
+
+pub returns-clause-values_change : goal.returns-clause-values_change
+returns-clause-values_change g c = says.changes
 
 pub returns-clause-table_ends : goal.returns-clause-table_ends
 returns-clause-table_ends g c = says.ends

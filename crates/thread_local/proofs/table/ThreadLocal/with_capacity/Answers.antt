@@ -13,7 +13,7 @@ fits capacity room small least =
 
 -- The search for these takes a second.
 pub of-requires : goal.of-requires
-of-requires g c = (lit< tt, (lit< tt, (c.requires.judged, c.in_ok-ids.ensures.new)))
+of-requires g c = (lit< tt, (lit< tt, (c.requires.judged, (c.in_ok-buckets.ensures.empty, c.in_ok-ids.ensures.new))))
 
 pub returns-clause-room : goal.returns-clause-room
 returns-clause-room g c =

@@ -14,13 +14,17 @@ use Rattle.std.proofs.raw_atomic.Calls as calls
 use Rattle.std.proofs.raw_atomic.Calls.{seq_cst}
 use Rattle.thread_local_base.proofs.Walking.{knows, lends_token, returns_token}
 use Rattle.thread_local_ids.proofs.FirstElements as step
-use Rattle.thread_local_ids.specs.FirstIds.{FirstView}
+use Rattle.thread_local_base.specs.IdMoves.{published_in}
+use Rattle.thread_local_ids.specs.FirstIds.{marked, FirstView}
 use Rattle.thread_local_ids.specs.contracts.first.FirstIds as words
 use Rattle.thread_local_ids.specs.Rights.{right_owns, tenure_of, taken_id}
-use Rattle.std.proofs.Common.{◌%◌}
+use Rattle.std.proofs.Common.{◌%◌, Bool, true}
 use Rattle.thread_local_ids.specs.FirstIds.{IsReturn}
 use Rattle.thread_local_ids.proofs.Markers.{Mark, token, told, made}
 use Rattle.thread_local_ids.specs.contracts.rights.right.Right as right
+use Rattle.thread_local_ids.specs.contracts.rights.mark.Mark as marks
+use base.Stored.{Gv}
+use Rattle.std.proofs.Common.{Option}
 use Rattle.thread_local_ids.specs.contracts.rights.page.Tenure as tenure
 use Rattle.thread_local_ids.specs.contracts.rights.page.Page as page
 use Rattle.thread_local_ids.specs.contracts.first.FirstIds.give.{ended, clauses, Key.name as #self}
@@ -36,16 +40,17 @@ give_spec 𝓤 𝓛 𝓜 𝓡 wired =
     let Row : RattleType = words.the_row in
     let self = RefOf (0 ∷ []) tt (plain (λ _. Row)) (λ _. tt) in
     let rights = plain (λ _. right.the_row) in
+    let second = plain (λ _. marks.the_row) in
     let kept = plain (λ _. tenure.the_row) in
     let number = plain (λ _. u64) in
     let hs : Stays ended.signature.params ended.kept =
-    (stay_dropped self yes, (stay_dropped rights yes, (stay_dropped rights yes, (stay_dropped kept yes, (stay_dropped number yes, tt))))) in
+    (stay_dropped self yes, (stay_dropped rights yes, (stay_dropped second yes, (stay_dropped kept yes, (stay_dropped number yes, tt))))) in
     proved 𝓛 ended hs c 𝓜 𝓡 (
       Goes-dropped 𝓛 1 self yes (λ κs x f. refl),
       (
         Goes-dropped 𝓛 1 rights yes (λ κs x f. refl),
         (
-          Goes-dropped 𝓛 1 rights yes (λ κs x f. refl),
+          Goes-dropped 𝓛 1 second yes (λ κs x f. refl),
           (Goes-dropped 𝓛 1 kept yes (λ κs x f. refl), (Goes-dropped 𝓛 1 number yes (λ κs x f. refl), tt)),
         ),
       ),
@@ -55,7 +60,7 @@ give_spec 𝓤 𝓛 𝓜 𝓡 wired =
       shr_Tells (named 0) κs.0 Row,
       (
         (λ x vs is. told (right.the_type).name vs is.0),
-        ((λ x vs is. told (right.the_type).name vs is.0), ((λ x vs is. told (tenure.the_type).name vs is.0), (uint_Tells w64, tt))),
+        ((λ x vs is. told (marks.the_type).name vs is.0), ((λ x vs is. told (tenure.the_type).name vs is.0), (uint_Tells w64, tt))),
       ),
     )) (λ κs qs bounds a gh are.
     let b : ℕ = a.0.ref_ptr.0 in
@@ -72,15 +77,17 @@ give_spec 𝓤 𝓛 𝓜 𝓡 wired =
     ((κs, qs, bounds, a, (vptr b o ∷ [], (token ∷ [], (token ∷ [], (token ∷ [], (vint w64 k ∷ [], tt)))))), gh) in
     let Post : Val → SProp 𝓤 = (walk_of 𝓛 ended hs c).post y in
     let At : Type 0 = (mine.table ≡ d.table) × (mark.table ≡ d.table) × (since.table ≡ d.table) in
-    let Is : Type 0 = (mine.id ≡ taken_id since.before) × (mark.id ≡ mine.id + 2 ^ 63) in
+    let Is : Type 0 = (mine.id ≡ taken_id since.before) × (mark.id ≡ mine.id) in
+    let IsTold : Type 0 = mark.told ≡ true in
     let Low : Type 0 = mine.id < 58 in
     let Bit : Type 0 = k ≡ 64 * 2 ^ mine.id % 2 ^ 64 in
     qed 𝓛 (((‵ (flft κ q) ⊛ ‵ others) ⊛ ‵ (owns (types_at ended.signature.params κs) a y.0.4))
-    ∷ raw (fact 𝓤 At) ∷ raw (fact 𝓤 Is) ∷ raw (fact 𝓤 Low) ∷ raw (fact 𝓤 Bit) ∷ []) ∵
-    keep ! (1 ∷ 2 ∷ 3 ∷ 4 ∷ 0 ∷ []) $ heard ! At (λ at. heard ! Is (λ is. heard ! Low (λ low. heard ! Bit (λ bit.
+    ∷ raw (fact 𝓤 At) ∷ raw (fact 𝓤 Is) ∷ raw (fact 𝓤 IsTold) ∷ raw (fact 𝓤 Low) ∷ raw (fact 𝓤 Bit) ∷ []) ∵
+    keep ! (1 ∷ 2 ∷ 3 ∷ 4 ∷ 5 ∷ 0 ∷ []) $ heard ! At (λ at. heard ! Is (λ is. heard ! IsTold (λ is_told. heard ! Low (λ low. heard ! Bit (λ bit.
     split ! $ split ! $ move ! (2 ∷ []) $ fsplit ! $ fsplit ! $ move ! (2 ∷ []) $ fsplit3 ! $ fsplit ! $ move ! (2 ∷ []) $ fsplit ! $
     move ! (4 ∷ []) $ fsplit ! $ fsplit ! $ keep ! (8 ∷ 9 ∷ 10 ∷ 6 ∷ 4 ∷ 1 ∷ []) $
-    rewrite ! 3 (λ (t : ℕ). ‵ (right_owns t mine.id)) at.0 refl $ rewrite ! 4 (λ (t : ℕ). ‵ (right_owns t mark.id)) at.1 refl $
+    rewrite ! 3 (λ (t : ℕ). ‵ (right_owns t mine.id)) at.0 refl $ rewrite ! 4 (λ (t : ℕ). ‵ (marked t mark.id mark.left mark.told)) at.1 refl $
+    rewrite ! 4 (λ (t : Bool). ‵ (marked d.table mark.id mark.left t)) is_told refl $
     rewrite ! 5 (λ (t : ℕ). ‵ (tenure_of t since.before)) at.2 refl $
     -- [what the `&` holds; its token; the other tokens; the right; the mark; the tenure]
     enter ! 𝓣.C 𝓣.Λ fn (vptr b o ∷ token ∷ token ∷ token ∷ vint w64 k ∷ []) Post $ alloc_all ! (λ l.
@@ -89,11 +96,11 @@ give_spec 𝓤 𝓛 𝓜 𝓡 wired =
     unhide ! $ fpick ! (λ α. fsplit ! $ move ! (0 ∷ 2 ∷ []) $
     lends_token ! 𝓜 𝓡 κ α q $ await ! tt $ pick ! (λ s. split ! $
     -- [α's token, and the way back; the invariant; the other tokens; the right; the mark; the tenure]
-    let out : ℕ → Fml = λ n. fsep (flft α s) (step.returned 𝓛 d.table since.before mine.id) in
+    let out : ℕ → Fml = λ n. fsep (flft α s) (step.returned 𝓛 d.table since.before mine.id mark.left) in
     first ! $ blocks ! $ sets ! (addr ! (through ! refl (fld ! refl (stop !)))) refl (tt, tt) $
     move ! (4 ∷ 5 ∷ 6 ∷ []) $ fjoin3 ! $ move ! (3 ∷ 1 ∷ 0 ∷ []) $
     use3 𝓛 (raw (𝓣.C _ (vptr b (o + 0) ∷ vint w64 k ∷ seq_cst ∷ []) (λ u. mean 𝓛 (found out u))))
-    (via 𝓤 _ (step.gives 𝓛 d.table b o α s k mine.id mark.id since.before low bit is.0 is.1)
+    (via 𝓤 _ (step.gives 𝓛 d.table b o α s k mine.id mark.id since.before mark.left low bit is.0 is.1)
     (calls.subs 𝓛 𝓜 𝓡 (code.calls-std::sync::atomic::raw::fetch_sub 𝓡.env wired) (block_ptr b (o + 0)) k are.1.1.1.1.0.1 out)) $
     sets ! (agg ! (and_then ! (lit ! tt) (no_more !))) refl (tt, (record { fits = lit< tt }, tt)) $
     Calls-last ! (fm 𝓛 𝓜 𝓡) (found out) (and_then ! (get ! refl) (and_then ! (get ! refl) (and_then ! (get ! refl) (no_more !)))) (λ u.
@@ -107,10 +114,11 @@ give_spec 𝓤 𝓛 𝓜 𝓡 wired =
     move ! (1 ∷ []) $ fpick ! (λ more. fsplit ! $ fpick ! (λ so. drop ! $
     let r : page.the_row.Denot = record { marker = record {}; table = d.table; moves = more } in
     use0 𝓛 (‵ ((Mark (page.the_type).name).own_val (tt, tt) (token ∷ []))) (made (page.the_type).name 𝓛) $
-    fjoin ! $ knows ! (IsReturn since.before mine.id more) so $ knows ! (d.table ≡ d.table) refl $ join ! $
+    fjoin ! $ knows ! (◌≡◌ {A = Option Gv} (published_in more mine.id) mark.left) so.1 $ knows ! (IsReturn since.before mine.id more) so.0 $ join ! $
+    knows ! (d.table ≡ d.table) refl $ join ! $
     -- [the facts; the page; the token; the other tokens]
     move ! (2 ∷ 3 ∷ []) $ join ! $ nothing ! $ nothing ! $ fjoin ! $ nothing ! $ fjoin ! $ nothing ! $ fjoin ! $ nothing ! $ fjoin ! $
     nothing ! $ fjoin ! $
     -- [nothing; the tokens; the facts; the page]
     returns ! (look_at ! 0 refl) $ free_all ! refl $ keep ! (1 ∷ 0 ∷ 3 ∷ 2 ∷ []) $
-    by ! (leaves 𝓛 ended hs c y token r (tt, (tt, (tt, (tt, (tt, tt))))) (tt, (tt, (tt, (tt, (tt, tt))))))))))))))))))
+    by ! (leaves 𝓛 ended hs c y token r (tt, (tt, (tt, (tt, (tt, tt))))) (tt, (tt, (tt, (tt, (tt, tt)))))))))))))))))))

@@ -20,7 +20,7 @@ use denote.Struct.Struct.{within}
 use mir.Val.{vstruct, vcons, vnil}
 use Rattle.thread_local_base.specs.IdMoves.{IdMove}
 use Rattle.thread_local_base.proofs.Names.{fpack}
-use Rattle.thread_local_ids.specs.Rights.{history_owns}
+use Rattle.thread_local_ids.specs.Rights.{AreNotedOut, history_owns}
 use Rattle.thread_local_ids.specs.FirstIds.{AreOutOf, log_owns, lies_with}
 use Rattle.thread_local_ids.proofs.Markers.{token, told}
 use Rattle.thread_local_ids.specs.contracts.rights.right.Rights as rights
@@ -67,9 +67,10 @@ new_spec 𝓤 𝓛 𝓜 𝓡 wired =
     let At : Type 0 = (h.table ≡ γ) × (s'.table ≡ γ) in
     let Begun : Type 0 = (h.moves ≡ []) × (s'.moves ≡ []) × (s'.whole ≡ true) in
     let Out : Type 0 = AreOutOf mine.out [] in
+    let Notes : Type 0 = AreNotedOut mine.out [] in
     qed 𝓛 (((‵ (flft κ q) ⊛ ‵ ftrue) ⊛ ‵ (owns (types_at ended.signature.params κs) a y.0.4))
-    ∷ raw (fact 𝓤 At) ∷ raw (fact 𝓤 Begun) ∷ raw (fact 𝓤 Out) ∷ []) ∵
-    keep ! (1 ∷ 2 ∷ 3 ∷ 0 ∷ []) $ heard ! At (λ at. heard ! Begun (λ begun. heard ! Out (λ are_out.
+    ∷ raw (fact 𝓤 At) ∷ raw (fact 𝓤 Begun) ∷ raw (fact 𝓤 Out) ∷ raw (fact 𝓤 Notes) ∷ []) ∵
+    keep ! (1 ∷ 2 ∷ 3 ∷ 4 ∷ 0 ∷ []) $ heard ! At (λ at. heard ! Begun (λ begun. heard ! Out (λ are_out. heard ! Notes (λ are_noted.
     split ! $ split ! $ move ! (2 ∷ []) $ fsplit3 ! $ fsplit ! $ move ! (2 ∷ []) $ fsplit ! $ move ! (4 ∷ []) $ fsplit ! $ fsplit3 ! $
     keep ! (1 ∷ 2 ∷ 8 ∷ 5 ∷ 7 ∷ 0 ∷ 9 ∷ []) $
     rewrite ! 3 (λ (t : ℕ). ‵ (history_owns t h.moves)) at.0 refl $ rewrite ! 3 (λ (l : List IdMove). ‵ (history_owns γ l)) begun.0 refl $
@@ -80,7 +81,7 @@ new_spec 𝓤 𝓛 𝓜 𝓡 wired =
     rewrite ! 1 (λ (l : List IdMove). ‵ (log_owns γ true l)) begun.1 refl $ move ! (1 ∷ []) $
     use1 𝓛 (‵ (log_owns γ false []) ⊛ ‵ (log_owns γ false [])) (step.log_halved 𝓛 γ []) $ split ! $
     -- [the two halves; the fields; the cell and the open borrow; the history; the rights; ..]
-    move ! (7 ∷ 8 ∷ 0 ∷ []) $ use3 𝓛 (‵ (lies_with γ 0)) (step.begins 𝓛 γ mine.out are_out) $
+    move ! (7 ∷ 8 ∷ 0 ∷ []) $ use3 𝓛 (‵ (lies_with γ 0)) (step.begins 𝓛 γ mine.out are_out are_noted) $
     let new : Lg.Denot = record s' { moves = []; whole = false } in
     rewrite ! 1 (λ (t : ℕ). ‵ (log_owns t false [])) (sym at.1) refl $
     move ! (2 ∷ 1 ∷ []) $ fjoin ! $ move ! (2 ∷ 0 ∷ 3 ∷ 4 ∷ 5 ∷ []) $ closes ! tt Lg new us lb lo $
@@ -97,4 +98,4 @@ new_spec 𝓤 𝓛 𝓜 𝓡 wired =
     knows ! ((s'.table ≡ s'.table) × (◌≡◌ {A = List IdMove} [] []) × (false ≡ false)) (refl, refl, refl) $ knows ! (γ ≡ γ) refl $ join ! $
     -- [the facts; the word; the tokens; what is left of the arguments]
     returns ! (look_at ! 0 refl) $ free_all ! refl $ keep ! (2 ∷ 3 ∷ 1 ∷ 0 ∷ []) $
-    by ! (leaves 𝓛 ended hs c y v (record { table = γ }) (tt, (tt, (new, tt))) (tt, (tt, (tt, tt))))))))))
+    by ! (leaves 𝓛 ended hs c y v (record { table = γ }) (tt, (tt, (new, tt))) (tt, (tt, (tt, tt)))))))))))

@@ -1,5 +1,6 @@
 -- The search for these takes a second.
-use Rattle.std.proofs.Common.{◌∙◌, ◌^◌, ◌/◌, ℕ, sym, ap, subst}
+use Rattle.std.proofs.Common.{◌∙◌, ◌^◌, ◌/◌, ℕ, Option, sym, ap, subst}
+use Rattle.thread_local_ids.specs.Told.{Belongs}
 use denote.Param.{param}
 use Rattle.thread_local_base.specs.Place.{bucket_of, index_of}
 use Rattle.thread_local_buckets.specs.Slots.{flag_word_at}
@@ -32,8 +33,11 @@ invariant_of-self g c =
       same.4 ∙ kept.1,
       c.find.ensures.looked,
       kept.3 ∙ sym same.0,
-      same.2 ∙ kept.4,
-      kept.5,
-      kept.6 ∙ sym same.0,
+      kept.4,
+      subst (λ (t : ℕ). Belongs c.find.new.self.sharing t) (sym same.0)
+          (subst (λ (n : Option ℕ). Belongs n c.self.inside.slot.table) (sym same.1) kept.5),
+      same.2 ∙ kept.6,
       kept.7,
+      kept.8 ∙ sym same.0,
+      kept.9,
     )

@@ -31,6 +31,7 @@ use types.SemTy.{Body as Owner}
 use Rattle.thread_local_base.proofs.Names.{opens, closes, peeks, Is, shows, cell_at, stay_ref, Goes-ref, load}
 use Rattle.thread_local_base.proofs.Names.{look_in, assigns, feq_i, mut_vals, mut_Tells, named}
 use Rattle.thread_local_base.proofs.Names.{full_share, fjoin3, fobs, fauth, GName, mem, id⊢}
+use base.Stored.{Gv}
 use base.Fml.{fobor}
 use types.Kit.{Item}
 use mir.Val.{vnull, vstruct}
@@ -79,6 +80,8 @@ use Rattle.thread_local_buckets.proofs.BlockFields as fields
 use Rattle.thread_local_ids.specs.Rights.{right_owns, reached_owns}
 use Rattle.thread_local_ids.specs.contracts.rights.reached.Reached as Reached
 use Rattle.thread_local_ids.proofs.ReachedElements.{reached_less}
+use Rattle.thread_local_ids.specs.Told.{noted_if, left_of}
+use Rattle.thread_local_ids.specs.contracts.rights.mark.Noted as Noted
 use Rattle.thread_local_ids.proofs.Markers.{token}
 use Rattle.thread_local_ids.proofs.Markers.{told as token_told}
 use Rattle.thread_local_shared_buckets.specs.Announcing.{Announcing, announced}
@@ -152,7 +155,7 @@ module _ {M : Type 1} {𝓤 : Ura M} (𝓛 : Logic 𝓤) (𝓜 : Model 𝓤 𝓛
   stayed =
       let self = plain (λ κs. claim.the_row (named_lft 4 1 tt κs) R) in let number = plain (λ _. usize) in let lot = plain (λ _. Bl) in
       let shown = RefOf (2 ∷ []) tt (plain (λ _. Reached.the_row)) (λ _. tt) in
-      let known = plain (λ _. Announced.the_row) in (
+      let known = plain (λ _. Announced.the_row) in let noted = plain (λ _. Noted.the_row) in (
         stay_ref (0 ∷ []) tt self,
         (
           stay_dropped number yes,
@@ -162,7 +165,7 @@ module _ {M : Type 1} {𝓤 : Ura M} (𝓛 : Logic 𝓤) (𝓜 : Model 𝓤 𝓛
               stay_dropped shown yes,
               (
                 stay_dropped known yes,
-                (stay_dropped number yes, tt),
+                (stay_dropped number yes, (stay_dropped noted yes, tt)),
               ),
             ),
           ),
@@ -245,6 +248,15 @@ module _ {M : Type 1} {𝓤 : Ura M} (𝓛 : Logic 𝓤) (𝓜 : Model 𝓤 𝓛
     abbrev Says : Type 0
     Says = (says.by ≡ h.word) × (says.bucket ≡ bucket_of h.id)
 
+    abbrev notes : Noted.the_row.Denot
+    notes = a.1.1.1.1.1.1.0
+
+    -- what is noted is what the claim's slot in the block holds
+    abbrev IsNoted : Type 0
+    IsNoted =
+        (◌≡◌ {A = Option ℕ} notes.sharing h.sharing) × (notes.id ≡ h.id)
+        × (◌≡◌ {A = Option Gv} notes.value (left_of R (slot_value x.slots h.index)))
+
     -- the number of what a look at the claim's slot in the block finds
     abbrev sn : ℕ
     sn = a.1.1.1.1.1.0
@@ -268,7 +280,7 @@ module _ {M : Type 1} {𝓤 : Ura M} (𝓛 : Logic 𝓤) (𝓜 : Model 𝓤 𝓛
     i = h.index
 
     abbrev y : (walk_of 𝓛 En stayed c).Ghost
-    y = ((κs, qs, bounds, a, (vptr rb ro ∷ [], (vint w64 ix ∷ [], (bv ∷ [], (seen ∷ [], (token ∷ [], (vint w64 sn ∷ [], tt))))))), gh)
+    y = ((κs, qs, bounds, a, (vptr rb ro ∷ [], (vint w64 ix ∷ [], (bv ∷ [], (seen ∷ [], (token ∷ [], (vint w64 sn ∷ [], (token ∷ [], tt)))))))), gh)
 
     abbrev Post : Val → SProp 𝓤
     Post = (walk_of 𝓛 En stayed c).post y
@@ -298,7 +310,7 @@ module _ {M : Type 1} {𝓤 : Ura M} (𝓛 : Logic 𝓤) (𝓜 : Model 𝓤 𝓛
           → IfSome opt (λ was. (was.heap ≡ x.heap) × (was.slots ≡ x.slots) × (was.left ≡ 0))
           → MatchOption opt (knows ≡ found_as (slot_value x.slots h.index)) (λ _. knows ≡ Vacant)
           → Seq (Go {0}) 𝓛 (‵ (flft β q) ∷ ‵ (Owned knows k pb o) ∷ ‵ (Back.own_val opt (back ∷ [])) ∷ ‵ others
-          ∷ (opened (kept_of h) ++ holding 𝓛 Ev ((22, answer pb o k back) ∷ (1, vptr rb ro) ∷ (2, vint w64 ix) ∷ [])))
+          ∷ (opened (kept_of h) ++ holding 𝓛 Ev ((23, answer pb o k back) ∷ (1, vptr rb ro) ∷ (2, vint w64 ix) ∷ [])))
           (prop (Wp 𝓤 H 𝓣.C 𝓣.Λ Ev (after 6 fn.body) (at_return 𝓤 H Ev Post)))
       ends pb o k low back held opt knows is_index close same_back learns =
           let F₁ : G.Denot → Type 0 = λ r.
@@ -348,7 +360,7 @@ module _ {M : Type 1} {𝓤 : Ura M} (𝓛 : Logic 𝓤) (𝓜 : Model 𝓤 𝓛
           move ! (4 ∷ 0 ∷ 5 ∷ 6 ∷ 7 ∷ []) $ closes ! tt G left (value_of m ∷ []) rb ro $
           feq_i ! (List Val) (vptr rb ro ∷ []) (vptr rb ro ∷ []) refl $ fjoin3 ! $
           nothing ! $ nothing ! $ fjoin ! $ nothing ! $ fjoin ! $ nothing ! $ fjoin ! $ nothing ! $ fjoin ! $ nothing ! $ fjoin ! $
-          move ! (1 ∷ 0 ∷ []) $ fjoin ! $
+          nothing ! $ fjoin ! $ move ! (1 ∷ 0 ∷ []) $ fjoin ! $
           -- [what is left of the parameters; the reference's token; the token; what comes back; the other tokens]
           move ! (2 ∷ 4 ∷ []) $ fjoin ! $ move ! (2 ∷ 0 ∷ []) $ join ! $
           use0 𝓛 (raw (fact 𝓤 F₃)) (fact_i 𝓤 F₃ (emp 𝓤) same_back) $
@@ -356,7 +368,7 @@ module _ {M : Type 1} {𝓤 : Ura M} (𝓛 : Logic 𝓤) (𝓜 : Model 𝓤 𝓛
           use0 𝓛 (raw (fact 𝓤 (F₂ left))) (fact_i 𝓤 (F₂ left) (emp 𝓤) refl) $ join ! $
           use0 𝓛 (raw (fact 𝓤 (F₁ left))) (fact_i 𝓤 (F₁ left) (emp 𝓤) (refl, refl, refl, refl, refl)) $ join ! $
           returns ! (look_at ! 0 refl) $ free_all ! refl $ keep ! (1 ∷ 2 ∷ 3 ∷ 0 ∷ []) $
-          by ! (leaves 𝓛 En stayed c y back opt (left, (tt, (tt, (tt, (tt, (tt, tt)))))) (tt, (tt, (tt, (tt, (tt, (tt, tt)))))))
+          by ! (leaves 𝓛 En stayed c y back opt (left, (tt, (tt, (tt, (tt, (tt, (tt, tt))))))) (tt, (tt, (tt, (tt, (tt, (tt, (tt, tt))))))))
 
     abbrev pl : ClaimFields
     pl = claim_fields h.id i w h.at h.sharing h.word h.reserved
@@ -415,9 +427,10 @@ module _ {M : Type 1} {𝓤 : Ura M} (𝓛 : Logic 𝓤) (𝓜 : Model 𝓤 𝓛
       lost_gives : p ≡ new → x.slots ≡ with_first i v rest → x.left ≡ 0 → (u : Ptr)
           → ent 𝓤 (mean 𝓛 (‵ (lost u) ⊛ ‵ lasts ⊛ way_back)) (mean 𝓛 (later (some (IsMet u))))
       lost_gives here slots_are all_made u =
-          qed 𝓛 (‵ (lost u) ∷ ‵ lasts ∷ way_back ∷ []) ∵ updating ! $ fsplit ! $ move ! (1 ∷ []) $ fsplit ! $ fsplit ! $ move ! (2 ∷ []) $
+          qed 𝓛 (‵ (lost u) ∷ ‵ lasts ∷ way_back ∷ []) ∵ updating ! $ fsplit ! $ move ! (1 ∷ []) $ fsplit ! $ fsplit ! $ move ! (2 ∷ []) $ fsplit ! $
           rewrite ! 0 (λ (k : ℕ). ‵ (right_owns t.pass k)) (sym of.3) refl $
-          -- [the pass; the private block; what was seen; the life's token; the sharing lasts; the way back]
+          -- [the pass; what is noted; the private block; what was seen; the life's token; the sharing lasts; the way back]
+          move ! (1 ∷ []) $ drop ! $
           move ! (1 ∷ 2 ∷ 3 ∷ 4 ∷ 5 ∷ 0 ∷ []) $
           use1 𝓛 (later (‵ (Block new (with_first i v rest) 0))) (offers.take_back 𝓛 R t LR d x.heap v i rest many new ν names so) $
           await ! tt $ move ! (1 ∷ []) $
@@ -444,7 +457,7 @@ module _ {M : Type 1} {𝓤 : Ura M} (𝓛 : Logic 𝓤) (𝓜 : Model 𝓤 𝓛
       In_arm l given_back answered =
           ‵ given_back ∷ ‵ lasts ∷ way_back ∷ ‵ others ∷ ‵ gained
           ∷ (opened (kept_of h)
-          ++ holding 𝓛 (Ev l) ((17, answered) ∷ (1, vptr rb ro) ∷ (2, vint w64 ix) ∷ (3, bv) ∷ (6, vint w64 sn) ∷ (8, vptr nb no') ∷ []))
+          ++ holding 𝓛 (Ev l) ((18, answered) ∷ (1, vptr rb ro) ∷ (2, vint w64 ix) ∷ (3, bv) ∷ (6, vint w64 sn) ∷ (9, vptr nb no') ∷ []))
 
       abbrev Goes_on : (ℕ → ℕ) → Goal 𝓤 H
       Goes_on l = prop (Wp 𝓤 H 𝓣.C 𝓣.Λ (Ev l) (after 4 fn.body) (at_return 𝓤 H (Ev l) Post))
@@ -472,7 +485,7 @@ module _ {M : Type 1} {𝓤 : Ura M} (𝓛 : Logic 𝓤) (𝓜 : Model 𝓤 𝓛
           sets ! (agg ! (and_then ! (lit ! tt) (no_more !))) refl nothing_good $
           sets_last ! (agg ! (and_then ! (get ! refl) (and_then ! (get ! refl) (and_then ! (get ! refl) (no_more !))))) refl
           triple_good $
-          forget_but ! (Ev l) (22 ∷ 1 ∷ 2 ∷ []) refl $
+          forget_but ! (Ev l) (23 ∷ 1 ∷ 2 ∷ []) refl $
           -- [the token; the claim; the other tokens]
           use0 𝓛 (‵ (Back.own_val None (live 0 vnil ∷ []))) (none_of 𝓛 Bl) $ move ! (1 ∷ 2 ∷ []) $
           ends l pb o sn low (live 0 vnil) nothing_good None (found_as v) is_index close tt (sym (ap found_as is_value))
@@ -505,14 +518,15 @@ module _ {M : Type 1} {𝓤 : Ura M} (𝓛 : Logic 𝓤) (𝓜 : Model 𝓤 𝓛
           sets ! (agg ! (and_then ! (lit ! tt) (and_then ! (get ! refl) (no_more !)))) refl held $
           sets_last ! (agg ! (and_then ! (get ! refl) (and_then ! (lit ! tt) (and_then ! (get ! refl) (no_more !))))) refl
           triple_good $
-          forget_but ! (Ev l) (22 ∷ 1 ∷ 2 ∷ []) refl $
+          forget_but ! (Ev l) (23 ∷ 1 ∷ 2 ∷ []) refl $
           ends l pb o 1 (lit< tt) back held (Some x) Vacant is_index close (refl, refl, all_made) refl))
 
       -- the exchange, from the function's first statement on
       asks : Wired 𝓡.env code.code → (l : ℕ → ℕ) → sn < 2 ^ 64 → sn ≡ state_of (found_as v) → h.at ≡ block_ptr wb wo → p ≡ new
           → x.slots ≡ with_first i v rest → x.left ≡ 0 → ix ≡ h.index
           → i * stride R < 2 ^ 64 → slot_value x.slots h.index ≡ v
-          → Seq (Go {0}) 𝓛 ((‵ (offers.private 𝓛 R t LR d x.heap v i rest many new ν names) ⊛ ‵ (grown d) ⊛ ‵ (right_owns t.pass (i + first_id R d)))
+          → Seq (Go {0}) 𝓛 ((‵ (offers.private 𝓛 R t LR d x.heap v i rest many new ν names) ⊛ ‵ (grown d)
+          ⊛ ‵ (offers.Ticket 𝓛 R t LR d x.heap v i rest many))
           ∷ ‵ lasts ∷ ‵ (finv (fbor t.life (bucket_invariant R d t wb (wo + 0)))) ∷ ‵ (flft t.life s) ∷ way_back ∷ ‵ others ∷ ‵ gained
           ∷ (opened (kept_of h) ++ holding 𝓛 (Ev l) ((1, vptr rb ro) ∷ (2, vint w64 ix) ∷ (3, bv) ∷ (6, vint w64 sn) ∷ [])))
           (runs 𝓣.C 𝓣.Λ (Ev l) fn.body (at_ret (Ev l) Post))
@@ -539,29 +553,33 @@ module _ {M : Type 1} {𝓤 : Ura M} (𝓛 : Logic 𝓤) (𝓜 : Model 𝓤 𝓛
           (and_then ! (get ! refl) (and_then ! (get ! refl) (and_then ! (get ! refl) (no_more !))))))
           (λ u.
           calls.hears ! won lost
-          (λ u. lands_last ! refl (calls.answer_good (Ok u)) $ forget_but ! (Ev l) (17 ∷ 1 ∷ 2 ∷ 3 ∷ 6 ∷ 8 ∷ []) refl $
+          (λ u. lands_last ! refl (calls.answer_good (Ok u)) $ forget_but ! (Ev l) (18 ∷ 1 ∷ 2 ∷ 3 ∷ 6 ∷ 9 ∷ []) refl $
           won_arm l low is_state is_index close is_value u)
-          (λ u. lands_last ! refl (calls.answer_good (Err u)) $ forget_but ! (Ev l) (17 ∷ 1 ∷ 2 ∷ 3 ∷ 6 ∷ 8 ∷ []) refl $
+          (λ u. lands_last ! refl (calls.answer_good (Err u)) $ forget_but ! (Ev l) (18 ∷ 1 ∷ 2 ∷ 3 ∷ 6 ∷ 9 ∷ []) refl $
           lost_arm l e slots_are all_made is_index close u))
 
     walk : Wired 𝓡.env code.code → Laws R → ix < 2 ^ 64 → sn < 2 ^ 64
         → ent 𝓤 (sep 𝓤 (on_entry 𝓛 En.signature κs qs a y.0.4) ((c κs a).requires gh))
-        (WpFn 𝓤 H 𝓣.C 𝓣.Λ fn (vptr rb ro ∷ vint w64 ix ∷ bv ∷ seen ∷ token ∷ vint w64 sn ∷ []) Post)
+        (WpFn 𝓤 H 𝓣.C 𝓣.Λ fn (vptr rb ro ∷ vint w64 ix ∷ bv ∷ seen ∷ token ∷ vint w64 sn ∷ token ∷ []) Post)
     walk wired LR fits_index fits_state =
         let pl : ClaimFields = claim_fields h.id i w h.at h.sharing h.word h.reserved in
         qed 𝓛 (((‵ (flft κs.0 qs.0) ⊛ ‵ (fsep (flft β q) others)) ⊛ ‵ (owns (types_at En.signature.params κs) a y.0.4))
         ∷ raw (fact 𝓤 (Incl υ X.lives)) ∷ raw (fact 𝓤 (h.learnt ≡ Missing)) ∷ raw (fact 𝓤 (ix ≡ i))
-        ∷ raw (fact 𝓤 Made) ∷ raw (fact 𝓤 Had) ∷ raw (fact 𝓤 Says) ∷ raw (fact 𝓤 IsState) ∷ []) ∵
-        move ! (1 ∷ 2 ∷ 3 ∷ 4 ∷ 5 ∷ 6 ∷ 7 ∷ 0 ∷ []) $ heard ! (Incl υ X.lives) (λ alive. heard ! (h.learnt ≡ Missing) (λ gone.
+        ∷ raw (fact 𝓤 Made) ∷ raw (fact 𝓤 Had) ∷ raw (fact 𝓤 Says) ∷ raw (fact 𝓤 IsState)
+        ∷ raw (fact 𝓤 IsNoted) ∷ []) ∵
+        move ! (1 ∷ 2 ∷ 3 ∷ 4 ∷ 5 ∷ 6 ∷ 7 ∷ 8 ∷ 0 ∷ []) $ heard ! (Incl υ X.lives) (λ alive. heard ! (h.learnt ≡ Missing) (λ gone.
         heard ! (ix ≡ i) (λ is_index. heard ! Made (λ blank. heard ! Had (λ evident. heard ! Says (λ told_so. heard ! IsState (λ is_state.
+        heard ! IsNoted (λ noted_so.
         split ! $ split ! $ move ! (2 ∷ []) $
         fsplit3 ! $ fsplit3 ! $ move ! (4 ∷ []) $ fsplit ! $ fsplit ! $ move ! (2 ∷ []) $ fsplit ! $ fsplit ! $
-        move ! (2 ∷ []) $ fsplit ! $ fsplit ! $
-        keep ! (4 ∷ 8 ∷ 9 ∷ 11 ∷ 12 ∷ 6 ∷ 1 ∷ []) $ unhide ! $ fsplit ! $ drop ! $ move ! (1 ∷ 2 ∷ 3 ∷ 4 ∷ 5 ∷ 0 ∷ []) $
-        enter ! 𝓣.C 𝓣.Λ fn (vptr rb ro ∷ vint w64 ix ∷ bv ∷ seen ∷ token ∷ vint w64 sn ∷ []) Post $ alloc_all ! (λ l.
+        move ! (2 ∷ []) $ fsplit ! $ fsplit ! $ move ! (2 ∷ []) $ fsplit ! $ move ! (1 ∷ []) $ fsplit ! $ fsplit ! $
+        -- [what is noted, in two entries; nothing; the number; the bucket is announced, in two entries; ..]
+        move ! (5 ∷ 1 ∷ []) $ fjoin ! $
+        keep ! (6 ∷ 10 ∷ 11 ∷ 13 ∷ 14 ∷ 8 ∷ 0 ∷ []) $ unhide ! $ fsplit ! $ drop ! $ move ! (1 ∷ 2 ∷ 3 ∷ 4 ∷ 5 ∷ 0 ∷ []) $
+        enter ! 𝓣.C 𝓣.Λ fn (vptr rb ro ∷ vint w64 ix ∷ bv ∷ seen ∷ token ∷ vint w64 sn ∷ token ∷ []) Post $ alloc_all ! (λ l.
         pass_all ! {E = env (behind_first fn.locals) (λ j. l (suc j))} refl (
           (tt, tt),
-          ((tt, record { fits = fits_index }), (fields.block_good p, ((tt, tt), ((tt, (tt, tt)), ((tt, record { fits = fits_state }), tt))))),
+          ((tt, record { fits = fits_index }), (fields.block_good p, ((tt, tt), ((tt, (tt, tt)), ((tt, record { fits = fits_state }), ((tt, (tt, tt)), tt)))))),
         ) $
         opens ! tt G rb ro (λ ts. move ! (1 ∷ []) $ fsplit ! $
         peeks ! D (Is D) (shows 𝓛 D) (fields_of ℓ R (kept_of h)) ts (λ is_so. drop ! $
@@ -631,15 +649,19 @@ module _ {M : Type 1} {𝓤 : Ura M} (𝓛 : Logic 𝓤) (𝓜 : Model 𝓤 𝓛
         move ! (7 ∷ []) $
         rewrite ! 0 (λ (n : ℕ). ‵ (reached_owns n had.ids)) (evident.0 ∙ sym of.2) refl $
         use1 𝓛 (‵ (reached_owns d.table (shown_by d))) (reached_less 𝓛 d.table had.ids (shown_by d) enough) $
-        move ! (0 ∷ 8 ∷ []) $
+        move ! (8 ∷ []) $ fsplit ! $ move ! (2 ∷ 0 ∷ 1 ∷ []) $
         rewrite ! 1 (λ (m : Announcing). ‵ (announced m says.bucket)) (told_so.0 ∙ sym of.7) refl $
         rewrite ! 1 (λ (k : ℕ). ‵ (announced d.word k)) (told_so.1 ∙ same) refl $
         fjoin ! $
-        -- [what the block shows; the private block; the sharing lasts; the invariant; the life's token; the way back; the pass; the other
-        -- tokens; what its claim has]
-        move ! (6 ∷ []) $ rewrite ! 0 (λ (k : ℕ). ‵ (right_owns t.pass k)) of.3 refl $ move ! (2 ∷ 1 ∷ 0 ∷ []) $ group ! 3 $
+        -- [what the block shows; what is noted; the private block; the sharing lasts; the invariant; the life's token; the way back; the
+        -- pass; the other tokens; what its claim has]
+        move ! (7 ∷ 1 ∷ []) $
+        rewrite ! 1 (λ (k : Option ℕ). ‵ (noted_if k notes.id notes.value)) (noted_so.0 ∙ sym of.6) refl $
+        rewrite ! 1 (λ (k : ℕ). ‵ (noted_if d.sharing k notes.value)) (noted_so.1 ∙ of.3) refl $
+        rewrite ! 1 (λ (k : Option Gv). ‵ (noted_if d.sharing (i + first_id R d) k)) noted_so.2 refl $
+        rewrite ! 0 (λ (k : ℕ). ‵ (right_owns t.pass k)) of.3 refl $ fjoin ! $ move ! (2 ∷ 1 ∷ 0 ∷ []) $ group ! 3 $
         forget_but ! (Ev l) (1 ∷ 2 ∷ 3 ∷ 6 ∷ []) refl $
-        asks LR d t of v rest many s zn.0 zn.1 so wired l fits_state is_state (leads ∙ at) e slots_are blank.0 is_index close refl))))))))))))))))))
+        asks LR d t of v rest many s zn.0 zn.1 so wired l fits_state is_state (leads ∙ at) e slots_are blank.0 is_index close refl)))))))))))))))))))
 
 pub exchange_spec : {M : Type 1} → statement M
 exchange_spec 𝓤 𝓛 𝓜 𝓡 wired X L =
@@ -654,7 +676,10 @@ exchange_spec 𝓤 𝓛 𝓜 𝓡 wired X L =
             Goes-dropped 𝓛 4 (RefOf (2 ∷ []) tt (plain (λ _. Reached.the_row)) (λ _. tt)) yes (λ κs x f. refl),
             (
               Goes-dropped 𝓛 4 (plain (λ _. Announced.the_row)) yes (λ κs x f. refl),
-              (Goes-dropped 𝓛 4 number yes (λ κs x f. refl), tt),
+              (
+                Goes-dropped 𝓛 4 number yes (λ κs x f. refl),
+                (Goes-dropped 𝓛 4 (plain (λ _. Noted.the_row)) yes (λ κs x f. refl), tt),
+              ),
             ),
           ),
         ),
@@ -663,7 +688,7 @@ exchange_spec 𝓤 𝓛 𝓜 𝓡 wired X L =
     (#self (bounded (a_type ∷ []) (X, tt) dnil)) (fn 𝓛 𝓜 𝓡 X) (code.unfolded 𝓤 𝓛.H 𝓜 𝓡 wired (X, tt))
     (λ κs. (
       mut_vals,
-      (uint_vals w64, ((λ x. fields.block_val x.at ∷ []), (shr_vals, ((λ x. token ∷ []), (uint_vals w64, tt))))),
+      (uint_vals w64, ((λ x. fields.block_val x.at ∷ []), (shr_vals, ((λ x. token ∷ []), (uint_vals w64, ((λ x. token ∷ []), tt)))))),
     ))
     (λ κs. (
       mut_Tells (named 0) κs.0 (claim.the_row (named_lft 4 1 tt κs) (param 0 X)),
@@ -671,7 +696,13 @@ exchange_spec 𝓤 𝓛 𝓜 𝓡 wired X L =
         uint_Tells w64,
         (
           (λ x vs so. fields.told (param 0 X) heap.the_row ghosts x.at vs so.0),
-          (shr_Tells (named 2) κs.1.1.0 Reached.the_row, ((λ x vs so. token_told (Announced.the_type).name vs so.0), (uint_Tells w64, tt))),
+          (
+            shr_Tells (named 2) κs.1.1.0 Reached.the_row,
+            (
+              (λ x vs so. token_told (Announced.the_type).name vs so.0),
+              (uint_Tells w64, ((λ x vs so. token_told (Noted.the_type).name vs so.0), tt)),
+            ),
+          ),
         ),
       ),
     ))

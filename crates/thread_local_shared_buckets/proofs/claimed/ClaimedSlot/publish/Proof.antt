@@ -18,6 +18,7 @@ use Rattle.thread_local_base.proofs.Names.{opens, closes, peeks, Is, shows, cell
 use Rattle.std.proofs.Common.{◌<◌, ◌≤◌, ◌/◌, ◌%◌}
 use mir.Syntax.{dnil}
 use mir.Val.{vptr}
+use base.Stored.{Gv}
 use base.Fml.{fres, finv, Incl, Incl-trans}
 use base.Before.{before}
 use contract.BorrowLft.{meet_⊑_left, meet_⊑_right}
@@ -43,7 +44,10 @@ use Rattle.thread_local_shared_buckets.specs.Shared.{name_at, BucketView, Turn, 
 use Rattle.thread_local_shared_buckets.specs.Shared.{value_code, tracked_value, pinned, age, opened, by as lent_by}
 use Rattle.thread_local_shared_buckets.specs.Shared.{bucket_invariant}
 use Rattle.thread_local_shared_buckets.proofs.Rested.{publishes}
-use Rattle.thread_local_ids.specs.Told.{tells}
+use Rattle.thread_local_ids.specs.Told.{tells, noted_if, left_of}
+use Rattle.thread_local_ids.specs.contracts.rights.mark.Noted as Noted
+use Rattle.thread_local_ids.proofs.Markers.{token}
+use Rattle.thread_local_ids.proofs.Markers.{told as token_told}
 use Rattle.thread_local_base.specs.Learnt.{Learnt, Vacant, Holding}
 use Rattle.thread_local_shared_buckets.specs.Claims.{ClaimFields, flag_word_of, claim_fields, IsOf, IsStateOf, value_at, has, has_slot, has_at, claim_owns}
 use Rattle.thread_local_shared_buckets.specs.contracts.claimed.ClaimedSlot as claim
@@ -63,16 +67,19 @@ publish_spec 𝓤 𝓛 𝓜 𝓡 wired X L =
     let c = clauses X 𝓛 𝓜.mem 𝓡.returns in let LR = param_laws 0 X L in let inst = bounded (a_type ∷ []) (X, tt) dnil in
     let fn = inst_fn inst code.function in let closed = code.unfolded 𝓤 H 𝓜 𝓡 wired (X, tt) in
     let self = plain (λ κs. claim.the_row (named_lft 3 1 tt κs) R) in let number = plain (λ _. usize) in
-    let value = plain (λ _. R) in
+    let value = plain (λ _. R) in let known = plain (λ _. Noted.the_row) in
     let hs : Stays En.signature.params En.kept = (
       stay_ref (0 ∷ []) tt self,
-      (stay_dropped number yes, (stay_dropped number yes, (stay_dropped value no, tt))),
+      (stay_dropped number yes, (stay_dropped number yes, (stay_dropped value no, (stay_dropped known yes, tt)))),
     ) in
     proved_at 𝓛 En hs c 𝓜 𝓡 (
       Goes-ref 𝓛 3 0 tt self,
       (
         Goes-dropped 𝓛 3 number yes (λ κs x f. refl),
-        (Goes-dropped 𝓛 3 number yes (λ κs x f. refl), (Goes-dropped 𝓛 3 value no (λ κs x f. refl), tt)),
+        (
+          Goes-dropped 𝓛 3 number yes (λ κs x f. refl),
+          (Goes-dropped 𝓛 3 value no (λ κs x f. refl), (Goes-dropped 𝓛 3 known yes (λ κs x f. refl), tt)),
+        ),
       ),
     )
     (#self inst) fn closed (λ y are.
@@ -93,6 +100,10 @@ publish_spec 𝓤 𝓛 𝓜 𝓡 wired X L =
     let pl : ClaimFields = claim_fields h.id i w h.at h.sharing h.word h.reserved in
     let see_index = uint_Tells w64 ix vss.1.0 are.1.0 in
     let see_number = uint_Tells w64 num vss.1.1.0 are.1.1.0 in
+    let says : Noted.the_row.Denot = a.1.1.1.1.0 in
+    let see_noted = token_told (Noted.the_type).name vss.1.1.1.1.0 are.1.1.1.1.0.0 in
+    let Says : Type 0 =
+    (◌≡◌ {A = Option ℕ} says.sharing h.sharing) × (says.id ≡ h.id) × (◌≡◌ {A = Option Gv} says.value (left_of R (Some x))) in
     let m : Member = record { row = R; ty = layout X } in
     let got = one (layout X) vss.1.1.1.0 ((LR.lawful 𝓛).typed x vss.1.1.1.0 are.1.1.1.0) in
     let vx : Val = got.0 in
@@ -104,20 +115,21 @@ publish_spec 𝓤 𝓛 𝓜 𝓡 wired X L =
     let Run : List Val → SProp 𝓤 = λ ws. WpFn 𝓤 H 𝓣.C 𝓣.Λ fn ws Post in
     qed 𝓛 (((‵ (flft κs.0 qs.0) ⊛ ‵ (fsep (flft β q) others)) ⊛ ‵ (owns (types_at En.signature.params κs) a vss))
     ∷ raw (fact 𝓤 (Incl υ X.lives)) ∷ raw (fact 𝓤 (h.learnt ≡ Vacant)) ∷ raw (fact 𝓤 (ix ≡ i))
-    ∷ raw (fact 𝓤 (num ≡ flag_word_of R h.id)) ∷ []) ∵
-    move ! (1 ∷ 2 ∷ 3 ∷ 4 ∷ []) $ heard ! (Incl υ X.lives) (λ alive.
+    ∷ raw (fact 𝓤 (num ≡ flag_word_of R h.id)) ∷ raw (fact 𝓤 Says) ∷ []) ∵
+    move ! (1 ∷ 2 ∷ 3 ∷ 4 ∷ 5 ∷ []) $ heard ! (Incl υ X.lives) (λ alive.
     heard ! (h.learnt ≡ Vacant) (λ empty. heard ! (ix ≡ i) (λ is_index.
-    heard ! (num ≡ flag_word_of R h.id) (λ numbered. split ! $ split ! $ move ! (2 ∷ []) $
+    heard ! (num ≡ flag_word_of R h.id) (λ numbered. heard ! Says (λ noted_so. split ! $ split ! $ move ! (2 ∷ []) $
     fsplit3 ! $ fsplit3 ! $
-    move ! (4 ∷ []) $ fsplit3 ! $ keep ! (4 ∷ 5 ∷ 7 ∷ 1 ∷ 8 ∷ []) $
+    move ! (4 ∷ []) $ fsplit3 ! $ move ! (2 ∷ []) $ fsplit ! $ fsplit ! $
+    keep ! (6 ∷ 7 ∷ 9 ∷ 4 ∷ 10 ∷ 1 ∷ []) $
     rewrite ! 3 (λ (ws : List Val). ‵ (R.own_val x ws)) got.1 refl $
-    let us : List Val = vptr rb ro ∷ vint w64 ix ∷ vint w64 num ∷ vx ∷ [] in
+    let us : List Val = vptr rb ro ∷ vint w64 ix ∷ vint w64 num ∷ vx ∷ token ∷ [] in
     suffices ! (Run us) (subst (λ (ws : List Val). ent 𝓤 (Run us) (Run ws))
-    (sym (λ j. are.0.0 j ++ (see_index j ++ (see_number j ++ (got.1 j ++ []))))) (id⊢ 𝓤 (Run us))) $
+    (sym (λ j. are.0.0 j ++ (see_index j ++ (see_number j ++ (got.1 j ++ (see_noted j ++ [])))))) (id⊢ 𝓤 (Run us))) $
     enter ! 𝓣.C 𝓣.Λ fn us Post $ alloc_all ! (λ l.
     pass_all ! refl (
       (tt, tt),
-      ((tt, record { fits = are.1.0.1 }), ((tt, record { fits = are.1.1.0.1 }), (got.2, tt))),
+      ((tt, record { fits = are.1.0.1 }), ((tt, record { fits = are.1.1.0.1 }), (got.2, ((tt, (tt, tt)), tt)))),
     ) $
     let Ev = env fn.locals l in
     opens ! tt G rb ro (λ ts. move ! (1 ∷ []) $ fsplit ! $
@@ -232,7 +244,14 @@ publish_spec 𝓤 𝓛 𝓜 𝓡 wired X L =
     move ! (1 ∷ 4 ∷ []) $ fjoin ! $
     -- [the other tokens; the token; for walkers; for the claim; what is known, twice; the row;
     -- which block it is; vacant; what is kept]
-    move ! (8 ∷ 4 ∷ 2 ∷ []) $ fjoin3 ! $ move ! (7 ∷ []) $ fsplit ! $
+    move ! (8 ∷ 4 ∷ 2 ∷ []) $ fjoin3 ! $
+    -- [what is offered; the other tokens; the token; for the claim; what is known; the row; which block it is; what is kept; its
+    -- cell; the open borrow, in three entries; what is noted]
+    move ! (12 ∷ []) $
+    rewrite ! 0 (λ (k : Option ℕ). ‵ (noted_if k says.id says.value)) (noted_so.0 ∙ sym of.6) refl $
+    rewrite ! 0 (λ (k : ℕ). ‵ (noted_if d.sharing k says.value)) noted_so.1 refl $
+    rewrite ! 0 (λ (k : Option Gv). ‵ (noted_if d.sharing h.id k)) noted_so.2 refl $
+    move ! (1 ∷ 0 ∷ []) $ fjoin ! $ move ! (7 ∷ []) $ fsplit ! $
     use1 𝓛 (‵ (before β t.life) ⊛ ‵ (before β t.life)) (before_dup 𝓛 β t.life) $ split ! $
     move ! (2 ∷ []) $ use1 𝓛 (‵ (finv J) ⊛ ‵ (finv J)) (𝓛.invs.inv_dup J) $ split ! $
     move ! (2 ∷ 0 ∷ []) $ fjoin ! $
@@ -299,7 +318,7 @@ publish_spec 𝓤 𝓛 𝓜 𝓡 wired X L =
     } in
     move ! (3 ∷ 0 ∷ 4 ∷ 5 ∷ 6 ∷ []) $ closes ! tt G made_claim (value_of k ∷ []) rb ro $
     feq_i ! (List Val) vss.0 (vptr rb ro ∷ []) are.0.0 $ fjoin3 ! $
-    nothing ! $ nothing ! $ fjoin ! $ nothing ! $ fjoin ! $ nothing ! $ fjoin ! $ move ! (1 ∷ 0 ∷ []) $ fjoin ! $
+    nothing ! $ nothing ! $ fjoin ! $ nothing ! $ fjoin ! $ nothing ! $ fjoin ! $ nothing ! $ fjoin ! $ move ! (1 ∷ 0 ∷ []) $ fjoin ! $
     -- [what is left of the parameters; the reference's token; the token; the other tokens]
     move ! (2 ∷ 3 ∷ []) $ fjoin ! $ move ! (2 ∷ 0 ∷ []) $ join ! $
     knows ! (F₃ made_claim) refl $
@@ -308,5 +327,5 @@ publish_spec 𝓤 𝓛 𝓜 𝓡 wired X L =
     join ! $
     feq_i ! _ (vunit ∷ []) _ refl $
     returns ! (look_at ! 0 refl) $ free_all ! refl $ keep ! (2 ∷ 3 ∷ 0 ∷ 1 ∷ []) $
-    by ! (leaves 𝓛 En hs c y vunit tt (made_claim, (tt, (tt, (tt, tt))))
-    (tt, (tt, (tt, (tt, tt))))))))))))))))))))))))
+    by ! (leaves 𝓛 En hs c y vunit tt (made_claim, (tt, (tt, (tt, (tt, tt)))))
+    (tt, (tt, (tt, (tt, (tt, tt))))))))))))))))))))))))))

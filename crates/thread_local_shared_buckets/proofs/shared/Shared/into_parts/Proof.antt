@@ -1,5 +1,5 @@
 -- `into_parts` takes back what is due from the sharing, and takes the pointers and the number out.
-use Rattle.std.proofs.Common.{◌≡◌, ℕ, ◌<◌, ◌^◌, List, [], ◌∷◌, ◌++◌, refl, sym, ap, ◌∙◌, subst, w64}
+use Rattle.std.proofs.Common.{◌≡◌, ℕ, ◌<◌, ◌^◌, List, [], ◌∷◌, ◌++◌, refl, sym, ap, ◌∙◌, subst, w64, false}
 use mir.Syntax.{a_type}
 use mir.Val.{Val, vint, vstruct, vcons, vnil, of_list, has_ty}
 use mir.MapTy.{inst_fn}
@@ -81,12 +81,13 @@ into_parts_spec 𝓤 𝓛 𝓜 𝓡 wired T L =
     let number : Good (layout usize) u = (tt, typed.0.1.1.0) in
     let same : known.0.0.reserved ≡ s.reserved = (let e = learnt.1 in cc) in
     let fits : s.reserved < 2 ^ 64 = subst (λ (n : ℕ). n < 2 ^ 64) same typed.0.1.1.0.fits in
-    let r : Bk.Denot = record { marker = record {}; sharing = s.sharing; contents = w } in
+    let r : Bk.Denot = record { marker = record {}; sharing = s.sharing; contents = w; table = 0; moves = []; whole = false } in
     let three : Val = vstruct (vcons v (vcons u (vcons token_val vnil))) in
     let three_fine : Good (layout Triple) three =
     (and_tt (has_ty (layout Ws) v) fine.0, (fine.1, (typed.0.1.1.0, ((tt, tt), tt)))) in
     -- [the pointers; what is told; the tokens]
-    move ! (1 ∷ []) $ use1 𝓛 (‵ (Bk.own_val r (token_val ∷ []))) (book_made 𝓛 R r) $
+    move ! (1 ∷ []) $ nothing ! $ move ! (1 ∷ 0 ∷ []) $ fjoin ! $
+    use1 𝓛 (‵ (Bk.own_val r (token_val ∷ []))) (book_made 𝓛 R r) $
     sets ! (of_opd ! (get_in ! (fld ! refl (stop !)) (sub ! 0 refl (whole !)))) refl fine $
     sets ! (of_opd ! (get_in ! (fld ! refl (stop !)) (sub ! 1 refl (whole !)))) refl number $
     sets ! (agg ! (no_more !)) refl (tt, tt) $

@@ -30,8 +30,8 @@ use Rattle.std.proofs.raw_atomic.Walks.{proved_at, leaves}
 use Rattle.std.proofs.cell.Inside.{one, Good}
 use Rattle.std.proofs.ResultValues.{and_tt}
 use Rattle.thread_local_base.specs.Owned.{IsOwned}
-use Rattle.thread_local_ids.specs.Told.{rows_telling}
-use Rattle.thread_local_ids.proofs.ToldElements.{source, source_new}
+use Rattle.thread_local_ids.specs.Told.{Belongs, later_of, rows_telling}
+use Rattle.thread_local_ids.proofs.ToldElements.{source, source_new, later_belongs}
 use Rattle.thread_local_ids.proofs.Rows.{table_whole, rows_drawn}
 use Rattle.thread_local_base.specs.Judged.{Judged}
 use Rattle.thread_local_ids.specs.contracts.rights.right.Right as right
@@ -86,19 +86,19 @@ new_spec 𝓤 𝓛 𝓜 𝓡 wired T L =
     suffices ! (Run us) (subst (λ (ws : List Val). ent 𝓤 (Run us) (Run ws))
     (sym (λ i. got.1 i ++ (are.1.0.0 i ++ (ref_is i ++ [])))) (id⊢ 𝓤 (Run us))) $
     enter ! 𝓣.C 𝓣.Λ fn us Post $ alloc_all ! (λ l. pass_all ! refl (fine, ((tt, record { fits = fits }), ((tt, tt), tt))) $
-    use0 𝓛 (later (some (λ (γ : GName). given (Some γ ≢ None) (‵ (source 𝓛 γ 0)))))
+    use0 𝓛 (later (some (λ (γ : GName). given (Some (later_of γ) ≢ None) (‵ (source 𝓛 γ 0)))))
     (via 𝓤 _ (source_new 𝓛 None) (basic 𝓛 _)) $
     await ! tt $ pick ! (λ γ. learn ! (λ new.
-    let s : TableView = record { table = table; sharing = Some γ; reserved = n; grown_by_ids = only } in
-    use1 𝓛 (later (‵ (rows_telling R (Some γ) 0 w.rows)))
+    let s : TableView = record { table = table; sharing = Some (later_of γ); reserved = n; grown_by_ids = only } in
+    use1 𝓛 (later (‵ (rows_telling R (Some (later_of γ)) 0 w.rows)))
     (via 𝓤 _ (rows_drawn 𝓛 R γ 0 w.rows (table_whole w owned.table)) (basic 𝓛 _)) $
     await ! tt $ use0 𝓛 (later (‵ new_rights)) (via 𝓤 _ (rights_new 𝓛) (basic 𝓛 _)) $ await ! tt $ move ! (2 ∷ 1 ∷ 0 ∷ []) $
     use3 𝓛 (‵ (Sh.own_val s (pair_val v n ∷ []))) (makes_shared 𝓛 R LR j s w v fits owned typed (λ e. e)) $
     sets ! (of_opd ! (get ! refl)) refl fine $ sets ! (agg ! (and_then ! (get ! refl) (and_then ! (get ! refl) (no_more !)))) refl typed.0 $
-    let Named : Type 0 = IsSome (Some γ) in
+    let Named : Type 0 = IsSome s.sharing × Belongs s.sharing table in
     knows ! (only ≡ only) refl $
     knows ! (n ≡ n) refl $ join ! $
-    knows ! Named refl $ join ! $
+    knows ! Named (refl, later_belongs γ table) $ join ! $
     knows ! (table ≡ table) refl $ join ! $
     nothing ! $ nothing ! $ fjoin ! $ nothing ! $ fjoin ! $ nothing ! $ fjoin ! $
     -- [nothing; the facts; what is shared; the tokens]

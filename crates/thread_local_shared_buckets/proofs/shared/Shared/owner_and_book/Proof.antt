@@ -1,5 +1,5 @@
 -- `owner_and_book` does what `owner` does, and hands out what is told of the slots.
-use Rattle.std.proofs.Common.{◌≡◌, ℕ, [], ◌∷◌, refl}
+use Rattle.std.proofs.Common.{◌≡◌, ℕ, [], ◌∷◌, refl, false}
 use mir.Syntax.{a_type, named}
 use mir.Val.{Val, vptr}
 use mir.MapTy.{inst_fn}
@@ -69,8 +69,9 @@ owner_and_book_spec 𝓤 𝓛 𝓜 𝓡 wired T L =
     given (IsLent 𝓛 R LR d w) (‵ (part_at Ow full_share w b o) ⊛ ‵ (AllGrown 𝓛 R LR d w) ⊛ ‵ (book_owns R d.sharing w.contents)))))
     (lies_told 𝓛 R LR d b o) $
     await ! tt $ pick ! (λ w. learn ! (λ so. split3 ! $
-    let told_of : Bk.Denot = record { marker = record {}; sharing = d.sharing; contents = w.contents } in
-    move ! (2 ∷ []) $ use1 𝓛 (‵ (Bk.own_val told_of (token_val ∷ []))) (book_made 𝓛 R told_of) $ move ! (1 ∷ 2 ∷ 3 ∷ 4 ∷ 5 ∷ 0 ∷ []) $
+    let told_of : Bk.Denot =
+    record { marker = record {}; sharing = d.sharing; contents = w.contents; table = 0; moves = []; whole = false } in
+    move ! (2 ∷ []) $ nothing ! $ move ! (1 ∷ 0 ∷ []) $ fjoin ! $ use1 𝓛 (‵ (Bk.own_val told_of (token_val ∷ []))) (book_made 𝓛 R told_of) $ move ! (1 ∷ 2 ∷ 3 ∷ 4 ∷ 5 ∷ 0 ∷ []) $
     sets ! (agg ! (no_more !)) refl (tt, tt) $ sets ! (agg ! (and_then ! (get ! refl) (no_more !))) refl (tt, (tt, tt)) $
     let F : Ow.Denot → TableView = view_with d w in
     let Shown : Fml = AllGrown 𝓛 R LR d w in

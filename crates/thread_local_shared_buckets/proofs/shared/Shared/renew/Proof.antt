@@ -1,6 +1,6 @@
 -- `renew` takes back what is due from the sharing, and begins another one. The memory stays as it
 -- is.
-use Rattle.std.proofs.Common.{Option, Some, IsSome, ◌≢◌, ◌≡◌, ℕ, [], ◌∷◌, refl}
+use Rattle.std.proofs.Common.{Option, Some, false, IsSome, ◌≢◌, ◌≡◌, ℕ, [], ◌∷◌, refl}
 use mir.Syntax.{a_type, named}
 use mir.Val.{Val, vptr, vunit}
 use mir.MapTy.{inst_fn}
@@ -21,7 +21,8 @@ use denote.Ref.{mut_vals, mut_Tells, shr_vals, shr_Tells}
 use denote.Steps.{nothing, opens, closes}
 use denote.Triple.Walked.{Stays, stay_ref, stay_dropped, walk_of, Goes-ref, Goes-dropped}
 use Rattle.std.proofs.raw_atomic.Walks.{proved, leaves}
-use Rattle.thread_local_ids.proofs.ToldElements.{source, source_new}
+use Rattle.thread_local_ids.specs.Told.{Belongs, is_first, later_of}
+use Rattle.thread_local_ids.proofs.ToldElements.{source, source_new, later_belongs, later_not}
 use Rattle.thread_local_ids.specs.contracts.rights.right.Right as right
 use Rattle.thread_local_shared_buckets.specs.TableView.{TableView}
 use Rattle.thread_local_shared_buckets.specs.contracts.shared.Shared as shared
@@ -55,7 +56,7 @@ renew_spec 𝓤 𝓛 𝓜 𝓡 wired T L =
     enter ! _ _ _ _ _ $ alloc_all ! (λ l. pass_all ! refl ((tt, tt), ((tt, tt), tt)) $
     move ! (1 ∷ 2 ∷ 3 ∷ []) $ opens ! tt Sh b o (λ us.
     -- [its memory; the buckets; the open borrow, in three entries; its first part; the tokens]
-    use0 𝓛 (later (some (λ (γ : GName). given (Some γ ≢ past) (‵ (source 𝓛 γ 0)))))
+    use0 𝓛 (later (some (λ (γ : GName). given (Some (later_of γ) ≢ past) (‵ (source 𝓛 γ 0)))))
     (via 𝓤 _ (source_new 𝓛 past) (basic 𝓛 _)) $
     await ! tt $ pick ! (λ γ. learn ! (λ new.
     let s' : TableView = view_again s table γ in
@@ -67,10 +68,12 @@ renew_spec 𝓤 𝓛 𝓜 𝓡 wired T L =
     -- [the reference; the tokens]
     move ! (1 ∷ 2 ∷ []) $ join ! $
     feq_i ! _ (vunit ∷ []) _ refl $
-    let Named : Type 0 = IsSome (Some γ) × (Some γ ≢ past) in
+    let Named : Type 0 = IsSome s'.sharing × (s'.sharing ≢ past) in
     let Grown : Type 0 = s.table ≡ table → s'.grown_by_ids ≡ s.grown_by_ids in
     knows ! Grown (grown_again s table) $
     knows ! (s.reserved ≡ s.reserved) refl $ join ! $
+    knows ! (is_first s'.sharing table ≡ false) (later_not γ table) $ join ! $
+    knows ! (Belongs s'.sharing table) (later_belongs γ table) $ join ! $
     knows ! Named (refl, new) $ join ! $
     knows ! (table ≡ table) refl $ join ! $
     -- [the facts; the result; the tokens; the reference]

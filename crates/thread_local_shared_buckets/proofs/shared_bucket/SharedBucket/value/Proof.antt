@@ -28,10 +28,10 @@ use Rattle.thread_local_base.specs.Fact.{fact as said_fact}
 use Rattle.thread_local_buckets.specs.Slots.{stride, value_offset}
 use Rattle.thread_local_buckets.proofs.Flags.{uncapped, value_near}
 use Rattle.thread_local_ids.specs.Told.{tells}
-use Rattle.thread_local_ids.proofs.ToldElements.{told_dup}
+use Rattle.thread_local_ids.proofs.ToldElements.{tells_dup}
 use Rattle.thread_local_ids.specs.contracts.tokens.witness.Witness as Witness
 use Rattle.thread_local_shared_buckets.specs.Shared.{BucketView, StandingBlock, Sized, len, first as first_id}
-use Rattle.thread_local_shared_buckets.specs.Shared.{value_code, bucket_invariant, loaded}
+use Rattle.thread_local_shared_buckets.specs.Shared.{bucket_invariant, loaded}
 use Rattle.thread_local_shared_buckets.specs.contracts.shared_bucket.SharedBucket as one_bucket
 use Rattle.thread_local_shared_buckets.specs.contracts.shared_bucket.SharedBucket.value.{ended, clauses, Key.name as #self}
 use Rattle.thread_local_shared_buckets.proofs.RowFields.{word_laws}
@@ -92,7 +92,7 @@ value_spec {M} 𝓤 𝓛 𝓜 𝓡 wired T L =
     fsplit ! $
     use1 𝓛 (‵ (before κ t.life) ⊛ ‵ (before κ t.life)) (before_dup 𝓛 κ t.life) $ split ! $
     move ! (2 ∷ []) $ use1 𝓛 (‵ (finv J) ⊛ ‵ (finv J)) (𝓛.invs.inv_dup J) $ split ! $
-    move ! (4 ∷ []) $ use1 𝓛 (‵ Told ⊛ ‵ Told) (told_dup 𝓛 d.sharing k (value_code R (Some x))) $
+    move ! (4 ∷ []) $ use1 𝓛 (‵ Told ⊛ ‵ Told) (tells_dup 𝓛 R d.sharing k (Some x)) $
     split ! $ move ! (4 ∷ 6 ∷ []) $
     lends_token ! 𝓜 𝓡 κ t.life q $ await ! tt $ pick ! (λ s. split ! $
     -- [the life's token; the way back; what is told, twice; the invariant, twice; before; the others]

@@ -1,5 +1,5 @@
 -- `take` splits off the id's element.
-use Rattle.std.proofs.Common.{ℕ, [], ◌∷◌, refl, w64}
+use Rattle.std.proofs.Common.{ℕ, ◌^◌, ◌<◌, [], ◌∷◌, refl, w64, arith}
 use mir.Syntax.{named}
 use mir.Val.{Val, vptr}
 use base.Fml.{ftrue, flft}
@@ -43,6 +43,7 @@ take_spec 𝓤 𝓛 𝓜 𝓡 wired =
     let b = r.ref_ptr.0 in let o = r.ref_ptr.1 in
     let s = r.now in
     let new = record s { out = id ∷ s.out } in
+    let fits : id < 2 ^ 64 = are.1.0.1 in
     let y : W.Ghost = ((κs, qs, bounds, a, (mut_vals r, (uint_vals w64 id, tt))), g) in let u : Val = vptr b o in
     qed 𝓛 (((‵ (flft κs.0 qs.0) ⊛ ‵ ftrue) ⊛ ‵ ((MutRef (named 0) κs.0 R).own_val r (u ∷ []))
     ⊛ ‵ (usize.own_val id (uint_vals w64 id)) ⊛ ‵ ftrue)
@@ -52,7 +53,7 @@ take_spec 𝓤 𝓛 𝓜 𝓡 wired =
     fsplit3 ! $ move ! (1 ∷ 2 ∷ 3 ∷ []) $ opens ! tt R b o (λ us.
     move ! (1 ∷ []) $ fsplit ! $ move ! (1 ∷ []) $
     use1 𝓛 (‵ (right_owns s.table id) ⊛ ‵ (rights_own s.table (id ∷ s.out)))
-    (rights_cut 𝓛 s.table s.out id free) $
+    (rights_cut 𝓛 s.table s.out id (omega (arith, fits)) free) $
     split ! $
     -- [the right; the rights; the fields; the cell and the open borrow]
     move ! (2 ∷ 1 ∷ []) $ fjoin ! $ move ! (2 ∷ 0 ∷ 3 ∷ 4 ∷ 5 ∷ []) $ closes ! tt R new us b o $

@@ -1,6 +1,5 @@
 -- A `&` to a witness holds what the witness says, which can be had twice. Assumes `Logic`.
 use Rattle.std.proofs.Common.{Some}
-use Rattle.std.specs.Coded.{coded_option}
 use denote.RattleType.{RattleType}
 use denote.Param.Laws.{Laws}
 use denote.Param.Shared.{copy_shared}
@@ -9,7 +8,7 @@ use denote.Struct.Lending.{of_Lends}
 use Rattle.std.specs.contracts.marker.PhantomData as P
 use Rattle.thread_local_ids.specs.Told.{tells}
 use Rattle.thread_local_ids.specs.contracts.tokens.witness.Witness as C
-use Rattle.thread_local_ids.proofs.ToldElements.{told_dup}
+use Rattle.thread_local_ids.proofs.ToldElements.{tells_dup}
 use Rattle.thread_local_ids.proofs.Twice.{lends_twice, tells_laws}
 use Rattle.thread_local_ids.proofs.tokens.witness.Witness.TheLaw.Statement.{statement}
 
@@ -19,5 +18,5 @@ shares T L = of_Lends (C.struct T) (C.the_codes T.Denot T.coded (P.the_row T).co
     (copy_shared (P.the_field T) (field_copy (P.the_type T) tt), tt)
     (λ M 𝓤 𝓛 d p.
     lends_twice 𝓛 (tells T d.sharing d.id (Some d.value))
-    (told_dup 𝓛 d.sharing d.id ((coded_option T.coded).code (Some d.value)))
+    (tells_dup 𝓛 T d.sharing d.id (Some d.value))
     (C.the_row T).lives)
