@@ -5,6 +5,8 @@
 #[cfg(test)]
 mod callers;
 #[cfg(test)]
+mod history;
+#[cfg(test)]
 mod id_callers;
 #[cfg(test)]
 mod judged;

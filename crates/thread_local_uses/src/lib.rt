@@ -17,6 +17,8 @@ pub mod posted;
 #[cfg(test)]
 pub mod resumed;
 #[cfg(test)]
+pub mod seeds;
+#[cfg(test)]
 pub mod snapshot;
 #[cfg(test)]
 pub mod sums;
