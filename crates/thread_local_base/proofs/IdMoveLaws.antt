@@ -1,9 +1,9 @@
 -- Which ids moves leave held, and what they publish.
-use Rattle.std.proofs.Common.{◌≡◌, ℕ, ◌+◌, ◌≤◌, ◌==◌, Bool, true, false, List, [], ◌∷◌, ◌++◌, length, if◌then◌else◌, refl, sym, subst, arith}
+use Rattle.std.proofs.Common.{◌≡◌, ◌∙◌, ℕ, ◌+◌, ◌≤◌, ◌==◌, Bool, true, false, List, [], ◌∷◌, ◌++◌, length, if◌then◌else◌, Option, None, Some, refl, sym, ap, subst, arith}
+use base.Stored.{Gv}
 use mathlib.Core.List.{IsPrefix}
 use Rattle.thread_local_base.proofs.HeldLaws.{length-with_least, length-without}
 use Rattle.thread_local_base.specs.Held.{least, with_least, without}
-use Rattle.std.proofs.Common.{Option, None, Some}
 use Rattle.thread_local_base.specs.IdMoves.{HistoryMove, IdMove, Take, Give, Publish, held_from, held_after, noted, published_in, or_else}
 
 pub held_apart : {V : Type 0} (held : List Bool) (before later : List (HistoryMove V))
@@ -26,6 +26,13 @@ published_apart (Publish other value ∷ before) later id = at (other == id) (pu
         ≡ or_else (if t then Some value else published_in before id) (published_in later id)
     at true e = refl
     at false e = e
+
+-- what a history has published, a longer one has
+pub published_for_good : (before later : List IdMove) (id : ℕ) (value : Gv)
+    → IsPrefix before later → published_in before id ≡ Some value → published_in later id ≡ Some value
+published_for_good before later id value early says =
+    subst (λ (l : List IdMove). published_in l id ≡ Some value) early.1
+    (published_apart before early.0 id ∙ ap (λ (v : Option Gv). or_else v (published_in early.0 id)) says)
 
 -- takes and returns publish nothing
 pub published_stays : {V : Type 0} (v : Option V) → or_else v None ≡ v

@@ -33,7 +33,7 @@ same_move (Give id) = refl
 same_move (Publish id value) = refl
 
 -- a code is its own code
-abbrev value_coded : Coded Gv
+abbrev pub value_coded : Coded Gv
 value_coded = record { code = λ g. g; inj = λ x y e. e }
 
 -- an injective code of what was left in a slot

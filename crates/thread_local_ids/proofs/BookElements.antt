@@ -15,7 +15,8 @@ use Rattle.thread_local_base.specs.Buckets.{Contents, IsTable, values}
 use Rattle.thread_local_base.specs.Held.{is_held}
 use Rattle.thread_local_base.specs.IdMoves.{IdMove, left_coded, held_after, published_in}
 use Rattle.thread_local_ids.specs.Rights.{slot_key, note_key, noted_at, rights_own, note_owns, all_noted, is_out, AreNotedOut}
-use Rattle.thread_local_ids.specs.Told.{Sharing, first_of, is_first, told_of, tells, left_of, rows_tell}
+use Rattle.thread_local_ids.specs.Told.{told_of, tells, rows_tell}
+use Rattle.thread_local_ids.specs.Sharings.{Sharing, first_of, is_first, left_of}
 use Rattle.thread_local_ids.proofs.NotedElements.{at_alike}
 use Rattle.thread_local_ids.proofs.NoteElements.{noted_out, note_taken}
 use Rattle.thread_local_ids.proofs.MarkElements.{tells_note}

@@ -15,8 +15,9 @@ use denote.Steps.{nothing}
 use Rattle.thread_local_ids.specs.Rights.{right_owns, slot_key, note_key, noted_at, note_owns}
 use Rattle.thread_local_base.specs.IdMoves.{left_coded}
 use Rattle.thread_local_ids.specs.FirstIds.{note_by}
-use Rattle.thread_local_ids.specs.Told.{Sharing, first_of, sharing_by, sharing_of, is_first, belongs, Belongs}
-use Rattle.thread_local_ids.specs.Told.{untold_of, told_of, noted_of, untold_in, noted_in, left_of, tells, told_or_untold}
+use Rattle.thread_local_ids.specs.Sharings.{Sharing, first_of, sharing_by, sharing_of, is_first, belongs, Belongs}
+use Rattle.thread_local_ids.specs.Told.{untold_of, told_of, noted_of, untold_in, noted_in, tells, told_or_untold}
+use Rattle.thread_local_ids.specs.Sharings.{left_of}
 use Rattle.thread_local_ids.proofs.NotedElements.{at_twice, notes_at, never_at, at_alike}
 use Rattle.thread_local_ids.proofs.ToldElements.{first_is}
 use Rattle.thread_local_base.proofs.Signs.{signs}

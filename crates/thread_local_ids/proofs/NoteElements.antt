@@ -16,7 +16,8 @@ use Rattle.thread_local_base.specs.IdMoves.{IdMove, Take, Give, Publish, noted, 
 use Rattle.thread_local_base.proofs.IdMoveLaws.{published_apart}
 use Rattle.thread_local_ids.specs.Rights.{is_out, less, right_owns, rights_own, note_key, slot_key, noted_at, noted_owns, note_owns, all_noted}
 use Rattle.thread_local_ids.specs.FirstIds.{marked}
-use Rattle.thread_local_ids.specs.Told.{Sharing, First, Later, sharing_of, noted_of, noted_if}
+use Rattle.thread_local_ids.specs.Told.{noted_of, noted_if}
+use Rattle.thread_local_ids.specs.Sharings.{Sharing, First, Later, sharing_of}
 use Rattle.thread_local_ids.proofs.NotedElements.{at_twice, never_at, at_alike, at_keyless}
 use Rattle.thread_local_ids.proofs.RightElements.{rights_cut, rights_join, right_keyless}
 use Rattle.thread_local_base.proofs.Signs.{signs}

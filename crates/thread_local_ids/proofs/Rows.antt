@@ -18,7 +18,8 @@ use denote.Steps.{nothing}
 use Rattle.thread_local_base.specs.Place.{id_at, bucket_of, index_of}
 use Rattle.thread_local_base.specs.Buckets.{Contents, IsTable, row, values}
 use Rattle.thread_local_ids.specs.Rights.{slots_own}
-use Rattle.thread_local_ids.specs.Told.{first_of, later_of, tells, all_tell, all_told_or_untold, whole_row, rows_telling, rows_tell}
+use Rattle.thread_local_ids.specs.Told.{tells, all_tell, all_told_or_untold, whole_row, rows_telling, rows_tell}
+use Rattle.thread_local_ids.specs.Sharings.{first_of, later_of}
 use Rattle.thread_local_ids.specs.Blank.{AreBlank}
 use Rattle.thread_local_ids.proofs.BlankLaws.{blank_whole}
 use Rattle.thread_local_ids.proofs.ToldElements.{all_end, all_dup, none_telling, source, all_drawn, first_drawn, told_at, tells_keyless}

@@ -19,8 +19,10 @@ use types.Kit.{use0, use1, use2, qed, done, ◌$◌, ◌∵◌, ! }
 use types.Keyed.{entry, entries_from, entry_cut, entry_glue, entry_set, entries_take, entry_keyless, keyed, from}
 use denote.RattleType.{RattleType}
 use Rattle.thread_local_ids.specs.Rights.{slot_key, note_key, slots_own}
-use Rattle.thread_local_ids.specs.Told.{once, untold, told, Sharing, First, Later, first_of, later_of, sharing_of}
-use Rattle.thread_local_ids.specs.Told.{is_first, belongs, Belongs, untold_of, told_of, noted_of, untold_in, told_in, noted_in, noted_if}
+use Rattle.thread_local_ids.specs.Told.{once, untold, told}
+use Rattle.thread_local_ids.specs.Sharings.{Sharing, First, Later, first_of, later_of, sharing_of}
+use Rattle.thread_local_ids.specs.Told.{untold_of, told_of, noted_of, untold_in, told_in, noted_in, noted_if}
+use Rattle.thread_local_ids.specs.Sharings.{is_first, belongs, Belongs}
 use Rattle.thread_local_ids.specs.Told.{tells, told_or_untold, all_tell, all_told_or_untold}
 use Rattle.thread_local_ids.specs.Blank.{IsBlank}
 use Rattle.thread_local_ids.proofs.RightElements.{right_keyless, slots_cut}

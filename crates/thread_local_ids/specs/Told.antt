@@ -7,7 +7,7 @@ use Rattle.std.specs.Prelude.{ℕ, suc, Bool, true, false, List, [], ◌∷◌, 
 use Rattle.std.specs.Coded.{coded_option}
 use seplogic.Ra.Instances.{OneShot}
 use seplogic.Ra.Instances.OneShot.{pending, shot, op, inst_pcs}
-use base.Stored.{Gv, Gv-set, Coded, coded_unit, coded⊎}
+use base.Stored.{Gv, Gv-set, coded_unit, coded⊎}
 use base.Algebra.{Algebra}
 use base.SetCodes.{coded}
 use base.Fml.{GName, Fml, ftrue, fsep}
@@ -17,17 +17,13 @@ use Rattle.thread_local_base.specs.Place.{id_at}
 use Rattle.thread_local_base.specs.Rows.{empty_row}
 use Rattle.thread_local_base.specs.Buckets.{Contents, IsTable}
 use Rattle.thread_local_base.specs.Fact.{fact}
-use Rattle.thread_local_base.specs.IdMoves.{IdMove}
-pub use Rattle.thread_local_ids.specs.Sharings.{Sharing, First, Later, first_of, later_of, sharing_by, sharing_of, is_first, IsFirst}
-pub use Rattle.thread_local_ids.specs.Sharings.{belongs, Belongs, left_of}
+use Rattle.thread_local_base.specs.IdMoves.{IdMove, value_coded}
+use Rattle.thread_local_ids.specs.Sharings.{Sharing, First, Later, sharing_of}
 use Rattle.thread_local_ids.specs.Rights.{right_owns, slot_key, note_key, noted_at, history_owns}
-
-abbrev code_of_code : Coded Gv
-code_of_code = record { code = λ g. g; inj = λ x y e. e }
 
 -- the ghost state of one id: one holder may still tell something, or this is told for good
 abbrev pub once : Algebra
-once = record { El = OneShot Gv; op = op Gv-set; laws = inst_pcs Gv-set; set_coded = coded (coded⊎ coded_unit code_of_code) }
+once = record { El = OneShot Gv; op = op Gv-set; laws = inst_pcs Gv-set; set_coded = coded (coded⊎ coded_unit value_coded) }
 
 -- under a name of a sharing's own, nothing is told of an id yet, and whoever has this may tell it
 unfoldable pub untold : GName → ℕ → Fml

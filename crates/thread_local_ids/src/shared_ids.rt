@@ -197,6 +197,14 @@ impl SharedIds {
             → is_held (held_after result.moves) id ≡ false
             → published_in result.moves id ≡ left_of T.row (values result.contents id) }
     {
+        self.into_first().with_history(book)
+    }
+
+    /// The first ids alone. The manager of the others is dropped, with its memory.
+    #[inline]
+    fn into_first(self) -> FirstIds
+        ensures { result.table ≡ self.table }
+    {
         let Self { first, further } = self;
         let Further {
             manager,
@@ -205,7 +213,7 @@ impl SharedIds {
             reached: _,
         } = further.into_inner();
         drop(manager);
-        first.with_history(book)
+        first
     }
 
     /// Takes every id back, those of forgotten holders too, and counts the peak anew. The room stays.
@@ -225,13 +233,6 @@ impl SharedIds {
 impl Drop for SharedIds {
     #[inline]
     fn drop(self) {
-        let Self { first: _, further } = self;
-        let Further {
-            manager,
-            log: _,
-            room: _,
-            reached: _,
-        } = further.into_inner();
-        drop(manager);
+        drop(self.into_first());
     }
 }

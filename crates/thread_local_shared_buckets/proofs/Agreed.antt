@@ -20,7 +20,8 @@ use Rattle.thread_local_ids.specs.Rights.{right_owns}
 use Rattle.thread_local_base.specs.Bits.{is_set}
 use Rattle.thread_local_buckets.specs.Slots.{value_offset}
 use Rattle.thread_local_ids.specs.Rights.{note_owns}
-use Rattle.thread_local_ids.specs.Told.{tells, untold_in, first_of, is_first, left_of}
+use Rattle.thread_local_ids.specs.Told.{tells, untold_in}
+use Rattle.thread_local_ids.specs.Sharings.{first_of, is_first, left_of}
 use Rattle.thread_local_ids.proofs.MarkElements.{untold_note, tells_note}
 use Rattle.thread_local_ids.proofs.ToldElements.{first_only}
 use Rattle.thread_local_ids.proofs.ToldElements.{tells_alike, telling_alike}

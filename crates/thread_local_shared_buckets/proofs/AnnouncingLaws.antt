@@ -21,7 +21,8 @@ use Rattle.thread_local_base.specs.SharedWord.{word_invariant}
 use Rattle.thread_local_base.proofs.SharedWord.{stepped}
 use Rattle.thread_local_base.proofs.Signs.{signs}
 use Rattle.thread_local_base.proofs.Word.{set_bit}
-use Rattle.thread_local_ids.specs.Told.{untold_in, later_of}
+use Rattle.thread_local_ids.specs.Told.{untold_in}
+use Rattle.thread_local_ids.specs.Sharings.{later_of}
 use Rattle.thread_local_ids.proofs.ToldElements.{told_dup, tells_it, never_told, source, source_new, all_drawn, New}
 use Rattle.thread_local_shared_buckets.specs.Announcing.{Announcing, told_of, announced_by, announced, lies_with_bit, lies_with_bits}
 use Rattle.thread_local_shared_buckets.specs.Announcing.{lies_with_word}

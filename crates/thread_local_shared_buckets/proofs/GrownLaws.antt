@@ -17,7 +17,8 @@ use Rattle.thread_local_base.specs.Buckets.{row, stands, IsTable}
 use Rattle.thread_local_base.specs.Owned.{Owned}
 use Rattle.thread_local_base.specs.Place.{id_at}
 use Rattle.thread_local_ids.specs.Rights.{reached_owns}
-use Rattle.thread_local_ids.specs.Told.{all_told_or_untold, whole_row, rows_telling, later_of}
+use Rattle.thread_local_ids.specs.Told.{all_told_or_untold, whole_row, rows_telling}
+use Rattle.thread_local_ids.specs.Sharings.{later_of}
 use Rattle.thread_local_ids.proofs.ReachedElements.{reached_none, reached_less}
 use Rattle.thread_local_shared_buckets.specs.Announcing.{Announcing, announced, lies_with_word}
 use Rattle.thread_local_shared_buckets.proofs.AnnouncingLaws.{shows, begun_announced}

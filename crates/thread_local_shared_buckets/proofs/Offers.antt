@@ -44,7 +44,8 @@ use Rattle.thread_local_shared_buckets.specs.Shared.{by as lent_by}
 use Rattle.thread_local_shared_buckets.specs.Shared.{numbered_slot, AreFlagWords, slots_under, slots_stand, block_stands}
 use Rattle.thread_local_shared_buckets.specs.Shared.{slots_side, all_unborn, Sized, len, first, standing, beside_pointer, grown}
 use Rattle.thread_local_shared_buckets.specs.Shared.{bucket_invariant}
-use Rattle.thread_local_ids.specs.Told.{untold_in, tells, noted_in, noted_if, left_of}
+use Rattle.thread_local_ids.specs.Told.{untold_in, tells, noted_in, noted_if}
+use Rattle.thread_local_ids.specs.Sharings.{left_of}
 use Rattle.thread_local_ids.proofs.ToldElements.{tells_dup, tells_some}
 use Rattle.thread_local_shared_buckets.proofs.Rested.{publishes}
 use Rattle.thread_local_base.proofs.Pointers.{Compared, opened_to_compare, alike_null}

@@ -40,7 +40,8 @@ use Rattle.thread_local_shared_buckets.specs.Announcing.{Announcing, BeginsWithF
 use Rattle.thread_local_shared_buckets.specs.contracts.announcements.Announcements as shared_word
 use Rattle.thread_local_shared_buckets.proofs.AnnouncingLaws.{bits_untold, new_rights, rights_new, first_set, none_past, begins}
 use Rattle.thread_local_shared_buckets.specs.Shared.{BucketView, at_rest}
-use Rattle.thread_local_ids.specs.Told.{rows_telling, rows_tell, book_owns, later_of}
+use Rattle.thread_local_ids.specs.Told.{rows_telling, rows_tell, book_owns}
+use Rattle.thread_local_ids.specs.Sharings.{later_of}
 use Rattle.thread_local_ids.proofs.ToldElements.{source}
 use Rattle.thread_local_ids.proofs.Rows.{none_rows, rows_end, table_whole, rows_drawn}
 use Rattle.thread_local_shared_buckets.specs.contracts.shared_bucket.SharedBucket as shared

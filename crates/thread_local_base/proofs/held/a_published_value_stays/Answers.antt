@@ -1,7 +1,7 @@
-use Rattle.std.proofs.Common.{◌≡◌, ◌∙◌, ◌==◌, Bool, true, false, List, [], ◌∷◌, if◌then◌else◌, Option, None, Some, refl, ap, subst, rules}
+use Rattle.std.proofs.Common.{◌≡◌, ◌∙◌, ◌==◌, Bool, true, false, [], ◌∷◌, if◌then◌else◌, Option, None, Some, refl, ap, rules}
 use base.Stored.{Gv}
-use Rattle.thread_local_base.specs.IdMoves.{IdMove, Take, Give, Publish, published_in, or_else}
-use Rattle.thread_local_base.proofs.IdMoveLaws.{published_apart, published_stays}
+use Rattle.thread_local_base.specs.IdMoves.{Take, Give, Publish, published_in, or_else}
+use Rattle.thread_local_base.proofs.IdMoveLaws.{published_apart, published_for_good, published_stays}
 use Rattle.thread_local_base.proofs.held.a_published_value_stays.Goals as goal
 
 pub returns-clause-take : goal.returns-clause-take
@@ -31,6 +31,4 @@ returns-clause-other c = λ moves other id value differ.
     ∙ published_stays (published_in moves id)
 
 pub returns-clause-stays : goal.returns-clause-stays
-returns-clause-stays c = λ before later id value early says.
-    subst (λ (l : List IdMove). published_in l id ≡ Some value) early.1
-    (published_apart before early.0 id ∙ ap (λ (v : Option Gv). or_else v (published_in early.0 id)) says)
+returns-clause-stays c = λ before later id value early says. published_for_good before later id value early says

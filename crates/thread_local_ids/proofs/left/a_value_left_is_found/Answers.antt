@@ -1,9 +1,7 @@
-use Rattle.std.proofs.Common.{◌≡◌, ◌∙◌, ℕ, List, Option, None, Some, refl, sym, ap, subst}
+use Rattle.std.proofs.Common.{◌≡◌, ◌∙◌, Option, None, Some, refl, ap}
 use base.Stored.{Gv}
 use denote.RattleType.{RattleType}
-use mathlib.Core.List.{IsPrefix}
-use Rattle.thread_local_base.specs.IdMoves.{IdMove, published_in, or_else}
-use Rattle.thread_local_base.proofs.IdMoveLaws.{published_apart}
+use Rattle.thread_local_base.proofs.IdMoveLaws.{published_for_good}
 use Rattle.thread_local_ids.specs.Sharings.{left_of}
 use Rattle.thread_local_ids.proofs.left.a_value_left_is_found.Goals as goal
 
@@ -16,13 +14,6 @@ same_left R None (Some y) e = cc
 same_left R (Some x) None e = cc
 same_left R (Some x) (Some y) e = ap (λ (v : R.Denot). Some v) (R.coded.inj x y (same_code (R.coded.code x) (R.coded.code y) e))
 
--- what a history has published, a longer one has
-still : (before later : List IdMove) (id : ℕ) (value : Gv)
-    → IsPrefix before later → published_in before id ≡ Some value → published_in later id ≡ Some value
-still before later id value early says =
-    subst (λ (l : List IdMove). published_in l id ≡ Some value) early.1
-    (published_apart before early.0 id ∙ ap (λ (v : Option Gv). or_else v (published_in early.0 id)) says)
-
 pub returns-clause-same : goal.returns-clause-same
 returns-clause-same g c = same_left g.row.T
 
@@ -32,4 +23,4 @@ returns-clause-nothing g c = λ found. same_left g.row.T found None
 pub returns-clause-found : goal.returns-clause-found
 returns-clause-found g c = λ before later id left found value says early holds is.
     same_left g.row.T found (Some value)
-    (holds ∙ still before later id (g.row.T.coded.code value) early (says ∙ ap (λ v. left_of g.row.T v) is))
+    (holds ∙ published_for_good before later id (g.row.T.coded.code value) early (says ∙ ap (λ v. left_of g.row.T v) is))

@@ -12,7 +12,8 @@ use Rattle.thread_local_base.specs.Buckets.{IsTable, values}
 use Rattle.thread_local_base.specs.Held.{is_held}
 use Rattle.thread_local_base.specs.IdMoves.{IdMove, held_after, published_in}
 use Rattle.thread_local_ids.specs.Rights.{rights_own, all_noted}
-use Rattle.thread_local_ids.specs.Told.{is_first, left_of, rows_tell, book_owns}
+use Rattle.thread_local_ids.specs.Told.{rows_tell, book_owns}
+use Rattle.thread_local_ids.specs.Sharings.{is_first, left_of}
 use Rattle.thread_local_ids.proofs.BookElements.{left_if}
 use Rattle.thread_local_ids.proofs.Made.{only_told}
 use Rattle.thread_local_ids.proofs.first.FirstIds.TheLaws as laws'

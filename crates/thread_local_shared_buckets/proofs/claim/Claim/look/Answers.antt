@@ -6,7 +6,7 @@ use Rattle.thread_local_base.specs.Learnt.{Learnt, Finds}
 use Rattle.thread_local_base.specs.Place.{bucket_of, index_of, id_at}
 use Rattle.thread_local_base.proofs.PlaceLaws.{id_at-place}
 use Rattle.thread_local_buckets.specs.Slots.{flag_word_at}
-use Rattle.thread_local_ids.specs.Told.{Belongs}
+use Rattle.thread_local_ids.specs.Sharings.{Belongs}
 use Rattle.thread_local_ids.specs.declared.rights.mark.Mark.{Mark}
 use Rattle.thread_local_shared_buckets.specs.declared.claimed.ClaimedSlot.{ClaimedSlot}
 use Rattle.thread_local_shared_buckets.specs.Known.{HasLooked, MayLook}

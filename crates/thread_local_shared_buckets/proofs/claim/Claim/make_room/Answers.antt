@@ -1,6 +1,6 @@
 -- The search for these takes a second.
 use Rattle.std.proofs.Common.{◌∙◌, ◌^◌, ◌/◌, ℕ, Option, sym, ap, subst}
-use Rattle.thread_local_ids.specs.Told.{Belongs}
+use Rattle.thread_local_ids.specs.Sharings.{Belongs}
 use denote.Param.{param}
 use Rattle.thread_local_base.specs.Place.{bucket_of, index_of}
 use Rattle.thread_local_buckets.specs.Slots.{flag_word_at}

@@ -80,7 +80,8 @@ use Rattle.thread_local_buckets.proofs.BlockFields as fields
 use Rattle.thread_local_ids.specs.Rights.{right_owns, reached_owns}
 use Rattle.thread_local_ids.specs.contracts.rights.reached.Reached as Reached
 use Rattle.thread_local_ids.proofs.ReachedElements.{reached_less}
-use Rattle.thread_local_ids.specs.Told.{noted_if, left_of}
+use Rattle.thread_local_ids.specs.Told.{noted_if}
+use Rattle.thread_local_ids.specs.Sharings.{left_of}
 use Rattle.thread_local_ids.specs.contracts.rights.mark.Noted as Noted
 use Rattle.thread_local_ids.proofs.Markers.{token}
 use Rattle.thread_local_ids.proofs.Markers.{told as token_told}

@@ -14,7 +14,7 @@ use base.Stored.{Gv}
 use Rattle.thread_local_base.specs.Learnt.{Learnt}
 use Rattle.thread_local_ids.specs.Rights.{note_owns}
 use Rattle.thread_local_ids.specs.FirstIds.{note_by}
-use Rattle.thread_local_ids.specs.Told.{is_first, left_of}
+use Rattle.thread_local_ids.specs.Sharings.{is_first, left_of}
 use Rattle.thread_local_ids.specs.contracts.rights.mark.Mark as Mark
 use Rattle.thread_local_shared_buckets.specs.Known.{HasLooked, value_held}
 use Rattle.thread_local_shared_buckets.specs.Claims.{ClaimFields, claim_fields, claim_owns}

@@ -44,7 +44,8 @@ use Rattle.thread_local_shared_buckets.specs.Shared.{name_at, BucketView, Turn, 
 use Rattle.thread_local_shared_buckets.specs.Shared.{value_code, tracked_value, pinned, age, opened, by as lent_by}
 use Rattle.thread_local_shared_buckets.specs.Shared.{bucket_invariant}
 use Rattle.thread_local_shared_buckets.proofs.Rested.{publishes}
-use Rattle.thread_local_ids.specs.Told.{tells, noted_if, left_of}
+use Rattle.thread_local_ids.specs.Told.{tells, noted_if}
+use Rattle.thread_local_ids.specs.Sharings.{left_of}
 use Rattle.thread_local_ids.specs.contracts.rights.mark.Noted as Noted
 use Rattle.thread_local_ids.proofs.Markers.{token}
 use Rattle.thread_local_ids.proofs.Markers.{told as token_told}

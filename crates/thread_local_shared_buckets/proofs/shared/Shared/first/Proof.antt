@@ -29,7 +29,8 @@ use Rattle.std.proofs.raw_atomic.Walks.{proved_at, leaves}
 use Rattle.std.proofs.cell.Inside.{one, Good}
 use Rattle.std.proofs.ResultValues.{and_tt}
 use Rattle.thread_local_base.specs.Owned.{IsOwned}
-use Rattle.thread_local_ids.specs.Told.{first_of, rows_telling}
+use Rattle.thread_local_ids.specs.Told.{rows_telling}
+use Rattle.thread_local_ids.specs.Sharings.{first_of}
 use Rattle.thread_local_ids.specs.Rights.{slots_own}
 use Rattle.thread_local_ids.specs.contracts.rights.right.SlotRights as SlotRights
 use Rattle.thread_local_ids.proofs.BlankLaws.{blank_contents}

@@ -30,7 +30,8 @@ use Rattle.std.proofs.raw_atomic.Walks.{proved_at, leaves}
 use Rattle.std.proofs.cell.Inside.{one, Good}
 use Rattle.std.proofs.ResultValues.{and_tt}
 use Rattle.thread_local_base.specs.Owned.{IsOwned}
-use Rattle.thread_local_ids.specs.Told.{Belongs, later_of, rows_telling}
+use Rattle.thread_local_ids.specs.Told.{rows_telling}
+use Rattle.thread_local_ids.specs.Sharings.{Belongs, later_of}
 use Rattle.thread_local_ids.proofs.ToldElements.{source, source_new, later_belongs}
 use Rattle.thread_local_ids.proofs.Rows.{table_whole, rows_drawn}
 use Rattle.thread_local_base.specs.Judged.{Judged}

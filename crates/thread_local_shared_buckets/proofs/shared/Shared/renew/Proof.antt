@@ -21,7 +21,7 @@ use denote.Ref.{mut_vals, mut_Tells, shr_vals, shr_Tells}
 use denote.Steps.{nothing, opens, closes}
 use denote.Triple.Walked.{Stays, stay_ref, stay_dropped, walk_of, Goes-ref, Goes-dropped}
 use Rattle.std.proofs.raw_atomic.Walks.{proved, leaves}
-use Rattle.thread_local_ids.specs.Told.{Belongs, is_first, later_of}
+use Rattle.thread_local_ids.specs.Sharings.{Belongs, is_first, later_of}
 use Rattle.thread_local_ids.proofs.ToldElements.{source, source_new, later_belongs, later_not}
 use Rattle.thread_local_ids.specs.contracts.rights.right.Right as right
 use Rattle.thread_local_shared_buckets.specs.TableView.{TableView}

@@ -15,7 +15,8 @@ use denote.Ref.{mut_vals, mut_Tells}
 use denote.Steps.{opens, closes}
 use denote.Triple.Walked.{stay_ref, Goes-ref, ends_at}
 use Rattle.thread_local_ids.specs.FirstIds.{note_by}
-use Rattle.thread_local_ids.specs.Told.{Belongs, is_first, noted_in}
+use Rattle.thread_local_ids.specs.Told.{noted_in}
+use Rattle.thread_local_ids.specs.Sharings.{Belongs, is_first}
 use Rattle.thread_local_ids.proofs.Facts.{tells as shows, tells_last}
 use Rattle.thread_local_ids.proofs.MarkElements.{noting}
 use Rattle.thread_local_ids.proofs.Markers.{token, told as token_told, Mark, made}

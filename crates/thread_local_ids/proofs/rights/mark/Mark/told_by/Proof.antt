@@ -13,7 +13,8 @@ use denote.Ref.{mut_vals, mut_Tells}
 use denote.Steps.{opens, closes}
 use denote.Triple.Walked.{stay_ref, Goes-ref, ends_at}
 use Rattle.thread_local_ids.specs.FirstIds.{note_by}
-use Rattle.thread_local_ids.specs.Told.{is_first, left_of, tells}
+use Rattle.thread_local_ids.specs.Told.{tells}
+use Rattle.thread_local_ids.specs.Sharings.{is_first, left_of}
 use Rattle.thread_local_ids.proofs.Facts.{tells as shows, tells_last}
 use Rattle.thread_local_ids.proofs.MarkElements.{told_up}
 use Rattle.thread_local_ids.specs.contracts.tokens.witness.Witness as Witness
