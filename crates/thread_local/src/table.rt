@@ -409,7 +409,7 @@ impl<T> ThreadLocal<T> {
     {
         let (mut right, first, room, slots) = self.ids.clear();
         self.table_right.apart(&mut right);
-        self.buckets.clear(self.alloc, &right, slots);
+        self.buckets.clear(&right, slots);
         self.table_right = right;
         self.first = first;
         self.room = room;

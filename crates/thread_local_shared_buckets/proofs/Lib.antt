@@ -14,6 +14,7 @@ pub mod MoveLaws
 pub mod WalkLaws
 pub mod BitLaws
 mod BlockLaws
+mod BlankRows
 pub mod Findings
 pub mod OwnLaws
 pub mod PassLaws

@@ -1,7 +1,7 @@
 -- Turns shared buckets at rest into an owner's buckets and back: the machine values are the same.
 -- Assumes `Logic`.
 use Rattle.std.proofs.Common.{map, suc, ◌≡◌, ℕ, ◌+◌, ◌<◌, ◌^◌, w64, List, [], ◌∷◌, ◌++◌, length, refl, sym, ap, ◌∙◌, subst}
-use Rattle.std.proofs.Common.{arith, Option, None, Some, true, false, ◌==◌}
+use Rattle.std.proofs.Common.{arith, Bool, Option, None, Some, true, false, ◌==◌}
 use seplogic.Ra.Ura.{Ura}
 use mir.Val.{Val, vint, vstruct, vcons, vnil, of_list}
 use base.Fml.{Fml, ftrue, ffalse, fsep}
@@ -43,7 +43,9 @@ use Rattle.thread_local_shared_buckets.specs.Shared.{BucketView, at_rest}
 use Rattle.thread_local_ids.specs.Told.{rows_telling, rows_tell, book_owns}
 use Rattle.thread_local_ids.specs.Sharings.{later_of}
 use Rattle.thread_local_ids.proofs.ToldElements.{source}
-use Rattle.thread_local_ids.proofs.Rows.{none_rows, rows_end, table_whole, rows_drawn}
+use Rattle.thread_local_ids.specs.Rights.{slots_own}
+use Rattle.thread_local_ids.proofs.Rows.{none_rows, rows_end, rows_first, table_whole, rows_drawn}
+use Rattle.thread_local_shared_buckets.proofs.BlankRows.{none_blank}
 use Rattle.thread_local_shared_buckets.specs.contracts.shared_bucket.SharedBucket as shared
 use Rattle.thread_local_buckets.specs.Pointers.{contents_of}
 use Rattle.thread_local_buckets.specs.contracts.pointer_array.PointerArray as array
@@ -55,7 +57,7 @@ use Rattle.thread_local_shared_buckets.specs.contracts.parts.SharedPointers as a
 use Rattle.thread_local_shared_buckets.specs.contracts.parts.SharedArray as shared_array
 use Rattle.thread_local_buckets.proofs.buckets.Buckets.TheLaws as buckets'
 use Rattle.thread_local_shared_buckets.specs.contracts.shared.Shared as whole
-use Rattle.thread_local_shared_buckets.specs.Lent.{view_with}
+use Rattle.thread_local_shared_buckets.specs.Lent.{view_with, has_no_value, begun_in, view_begun}
 use Rattle.thread_local_shared_buckets.specs.Fit.{Fit}
 use Rattle.thread_local_shared_buckets.specs.TableView.{TableView, table_view_of, AreBuckets}
 use Rattle.thread_local_shared_buckets.proofs.Lists.{AreOf, table_are_of, named_are_of, AllFit, fits_long, owned_of}
@@ -512,6 +514,34 @@ module _ {M : Type 1} {𝓤 : Ura M} (𝓛 : Logic 𝓤) (R : RattleType) (L : L
       (less_grown 𝓛 R s s' 0 w.contents.rows y.contents.rows refl
       (lent.2.table.buckets ∙ sym owned.table.buckets) (lent_shown s w y lent.1 owned.table)) $ fjoin ! $
       use0 𝓛 (‵ (rows_telling R None 0 y.contents.rows)) (none_rows 𝓛 R 0 y.contents.rows) $ move ! (2 ∷ 0 ∷ 1 ∷ []) $
+      use3 𝓛 (‵ (Shared.own_val s' vs)) (turns_shared j s' y vs refl) $ nothing ! $
+      fpack ! (Typed Row.mir vs) (λ _. ftrue)
+      (((buckets'.the_row_laws R L).lawful 𝓛).typed y vs is) $
+      fjoin ! $ move ! (1 ∷ 0 ∷ []) $ fjoin ! $
+      fpack ! (List Val) (λ us. fsep (cell_at full_share Row.mir us b o) (Row.own_val s' us)) vs $ done !)))
+
+  -- the rights to the slots of a new table are told of slots that have no value
+  first_told : (table : ℕ) (y : Owner.Denot) → IsOwned y → (t : Bool) → has_no_value y.contents ≡ t
+      → ⟦ slots_own table 0 ⟧ ⊢ ⟦ rows_telling R (begun_in table t) 0 y.contents.rows ⟧
+  first_told table y owned true blank =
+      rows_first 𝓛 R table 0 y.contents.rows (table_whole y.contents owned.table) (none_blank y.contents owned.table blank)
+  first_told table y owned false blank =
+      qed 𝓛 (‵ (slots_own table 0) ∷ []) ∵ drop ! $
+      use0 𝓛 (‵ (rows_telling R None 0 y.contents.rows)) (none_rows 𝓛 R 0 y.contents.rows) $ done !
+
+  pub lies_first : Judged R → (table b o : ℕ) (y : Owner.Denot)
+      → ⟦ part_at Owner full_share y b o ⟧ ∗ ⟦ fsep (slots_own table 0) new_rights ⟧ ⊢ ⟦ part_at Row full_share (view_begun table y) b o ⟧
+  unfolding part_of
+  lies_first j table b o y =
+      let s' : TableView = view_begun table y in
+      qed 𝓛 (‵ (part_at Owner full_share y b o) ∷ ‵ (fsep (slots_own table 0) new_rights) ∷ []) ∵ fpick ! (λ vs. fsplit ! $ move ! (1 ∷ []) $
+      peeks ! Owner (Is Owner) (shows 𝓛 Owner) y vs (λ is.
+      use1 𝓛 (given (IsOwned y) (‵ (Owner.own_val y vs))) (fit_together y vs) $ learn ! (λ owned.
+      move ! (2 ∷ []) $ fsplit ! $
+      use1 𝓛 (‵ (AllTold s' y)) (first_told table y owned (has_no_value y.contents) refl) $
+      use0 𝓛 (‵ (Shown s' y)) (none_grown 𝓛 R s' 0 y.contents.rows (nothing_shown s' y refl owned.table (λ e. e))) $
+      -- [what they show; what is told; the rights; the buckets; the memory]
+      move ! (0 ∷ 2 ∷ []) $ fjoin ! $ move ! (2 ∷ 1 ∷ 0 ∷ []) $
       use3 𝓛 (‵ (Shared.own_val s' vs)) (turns_shared j s' y vs refl) $ nothing ! $
       fpack ! (Typed Row.mir vs) (λ _. ftrue)
       (((buckets'.the_row_laws R L).lawful 𝓛).typed y vs is) $

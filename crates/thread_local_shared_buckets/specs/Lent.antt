@@ -1,6 +1,7 @@
 -- What a contract sees of shared buckets once an owner's loan of them ends.
-use Rattle.std.specs.Prelude.{Bool, true, false, None, ◌==◌, if◌then◌else◌}
-use Rattle.thread_local_base.specs.Buckets.{stands}
+use Rattle.std.specs.Prelude.{ℕ, zero, suc, Bool, true, false, List, [], ◌∷◌, Option, None, Some, ◌==◌, if◌then◌else◌}
+use Rattle.thread_local_ids.specs.Sharings.{first_of}
+use Rattle.thread_local_base.specs.Buckets.{Contents, stands, row}
 use Rattle.thread_local_base.specs.Owned.{Owned}
 use Rattle.thread_local_shared_buckets.specs.Grown.{stand_among, only_reserved}
 use Rattle.thread_local_shared_buckets.specs.TableView.{TableView}
@@ -23,4 +24,33 @@ view_with s lent left = record {
   sharing = None;
   reserved = left.reserved;
   grown_by_ids = grown_by_loan s.grown_by_ids lent left;
+}
+
+-- whether none of these slots has a value
+abbrev pub is_blank : {V : Type 0} → List (Option V) → Bool
+is_blank [] = true
+is_blank (None ∷ slots) = is_blank slots
+is_blank (Some x ∷ slots) = false
+
+-- whether no slot of the buckets below n has a value
+unfoldable pub blank_below : {V : Type 0} → Contents V → ℕ → Bool
+blank_below contents zero = true
+blank_below contents (suc b) = if is_blank (row contents b) then blank_below contents b else false
+
+-- whether no slot has a value
+abbrev pub has_no_value : {V : Type 0} → Contents V → Bool
+has_no_value contents = blank_below contents 63
+
+-- the first sharing of a table where no slot has a value, and else none
+abbrev pub begun_in : ℕ → Bool → Option ℕ
+begun_in table true = Some (first_of table)
+begun_in table false = None
+
+-- the buckets that an owner leaves, as those of the table of this name
+abbrev pub view_begun : {V : Type 0} → ℕ → Owned V → TableView
+view_begun table left = record {
+  table = table;
+  sharing = begun_in table (has_no_value left.contents);
+  reserved = left.reserved;
+  grown_by_ids = only_reserved left;
 }

@@ -17,9 +17,7 @@ ghost use Rattle.thread_local_shared_buckets.specs.Parts.{parts_own, parts_share
 use crate::announcements::load_announced;
 use crate::parts::SharedParts;
 use crate::{Claim, SharedBucket};
-use std::alloc::Global;
 use std::marker::{Move, Owns, PhantomData};
-use std::mem::replace;
 use thread_local_base::Thread;
 use thread_local_buckets::{BucketPointers, Buckets, take_first_bucket};
 use thread_local_ids::{Book, HeldId, Reached, Right, SlotRights, Told};
@@ -104,7 +102,7 @@ impl<T> Shared<T> {
 
     /// Drops every value, and frees every bucket that isn't reserved. From then on the buckets are
     /// those of the table that the right belongs to, in its first sharing.
-    pub fn clear(&mut self, alloc: Global, own: &Right, slots: SlotRights)
+    pub fn clear(&mut self, own: &Right, slots: SlotRights)
     where
         T: Drop,
         requires table { slots.table ≡ own.now.table }
@@ -113,17 +111,7 @@ impl<T> Shared<T> {
         ensures reserved { self.new.reserved ≡ self.old.reserved }
         ensures grown { self.new.grown_by_ids ≡ true }
     {
-        self.judged();
-        let (none, no_slots) = Buckets::new(alloc).into_parts();
-        let (pointers, reserved, book) = replace(
-            self,
-            Shared::new(none, no_slots, own),
-        ).into_parts();
-        drop(book);
-        let mut buckets = Buckets::from_parts(pointers, reserved);
-        buckets.clear();
-        let (pointers, reserved) = buckets.into_parts();
-        *self = Shared::first(pointers, reserved, own, slots);
+        self.owner_before_first(own, slots).clear();
     }
 
     /// Gives the pointers and the number of reserved slots back to an owner, with all that was lent

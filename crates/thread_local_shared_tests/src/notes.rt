@@ -1,5 +1,5 @@
 //! The first sharing of a table, in which its history of ids says what slots were published with.
-ghost use Rattle.std.specs.Prelude.{◌≡◌, ◌-◌, ◌^◌, ◌<◌, ℕ, Some, IfSome, true, false};
+ghost use Rattle.std.specs.Prelude.{◌≡◌, ◌-◌, ◌^◌, ◌<◌, ℕ, Some, true, false};
 ghost use mathlib.Core.List.{IsPrefix};
 ghost use Rattle.thread_local_base.specs.Buckets.{values};
 ghost use Rattle.thread_local_base.specs.Held.{is_held};
@@ -9,11 +9,11 @@ ghost use Rattle.thread_local_ids.specs.Sharings.{Belongs, IsFirst, left_of};
 
 use crate::same::assert_same;
 use crate::steps::{Table, begun, first_three, left, look, share, take_back};
-use std::alloc::Global;
+use crate::tokens::told;
 use std::test::Fail;
 use thread_local_base::Thread;
 use thread_local_buckets::Buckets;
-use thread_local_ids::{Book, HeldId, Page, Right, SharedIds, Taken, Tenure, Token};
+use thread_local_ids::{Book, HeldId, Page, SharedIds, Taken, Token};
 use thread_local_shared_buckets::Shared;
 
 /// What the holder of an id finds in its slot, which is what its mark notes.
@@ -30,32 +30,6 @@ fn found<T: Copy>(shared: &Shared<T>, taken: Taken) -> Option<T>
     };
     claim.give_up();
     found
-}
-
-/// Publishes a value unless the slot holds one. The mark notes what a token says then.
-fn noted<T: Drop>(
-    shared: &Shared<T>,
-    held: (HeldId, Right),
-    tenure: &Tenure,
-    alloc: Global,
-    value: T,
-) -> ((HeldId, Right), Option<Token<T>>)
-    requires held { IsHeldIn shared.now.table (held.0, held.1, tenure.now) }
-    requires first { IsFirst shared.now.sharing shared.now.table }
-    requires sharing { Belongs shared.now.sharing shared.now.table }
-    ensures table { (result.0.1.table ≡ shared.now.table) × (result.0.0.mark.table ≡ shared.now.table) }
-    ensures id { (result.0.0.id ≡ held.0.id) × (result.0.1.id ≡ held.0.id) }
-    ensures told { result.0.0.mark.told ≡ true }
-    ensures token { IfSome result.1 (λ token. token.id ≡ held.0.id) }
-    ensures left { IfSome result.1 (λ token. result.0.0.mark.left ≡ left_of T.row (Some token.value)) }
-{
-    let mut claim = shared.claim(held.0, held.1, tenure.reached());
-    if claim.get().is_some() {
-        return (claim.give_up(), None);
-    }
-    let _is_set = claim.set(alloc, value).is_ok();
-    let token = claim.token();
-    (claim.give_up(), token)
 }
 
 /// Takes up once more that what a mark notes is told, as a token shows.
@@ -91,7 +65,7 @@ fn ended<T>(shared: Shared<T>, ids: SharedIds, page: &Page) -> (Buckets<T>, Book
 fn a_note_says_what_the_next_holder_finds(rt: HostRuntime) -> Result<(), Fail> {
     let (table, shared) = begun(rt.alloc());
     let (held, right, tenure) = table.take(&rt)?;
-    let (held, token) = noted(&shared, (held, right), &tenure, rt.alloc(), 7u32);
+    let (held, token) = told(&shared, (held, right), &tenure, rt.alloc(), 7u32);
     let (mut held, right) = held;
     let token = token.expect(&rt, "a token");
     assert_same(&rt, (held.id, token.id()), (0, 0));
@@ -111,7 +85,7 @@ fn a_note_says_what_the_next_holder_finds(rt: HostRuntime) -> Result<(), Fail> {
 }
 
 /// Drops all values, and answers the other table that has the buckets then, in its first sharing.
-fn cleared<T: Drop>(table: Table, shared: &mut Shared<T>, alloc: Global) -> Table
+fn cleared<T: Drop>(table: Table, shared: &mut Shared<T>) -> Table
     ensures table { shared.new.table ≡ result.ids.table }
     ensures first { IsFirst shared.new.sharing shared.new.table }
     ensures belongs { Belongs shared.new.sharing shared.new.table }
@@ -119,7 +93,7 @@ fn cleared<T: Drop>(table: Table, shared: &mut Shared<T>, alloc: Global) -> Tabl
     ensures grown { shared.new.grown_by_ids ≡ true }
 {
     let (table, slots) = table.cleared();
-    shared.clear(alloc, &table.right, slots);
+    shared.clear(&table.right, slots);
     table
 }
 
@@ -133,7 +107,7 @@ fn cleared_buckets_are_those_of_a_new_table(rt: HostRuntime) -> Result<(), Fail>
     ];
     let mut shared = share(buckets, &table.right);
     let before = [look(&shared, 0), look(&shared, 1234)];
-    let table = cleared(table, &mut shared, rt.alloc());
+    let table = cleared(table, &mut shared);
     let after = [look(&shared, 0), look(&shared, 1234)];
     let seen = found(&shared, table.take(&rt)?);
     assert_same(&rt, (inserted, before), ([true; 2], [Some(5), Some(6)]));

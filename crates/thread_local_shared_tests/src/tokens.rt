@@ -1,7 +1,7 @@
 //! What slots were published with, as tokens say it: to claims, to walkers and to an owner.
 ghost use Rattle.std.specs.Prelude.{◌≡◌, ◌≢◌, ◌-◌, ◌<◌, Some, IfSome, IsSome, true};
 ghost use Rattle.thread_local_ids.specs.Taken.{IsHeldIn};
-ghost use Rattle.thread_local_ids.specs.Sharings.{Belongs};
+ghost use Rattle.thread_local_ids.specs.Sharings.{Belongs, IsFirst, left_of};
 ghost use Rattle.thread_local_base.specs.Buckets.{values};
 ghost use Rattle.thread_local_base.specs.Learnt.{Vacant};
 
@@ -15,8 +15,9 @@ use thread_local_buckets::Buckets;
 use thread_local_ids::{HeldId, Right, Tenure, Token, Told};
 use thread_local_shared_buckets::{Claim, Shared};
 
-/// Publishes a value, and answers a token of what the slot was published with.
-fn told<T: Drop>(
+/// Publishes a value, and answers a token of what the slot was published with. In the first sharing
+/// the mark notes that value.
+pub(crate) fn told<T: Drop>(
     shared: &Shared<T>,
     held: (HeldId, Right),
     tenure: &Tenure,
@@ -30,6 +31,9 @@ fn told<T: Drop>(
     ensures told { result.0.0.mark.told ≡ true }
     ensures token { IfSome result.1 (λ token.
         (token.sharing ≡ shared.now.sharing) × (token.id ≡ held.0.id)) }
+    ensures left { IfSome result.1 (λ token.
+        IsFirst shared.now.sharing shared.now.table
+        → result.0.0.mark.left ≡ left_of T.row (Some token.value)) }
 {
     let ((held, right), _) = publish(shared, held, tenure, alloc, value);
     let claim = shared.claim(held, right, tenure.reached());

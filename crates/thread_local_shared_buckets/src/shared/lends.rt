@@ -5,12 +5,12 @@ ghost use types.Logic.{sem};
 ghost use Rattle.std.specs.Borrow.{follows};
 ghost use Rattle.thread_local_buckets.specs.contracts.buckets.Buckets.{the_row as owner_row};
 ghost use Rattle.thread_local_shared_buckets.specs.contracts.shared.Shared.{the_row};
-ghost use Rattle.thread_local_shared_buckets.specs.Lent.{view_with};
+ghost use Rattle.thread_local_shared_buckets.specs.Lent.{view_with, view_begun};
 
 use super::Shared;
 use std::marker::PhantomData;
 use thread_local_buckets::Buckets;
-use thread_local_ids::Book;
+use thread_local_ids::{Book, Right, SlotRights};
 
 impl<T> Shared<T> {
     /// The buckets, lent to an owner with all that was lent while they were shared. Once the loan
@@ -23,6 +23,20 @@ impl<T> Shared<T> {
         ensures reserved { result.now.reserved ≡ self.old.reserved }
     {
         self.owner_and_book().0
+    }
+
+    /// `owner`, whose end makes the buckets those of the table that the right belongs to. They are in
+    /// its first sharing if the owner leaves no value.
+    pub(super) fn owner_before_first(&mut self, own: &Right, slots: SlotRights) -> &mut Buckets<T>
+        requires table { slots.table ≡ own.now.table }
+        ensures* writes_back { sem 𝓛
+            (follows (the_row T.row) (owner_row T.row) self.entry.ghost_name result.ghost_name
+            (view_begun own.now.table)) }
+        ensures reserved { result.now.reserved ≡ self.old.reserved }
+    {
+        let _ = own;
+        let _ = slots;
+        unsafe { &mut *(self as *mut Shared<T> as *mut Buckets<T>) }
     }
 
     /// `owner`, with what the slots were published with in the sharing that ends.
