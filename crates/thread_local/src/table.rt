@@ -31,6 +31,7 @@ use thread_local_base::{LocalError, Thread};
 pub use thread_local_base::{Judge, judge_sync, judge_value};
 pub use thread_local_buckets::CapacityError;
 use thread_local_buckets::{Buckets, EntriesMut, IntoEntries, IntoIter, IterMut};
+use thread_local_ids::left::a_value_left_is_found;
 use thread_local_ids::{Right, Room, SharedIds, SlotRights};
 pub use thread_local_ids::{Book, Page, Token, Told};
 use thread_local_shared_buckets::{Entries, Iter, Shared, Tokens};
@@ -191,7 +192,7 @@ impl<T> ThreadLocal<T> {
         ensures in_range { IfOk result (λ local. local.id < 2 ^ 63 - 1) }
         ensures least { IfOk result (λ local. local.id ≡ least (held_after local.before)) }
         ensures left { IfOk result (λ local.
-            IsFirst local.sharing local.table
+            IsFirst self.now.sharing self.now.table
             → left_of T.row local.value ≡ published_in local.before local.id) }
     {
         self.local_after(rt, &mut self.page())
@@ -224,9 +225,14 @@ impl<T> ThreadLocal<T> {
         ensures in_range { IfOk result (λ local. local.id < 2 ^ 63 - 1) }
         ensures least { IfOk result (λ local. local.id ≡ least (held_after local.before)) }
         ensures left { IfOk result (λ local.
-            IsFirst local.sharing local.table
+            IsFirst self.now.sharing self.now.table
             → left_of T.row local.value ≡ published_in local.before local.id) }
         ensures early { IsPrefix page.old.moves page.new.moves }
+        ensures found { IfOk result (λ local.
+            IsFirst self.now.sharing self.now.table
+            → (value : T)
+            → published_in page.old.moves local.id ≡ left_of T.row (Some value)
+            → local.value ≡ Some value) }
         ensures since { IfOk result (λ local. IsPrefix page.old.moves local.before) }
         ensures page { page.new.table ≡ page.old.table }
         ensures moves { IfOk result (λ local. page.new.moves ≡ noted local.before Take) }
@@ -237,6 +243,8 @@ impl<T> ThreadLocal<T> {
         ensures exhausted { result ≡ Err LocalError.Exhausted
             → HoldsAllBelow (2 ^ 63 - 1) (held_after page.new.moves) }
     {
+        // That what a page says of the id is still said.
+        a_value_left_is_found::<T>();
         let (held, right, tenure) = self.ids.take(rt, page, &self.room)?;
         let seat = Seat {
             table: self,

@@ -34,7 +34,6 @@ fn next<'a, T, R: Wait>(
         → local.id ≡ ended.entry.id
         → local.value ≡ Some value) }
 {
-    a_value_left_is_found::<T>();
     let mut page = ended.give_back();
     let local = table.local_after(rt, &mut page)?;
     Ok(local)
@@ -67,7 +66,6 @@ fn after<'a, T, R: Wait>(
         → published_in page.moves local.id ≡ left_of T.row (Some value)
         → local.value ≡ Some value) }
 {
-    a_value_left_is_found::<T>();
     let mut page = page;
     let local = table.local_after(rt, &mut page)?;
     Ok(local)

@@ -6,7 +6,7 @@ ghost use Rattle.thread_local.specs.Sharings.{IsFirst};
 
 use std::sync::Wait;
 use thread_local::ThreadLocal;
-use thread_local::local::{Local, a_value_left_is_found};
+use thread_local::local::Local;
 use thread_local::thread_id::LocalError;
 
 /// Ends a job, and begins the next one. With the same id that has the seed of the job that ended,
@@ -26,7 +26,6 @@ pub fn relay<'a, R: Wait>(
         → next.id ≡ ended.entry.id
         → next.value ≡ Some seed) }
 {
-    a_value_left_is_found::<u64>();
     let mut page = ended.give_back();
     let mut next = seeds.local_after(rt, &mut page)?;
     seed(&mut next, fresh)?;

@@ -1,8 +1,10 @@
-use Rattle.std.proofs.Common.{rules, arith, ◌≤◌, ◌<◌, ◌-◌, ◌^◌, ◌∙◌, ℕ, sym, subst}
+use Rattle.std.proofs.Common.{rules, arith, refl, ◌≡◌, ◌≤◌, ◌<◌, ◌-◌, ◌^◌, ◌∙◌, ℕ, sym, subst}
 use Rattle.thread_local.proofs.Reserved.{makes_local}
 use Rattle.std.specs.Prelude.{List, Bool}
 use Rattle.thread_local_base.specs.Held.{held_count, HoldsAllBelow}
-use Rattle.thread_local_base.specs.IdMoves.{held_after}
+use Rattle.thread_local_base.specs.IdMoves.{held_after, published_in}
+use Rattle.thread_local_base.specs.Answers.{view_of}
+use Rattle.thread_local_ids.specs.Sharings.{left_of}
 use Rattle.thread_local.proofs.Told.{ok_not_err}
 use Rattle.thread_local.proofs.Counted.{all_below_count}
 use Rattle.thread_local.proofs.table.ThreadLocal.local_after.Goals as goal
@@ -32,6 +34,11 @@ returns-clause-early g c = c.take.ensures.early
 
 pub returns-clause-since : goal.returns-clause-since
 returns-clause-since g c = c.in_ok-held.ensures.taken.since
+
+pub returns-clause-found : goal.returns-clause-found
+returns-clause-found g c = λ first value says.
+    let left : left_of g.row.T (view_of c.claim.result.learnt).value ≡ published_in c.in_ok-held.tenure.before c.claim.result.id = search (rules, first) in
+    c.a_value_left_is_found.ensures.found _ _ _ _ _ value says c.in_ok-held.ensures.taken.since left refl
 
 pub returns-clause-moves : goal.returns-clause-moves
 returns-clause-moves g c = c.in_ok-held.ensures.taken.moves
