@@ -5,17 +5,11 @@
 #[cfg(test)]
 mod callers;
 #[cfg(test)]
-mod history;
-#[cfg(test)]
-mod id_callers;
-#[cfg(test)]
 mod judged;
 #[cfg(test)]
 mod same;
 #[cfg(test)]
 mod seat_callers;
-#[cfg(test)]
-mod slot_callers;
 #[cfg(test)]
 mod tokens;
 #[cfg(test)]

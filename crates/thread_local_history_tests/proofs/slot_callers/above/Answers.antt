@@ -2,7 +2,7 @@ use Rattle.std.proofs.Common.{◌≡◌, ◌∙◌, ◌<◌, ◌≤◌, ◌+◌,
 use Rattle.std.proofs.lemmas.Bool.{eq-eqb, cases_lt}
 use Rattle.thread_local_base.specs.Held.{least, with_least}
 use Rattle.thread_local_base.specs.IdMoves.{IdMove, held_after}
-use Rattle.thread_local_contract_tests.proofs.slot_callers.above.Goals as goal
+use Rattle.thread_local_history_tests.proofs.slot_callers.above.Goals as goal
 
 -- the least free id lies below the peak that its take leaves
 below : (held : List Bool) (peak : ℕ) → least held ≤ length held

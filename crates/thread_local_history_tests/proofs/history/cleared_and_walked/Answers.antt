@@ -1,5 +1,5 @@
 use Rattle.std.proofs.Common.{◌∙◌, sym}
-use Rattle.thread_local_contract_tests.proofs.history.cleared_and_walked.Goals as goal
+use Rattle.thread_local_history_tests.proofs.history.cleared_and_walked.Goals as goal
 
 pub returns-clause-nothing : goal.returns-clause-nothing
 returns-clause-nothing g c = λ id in_range free none.

@@ -1,8 +1,8 @@
 use Rattle.std.proofs.Common.{◌≡◌, ◌≤◌, ℕ, false, sym, subst}
 use Rattle.thread_local_base.specs.Held.{is_held}
 use Rattle.thread_local_base.specs.IdMoves.{held_after}
-use Rattle.thread_local_contract_tests.proofs.Least.{least_at_most}
-use Rattle.thread_local_contract_tests.proofs.id_callers.after_a_return.Goals as goal
+use Rattle.thread_local_history_tests.proofs.Least.{least_at_most}
+use Rattle.thread_local_history_tests.proofs.id_callers.after_a_return.Goals as goal
 
 pub returns-clause-no_greater : goal.returns-clause-no_greater
 returns-clause-no_greater g c = λ free.

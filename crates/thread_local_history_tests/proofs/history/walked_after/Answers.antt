@@ -1,5 +1,5 @@
 use Rattle.std.proofs.Common.{refl, sym}
-use Rattle.thread_local_contract_tests.proofs.history.walked_after.Goals as goal
+use Rattle.thread_local_history_tests.proofs.history.walked_after.Goals as goal
 
 pub returns-clause-found : goal.returns-clause-found
 returns-clause-found g c = λ id value says in_range free.
