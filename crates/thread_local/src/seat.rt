@@ -177,21 +177,6 @@ impl<'a, T> Seat<'a, T> {
         self.claim.fill(table.alloc, create)
     }
 
-    /// Fills the slot with what `T::made_with` makes, if it is empty.
-    #[inline]
-    pub(crate) fn fill_default(&mut self) -> Result<(), AllocError>
-    where
-        T: MadeWith<Global>,
-        ensures ok { OnOk result (IsFilled ⊤ T.is_made_with self.old self.new) }
-        ensures err { OnErr result (IsRefused ⊤ self.old self.new) }
-        ensures granted { self.old.known ≡ true → IsOk result }
-        ensures has_value { IsSome self.old.value → IsOk result }
-    {
-        let table = self.table;
-        let alloc = table.alloc;
-        self.fill(|| T::made_with(alloc))
-    }
-
     /// Publishes a value that is at hand, where the slot is empty. `Occupied` gives it back where
     /// the slot holds one, and `Memory` where its bucket is missing and memory has run out. As
     /// `OnceCell::set` of Rust.

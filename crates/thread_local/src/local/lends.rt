@@ -107,7 +107,8 @@ impl<'a, T, R: Wait> Local<'a, T, R> {
         ensures granted { self.old.known ≡ true → IsOk result }
         ensures has_value { IsSome self.old.value → IsOk result }
     {
-        self.seat.fill_default()?;
-        Ok(self.seat.get().unwrap())
+        let table = self.seat.table;
+        let alloc = table.alloc;
+        self.get_or(|| T::made_with(alloc))
     }
 }

@@ -62,7 +62,8 @@ impl<'a, T> Seat<'a, T> {
         ensures granted { self.old.known ≡ true → IsOk result }
         ensures has_value { IsSome self.old.value → IsOk result }
     {
-        self.fill_default()?;
-        Ok(self.get().unwrap())
+        let table = self.table;
+        let alloc = table.alloc;
+        self.get_or(|| T::made_with(alloc))
     }
 }
