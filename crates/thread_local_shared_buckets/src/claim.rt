@@ -10,7 +10,7 @@ ghost use Rattle.thread_local_ids.specs.Sharings.{Belongs, is_first, left_of};
 ghost use Rattle.thread_local_shared_buckets.specs.Known.{HasLooked, value_held};
 ghost use Rattle.thread_local_shared_buckets.specs.Room.{IsEmpty, HasRoom, IsFilledBy};
 
-use crate::claimed::{ClaimedSlot, HOLDING, MISSING};
+use crate::claimed::{ClaimedSlot, HOLDING, MISSING, VACANT};
 use crate::{Announcements, SharedBucket};
 use std::alloc::{AllocError, Global};
 use std::marker::Model;
@@ -249,10 +249,11 @@ impl<'a, T> Claim<'a, T> {
         ensures learnt { self.new.learnt ≡ Vacant }
         ensures reserved { self.new.reserved ≡ self.old.reserved }
     {
+        let noted = self.slot.nothing();
         let announced = self.announcements.announce(thread.bucket);
         let reached = &self.reached;
         self.slot
-            .install_empty(alloc, thread, block, reached, announced);
+            .install(alloc, thread, block, reached, announced, VACANT, noted);
     }
 
     /// Publishes a value in a slot that is empty, for which a missing bucket is made. Where memory is
@@ -359,7 +360,7 @@ impl<'a, T> Claim<'a, T> {
         let announced = self.announcements.announce(thread.bucket);
         let reached = &self.reached;
         self.slot
-            .install(alloc, thread, block, reached, announced, noted);
+            .install(alloc, thread, block, reached, announced, HOLDING, noted);
         let held = &mut self.held;
         self.slot.told(held);
     }

@@ -21,9 +21,10 @@ use thread_local_buckets::Block;
 use thread_local_ids::{Noted, Reached};
 
 impl<'a, T> ClaimedSlot<'a, T> {
-    /// Offers a block that has the slot's value, which it publishes. Where another block was installed
-    /// first, that one stays, the value is published there, and this block is freed. The bucket is
-    /// announced, and it is noted what is published.
+    /// Offers a block, which publishes the slot's value if the block has one. `state` is the number of
+    /// what a look at the slot finds then. Where another block was installed first, that one stays, the
+    /// value is published there, and this block is freed. The bucket is announced, and it is noted what
+    /// is published.
     #[inline(always)]
     pub(crate) fn install(
         &mut self,
@@ -32,6 +33,7 @@ impl<'a, T> ClaimedSlot<'a, T> {
         block: Block<T, Global>,
         reached: &Reached,
         announced: Announced,
+        state: u64,
         noted: Noted,
     )
         requires missing { self.old.learnt ≡ Missing }
@@ -41,7 +43,7 @@ impl<'a, T> ClaimedSlot<'a, T> {
         requires others { slice_set block.slots thread.index None ≡ empty_slots (2 ^ thread.bucket) }
         requires reached { (reached.now.table ≡ self.old.table) × (self.old.id < reached.now.ids) }
         requires announced { (announced.by ≡ self.old.word) × (announced.bucket ≡ thread.bucket) }
-        requires value { IsSome (slot_value block.slots thread.index) }
+        requires state { state ≡ state_of (found_as (slot_value block.slots thread.index)) }
         requires noted { (noted.sharing ≡ self.old.sharing)
             × (noted.id ≡ self.old.id)
             × (noted.value ≡ left_of T.row (slot_value block.slots thread.index)) }
@@ -54,14 +56,14 @@ impl<'a, T> ClaimedSlot<'a, T> {
         ensures learnt { self.new.learnt ≡ found_as (slot_value block.slots thread.index) }
     {
         let (noted, again) = noted.twice();
-        let back = self.exchange(thread.index, block, reached, announced, HOLDING, noted);
+        let back = self.exchange(thread.index, block, reached, announced, state, noted);
         if let Some(block) = back {
-            self.publish_second(alloc, thread, block, again);
+            self.publish_second(alloc, thread, block, state, again);
         }
     }
 
     /// Publishes the value of a block where another block was installed first, and frees that block.
-    /// It is never inlined, so that the way of the first is short.
+    /// Where it has none, it is only freed. It is never inlined, so that the way of the first is short.
     #[cold]
     #[inline(never)]
     fn publish_second(
@@ -69,6 +71,7 @@ impl<'a, T> ClaimedSlot<'a, T> {
         alloc: &Global,
         thread: Thread,
         block: Block<T, Global>,
+        state: u64,
         noted: Noted,
     )
         requires vacant { self.old.learnt ≡ Vacant }
@@ -76,7 +79,7 @@ impl<'a, T> ClaimedSlot<'a, T> {
         requires index { thread.index ≡ self.old.index }
         requires block { (block.heap ≡ alloc.now) × (block.left ≡ 0) }
         requires others { slice_set block.slots thread.index None ≡ empty_slots (2 ^ thread.bucket) }
-        requires value { IsSome (slot_value block.slots thread.index) }
+        requires state { state ≡ state_of (found_as (slot_value block.slots thread.index)) }
         requires noted { (noted.sharing ≡ self.old.sharing)
             × (noted.id ≡ self.old.id)
             × (noted.value ≡ left_of T.row (slot_value block.slots thread.index)) }
@@ -88,42 +91,12 @@ impl<'a, T> ClaimedSlot<'a, T> {
         ensures reserved { self.new.reserved ≡ self.old.reserved }
         ensures learnt { self.new.learnt ≡ found_as (slot_value block.slots thread.index) }
     {
+        if state != HOLDING {
+            return block.release(alloc, bucket_size(thread.bucket));
+        }
         let (value, block) = emptied(block, alloc, thread);
         block.release(alloc, bucket_size(thread.bucket));
         self.publish(thread.index, flag_word_of::<T>(thread), value, noted);
-    }
-
-    /// Offers a block without a value. Where another block was installed first, that one stays, and this
-    /// block is freed. The bucket is announced.
-    pub(crate) fn install_empty(
-        &mut self,
-        alloc: &Global,
-        thread: Thread,
-        block: Block<T, Global>,
-        reached: &Reached,
-        announced: Announced,
-    )
-        requires missing { self.old.learnt ≡ Missing }
-        requires place { IsPlaceOf thread.bucket thread.index self.old.id }
-        requires index { thread.index ≡ self.old.index }
-        requires block { (block.heap ≡ alloc.now)
-            × (block.slots ≡ empty_slots (2 ^ thread.bucket))
-            × (block.left ≡ 0) }
-        requires reached { (reached.now.table ≡ self.old.table) × (self.old.id < reached.now.ids) }
-        requires announced { (announced.by ≡ self.old.word) × (announced.bucket ≡ thread.bucket) }
-        ensures same_slot { (self.new.table ≡ self.old.table)
-            × (self.new.sharing ≡ self.old.sharing)
-            × (self.new.word ≡ self.old.word)
-            × (self.new.id ≡ self.old.id)
-            × (self.new.index ≡ self.old.index) }
-        ensures reserved { self.new.reserved ≡ self.old.reserved }
-        ensures learnt { self.new.learnt ≡ Vacant }
-    {
-        let noted = self.nothing();
-        let back = self.exchange(thread.index, block, reached, announced, VACANT, noted);
-        if let Some(block) = back {
-            block.release(alloc, bucket_size(thread.bucket));
-        }
     }
 
     /// One compare and exchange: where the bucket's pointer is null, it points to the block from

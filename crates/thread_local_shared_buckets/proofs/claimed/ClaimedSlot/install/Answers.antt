@@ -1,0 +1,85 @@
+-- The search for these takes seconds.
+use Rattle.std.proofs.Common.{◌∙◌, ◌≡◌, ◌^◌, ℕ, List, Option, None, ap, sym}
+use Rattle.std.specs.Prelude.{slice_set}
+use base.Stored.{Gv}
+use denote.Param.{param}
+use Rattle.thread_local_base.specs.Learnt.{Learnt}
+use Rattle.thread_local_base.specs.Place.{bucket_of, index_of}
+use Rattle.thread_local_buckets.specs.Slots.{slot_value, empty_slots}
+use Rattle.thread_local_ids.specs.declared.rights.mark.Noted.{Noted}
+use Rattle.thread_local_ids.specs.Sharings.{left_of}
+use Rattle.thread_local_shared_buckets.specs.Known.{found_as, state_of}
+use Rattle.thread_local_shared_buckets.proofs.claimed.ClaimedSlot.install.Goals as goal
+
+pub exchange-back-requires : goal.exchange-back-requires
+exchange-back-requires g c =
+    let slots = c.args.block.slots in
+    let none : Option g.row.T.Denot = None in
+    let told = c.twice-noted.ensures.0 in
+    let asked = c.requires in
+    record {
+      missing = asked.missing;
+      index = asked.index;
+      made = (
+        asked.block.1,
+        ◌∙◌ {A = List (Option g.row.T.Denot)} (ap (λ (i : ℕ). slice_set slots i none) (sym asked.index))
+            (asked.others ∙ ap (λ (b : ℕ). empty_slots {X = g.row.T.Denot} (2 ^ b)) asked.place.0),
+      );
+      reached = asked.reached;
+      announced = (asked.announced.0, ◌∙◌ {A = ℕ} asked.announced.1 asked.place.0);
+      state = ◌∙◌ {A = ℕ} asked.state (ap (λ (i : ℕ). state_of (found_as (slot_value slots i))) asked.index);
+      noted = (
+        ◌∙◌ {A = Option ℕ} (ap (λ (n : Noted). n.sharing) told) asked.noted.0,
+        ◌∙◌ {A = ℕ} (ap (λ (n : Noted). n.id) told) asked.noted.1,
+        ◌∙◌ {A = Option Gv} (ap (λ (n : Noted). n.value) told)
+            (asked.noted.2 ∙ ap (λ (i : ℕ). left_of (param 0 g.row.T) (slot_value slots i)) asked.index),
+      );
+    }
+
+pub publish_second-requires : goal.publish_second-requires
+publish_second-requires g c =
+    let i = c.args.thread.index in
+    let none : Option g.row.T.Denot = None in
+    let same = c.exchange-back.ensures.same_slot in
+    let back = c.in-Some.ensures.back in
+    let told = c.twice-noted.ensures.1 in
+    let asked = c.requires in
+    record {
+      vacant = c.in-Some.ensures.learnt;
+      place = (◌∙◌ {A = ℕ} asked.place.0 (sym (ap bucket_of same.3)), ◌∙◌ {A = ℕ} asked.place.1 (sym (ap index_of same.3)));
+      index = ◌∙◌ {A = ℕ} asked.index (sym same.4);
+      block = (back.0 ∙ asked.block.0, back.2);
+      others = ◌∙◌ {A = List (Option g.row.T.Denot)} (ap (λ (cs : List (Option g.row.T.Denot)). slice_set cs i none) back.1) asked.others;
+      state =
+          ◌∙◌ {A = ℕ} asked.state (sym (ap (λ (cs : List (Option g.row.T.Denot)). state_of (found_as (slot_value cs i))) back.1));
+      noted = (
+        ◌∙◌ {A = Option ℕ} (ap (λ (n : Noted). n.sharing) told) (asked.noted.0 ∙ sym same.1),
+        ◌∙◌ {A = ℕ} (ap (λ (n : Noted). n.id) told) (asked.noted.1 ∙ sym same.3),
+        ◌∙◌ {A = Option Gv} (ap (λ (n : Noted). n.value) told)
+            (asked.noted.2 ∙ sym (ap (λ (cs : List (Option g.row.T.Denot)). left_of (param 0 g.row.T) (slot_value cs i)) back.1)),
+      );
+    }
+
+pub returns-in-Some : goal.returns-in-Some
+returns-in-Some g c =
+    let now = c.publish_second.ensures.same_slot in
+    let then = c.exchange-back.ensures.same_slot in
+    let i = c.args.thread.index in
+    record {
+      same_slot = (now.0 ∙ then.0, now.1 ∙ then.1, now.2 ∙ then.2, now.3 ∙ then.3, now.4 ∙ then.4);
+      reserved = c.publish_second.ensures.reserved ∙ c.exchange-back.ensures.reserved;
+      learnt =
+          ◌∙◌ {A = Learnt g.row.T.Denot} c.publish_second.ensures.learnt
+          (ap (λ (cs : List (Option g.row.T.Denot)). found_as (slot_value cs i)) c.in-Some.ensures.back.1);
+    }
+
+pub returns-in_default : goal.returns-in_default
+returns-in_default g c =
+    let then = c.exchange-back.ensures in
+    record {
+      same_slot = then.same_slot;
+      reserved = then.reserved;
+      learnt =
+          ◌∙◌ {A = Learnt g.row.T.Denot} c.in_default.ensures.learnt
+          (ap (λ (i : ℕ). found_as (slot_value c.args.block.slots i)) (sym c.requires.index));
+    }
