@@ -5,15 +5,26 @@ use Rattle.thread_local_buckets.specs.Slots.{empty_slots}
 use Rattle.thread_local_base.specs.Learnt.{Learnt, Unknown, Missing, Standing, Vacant, Holding, learnt_by_publish}
 use Rattle.thread_local_shared_buckets.specs.Known.{HasLooked, state_of}
 use Rattle.thread_local_shared_buckets.specs.Room.{IsEmpty, IsFilledBy}
+use Rattle.thread_local_shared_buckets.specs.Views.{ClaimView}
 
 module _ {V : Type 0} where
+  held_still : (learnt : Learnt V) → state_of learnt ≡ 2 → (x : V) × (learnt ≡ Holding x)
+  held_still Unknown two = absurd cc
+  held_still Missing two = absurd cc
+  held_still Standing two = absurd cc
+  held_still Vacant two = absurd cc
+  held_still (Holding x) two = (x, refl)
+
   -- the slot is filled already
-  holds_still : (makes : V → Type 0) (learnt : Learnt V) → state_of learnt ≡ 2 → IsFilledBy makes learnt learnt
-  holds_still makes Unknown two = absurd cc
-  holds_still makes Missing two = absurd cc
-  holds_still makes Standing two = absurd cc
-  holds_still makes Vacant two = absurd cc
-  holds_still makes (Holding x) two = record { value = x; holds = refl; made = inl refl }
+  pub filled_already : (makes : V → Type 0) (claim : ClaimView V) (state : ℕ) → state ≡ state_of claim.learnt → state ≡ 2
+      → IsFilledBy makes claim claim
+  filled_already makes claim state is two =
+      let there = held_still claim.learnt (sym is ∙ two) in
+      record {
+        value = there.0;
+        holds = ap (λ (l : Learnt V). record claim { learnt = l }) there.1;
+        made = inl there.1;
+      }
 
   empty_still : (learnt : Learnt V) → HasLooked learnt → state_of learnt ≢ 2 → IsEmpty learnt
   empty_still Unknown looked apart = absurd looked
@@ -22,32 +33,9 @@ module _ {V : Type 0} where
   empty_still Vacant looked apart = inr refl
   empty_still (Holding x) looked apart = absurd (apart refl)
 
-  pub filled_already : (makes : V → Type 0) (inner learnt : Learnt V) (state : ℕ) → inner ≡ learnt → state ≡ state_of inner → state ≡ 2
-      → IsFilledBy makes learnt learnt
-  filled_already makes inner learnt state same is two =
-      subst (λ (l : Learnt V). IsFilledBy makes l l) same (holds_still makes inner (sym is ∙ two))
-
   -- it is empty still
   pub empty_else : (inner learnt : Learnt V) (state : ℕ) → inner ≡ learnt → HasLooked inner → state ≡ state_of inner → state ≢ 2 → IsEmpty learnt
   empty_else inner learnt state same looked is apart = subst IsEmpty same (empty_still inner looked (λ two. apart (is ∙ two)))
-
-  -- it is filled now
-  pub filled_now : (makes : V → Type 0) (old new : Learnt V) (x : V) → IsEmpty old → new ≡ Holding x → makes x → IsFilledBy makes old new
-  filled_now makes old new x empty is made = record { value = x; holds = is; made = inr (empty, made) }
-
-  -- a claim that holds a value has looked, and so has one whose slot is vacant
-  pub looked_now : (new : Learnt V) (x : V) → new ≡ Holding x → HasLooked new
-  looked_now new x is = subst HasLooked (sym is) tt
-
-  pub looked_vacant : (new : Learnt V) → new ≡ Vacant → HasLooked new
-  looked_vacant new is = subst HasLooked (sym is) tt
-
-  -- where the bucket is missing afterwards, it was missing before
-  pub found_now : (old new : Learnt V) (x : V) → new ≡ Holding x → new ≡ Missing → old ≡ Missing
-  found_now old new x is missing = cc
-
-  pub found_vacant : (old new : Learnt V) → new ≡ Vacant → new ≡ Missing → old ≡ Missing
-  found_vacant old new is missing = cc
 
   -- a publish into a slot that is empty and whose bucket stands fills it
   pub vacant_else : (learnt : Learnt V) (missing : Bool) → IsEmpty learnt → MatchBool missing (learnt ≡ Missing) (learnt ≢ Missing)

@@ -21,6 +21,7 @@ pub mod PassLaws
 pub mod LookLaws
 pub mod AtHandLaws
 pub mod NextLaws
+pub mod ClaimLaws
 mod ClaimedFields
 mod IdLaws
 mod StateLaws

@@ -36,11 +36,7 @@ pub struct Claim<'a, T> {
 }
 
 impl<'a, T> Model for Claim<'a, T> {
-    ghost use Rattle.std.specs.Prelude.{◌≡◌, ◌<◌, true};
-    ghost use Rattle.thread_local_base.specs.Place.{index_of};
-    ghost use Rattle.thread_local_ids.specs.Sharings.{Belongs};
-    ghost use Rattle.thread_local_shared_buckets.specs.Announcing.{BeginsWithFirst};
-    ghost use Rattle.thread_local_shared_buckets.specs.Known.{HasLooked};
+    ghost use Rattle.thread_local_shared_buckets.specs.Room.{IsClaim};
     ghost use Rattle.thread_local_shared_buckets.specs.Views.{ClaimView, claim_view_coded};
 
     ghost Value = { ClaimView T };
@@ -56,17 +52,7 @@ impl<'a, T> Model for Claim<'a, T> {
           learnt = c.slot.learnt;
         } };
 
-    ghost invariant = { λ c.
-        (c.slot.id ≡ c.held.id)
-        × (c.slot.index ≡ index_of c.held.id)
-        × HasLooked c.slot.learnt
-        × (c.held.mark.table ≡ c.slot.table)
-        × (c.held.mark.told ≡ true)
-        × Belongs c.slot.sharing c.slot.table
-        × (c.slot.word ≡ c.announcements.now)
-        × BeginsWithFirst c.announcements.now
-        × (c.reached.table ≡ c.slot.table)
-        × (c.held.id < c.reached.ids) };
+    ghost invariant = { λ c. IsClaim c.slot c.held c.announcements.now c.reached };
 }
 
 impl<'a, T> Claim<'a, T> {
@@ -121,14 +107,8 @@ impl<'a, T> Claim<'a, T> {
         create: F,
     ) -> Result<(), AllocError>
         requires callable { IsEmpty self.old.learnt → F.pre create }
-        ensures same_slot { (self.new.table ≡ self.old.table)
-            × (self.new.sharing ≡ self.old.sharing)
-            × (self.new.id ≡ self.old.id) }
-        ensures ok { OnOk result (IsFilledBy (F.post create) self.old.learnt self.new.learnt) }
-        ensures err { OnErr result ((self.old.learnt ≡ Missing) × (self.new.learnt ≡ Missing)) }
-        ensures learnt { HasLooked self.new.learnt }
-        ensures found { self.new.learnt ≡ Missing → self.old.learnt ≡ Missing }
-        ensures reserved { self.new.reserved ≡ self.old.reserved }
+        ensures ok { OnOk result (IsFilledBy (F.post create) self.old self.new) }
+        ensures err { OnErr result ((self.old.learnt ≡ Missing) × (self.new ≡ self.old)) }
     {
         if self.slot.state() == HOLDING {
             return Ok(());
@@ -154,12 +134,8 @@ impl<'a, T> Claim<'a, T> {
         requires missing { self.old.learnt ≡ Missing }
         requires place { IsPlaceOf thread.bucket thread.index self.old.id }
         requires callable { F.pre create }
-        ensures same_slot { (self.new.table ≡ self.old.table)
-            × (self.new.sharing ≡ self.old.sharing)
-            × (self.new.id ≡ self.old.id) }
-        ensures ok { OnOk result (IsFilledBy (F.post create) self.old.learnt self.new.learnt) }
-        ensures err { OnErr result (self.new.learnt ≡ Missing) }
-        ensures reserved { self.new.reserved ≡ self.old.reserved }
+        ensures ok { OnOk result (IsFilledBy (F.post create) self.old self.new) }
+        ensures err { OnErr result (self.new ≡ self.old) }
     {
         if self.held.id != 0 {
             return self.fill_further(alloc, thread, create);
@@ -181,12 +157,8 @@ impl<'a, T> Claim<'a, T> {
         requires missing { self.old.learnt ≡ Missing }
         requires place { IsPlaceOf thread.bucket thread.index self.old.id }
         requires callable { F.pre create }
-        ensures same_slot { (self.new.table ≡ self.old.table)
-            × (self.new.sharing ≡ self.old.sharing)
-            × (self.new.id ≡ self.old.id) }
-        ensures ok { OnOk result (IsFilledBy (F.post create) self.old.learnt self.new.learnt) }
-        ensures err { OnErr result (self.new.learnt ≡ Missing) }
-        ensures reserved { self.new.reserved ≡ self.old.reserved }
+        ensures ok { OnOk result (IsFilledBy (F.post create) self.old self.new) }
+        ensures err { OnErr result (self.new ≡ self.old) }
     {
         let block = self.make_room(&alloc, thread)?;
         self.publish_in(&alloc, thread, block, create());
@@ -202,17 +174,11 @@ impl<'a, T> Claim<'a, T> {
         create: F,
     ) -> Result<Result<(), E>, AllocError>
         requires callable { IsEmpty self.old.learnt → F.pre create }
-        ensures same_slot { (self.new.table ≡ self.old.table)
-            × (self.new.sharing ≡ self.old.sharing)
-            × (self.new.id ≡ self.old.id) }
         ensures ok { IfOk result (λ filled.
             MatchResult filled
-            (λ _. IsFilledBy (λ value. F.post create (Ok value)) self.old.learnt self.new.learnt)
-            (λ error. IsEmpty self.old.learnt × (self.new.learnt ≡ Vacant) × F.post create (Err error))) }
-        ensures err { OnErr result ((self.old.learnt ≡ Missing) × (self.new.learnt ≡ Missing)) }
-        ensures learnt { HasLooked self.new.learnt }
-        ensures found { self.new.learnt ≡ Missing → self.old.learnt ≡ Missing }
-        ensures reserved { self.new.reserved ≡ self.old.reserved }
+            (λ _. IsFilledBy (λ value. F.post create (Ok value)) self.old self.new)
+            (λ error. IsEmpty self.old.learnt × (self.new ≡ record self.old { learnt = Vacant }) × F.post create (Err error))) }
+        ensures err { OnErr result ((self.old.learnt ≡ Missing) × (self.new ≡ self.old)) }
     {
         if self.slot.state() == HOLDING {
             return Ok(Ok(()));
@@ -243,11 +209,7 @@ impl<'a, T> Claim<'a, T> {
         requires block { (block.heap ≡ alloc.now)
             × (block.slots ≡ empty_slots (2 ^ thread.bucket))
             × (block.left ≡ 0) }
-        ensures same_slot { (self.new.table ≡ self.old.table)
-            × (self.new.sharing ≡ self.old.sharing)
-            × (self.new.id ≡ self.old.id) }
-        ensures learnt { self.new.learnt ≡ Vacant }
-        ensures reserved { self.new.reserved ≡ self.old.reserved }
+        ensures { self.new ≡ record self.old { learnt = Vacant } }
     {
         let noted = self.slot.nothing();
         let announced = self.announcements.announce(thread.bucket);
@@ -261,15 +223,9 @@ impl<'a, T> Claim<'a, T> {
     #[inline]
     pub fn set(&mut self, alloc: Global, value: T) -> Result<(), T>
         requires empty { IsEmpty self.old.learnt }
-        ensures same_slot { (self.new.table ≡ self.old.table)
-            × (self.new.sharing ≡ self.old.sharing)
-            × (self.new.id ≡ self.old.id) }
-        ensures ok { OnOk result (self.new.learnt ≡ Holding value) }
+        ensures ok { OnOk result (self.new ≡ record self.old { learnt = Holding value }) }
         ensures err { IfErr result (λ given.
-            (given ≡ value) × (self.old.learnt ≡ Missing) × (self.new.learnt ≡ Missing)) }
-        ensures learnt { HasLooked self.new.learnt }
-        ensures found { self.new.learnt ≡ Missing → self.old.learnt ≡ Missing }
-        ensures reserved { self.new.reserved ≡ self.old.reserved }
+            (given ≡ value) × (self.old.learnt ≡ Missing) × (self.new ≡ self.old)) }
     {
         let thread = Thread::new(self.held.id);
         match self.room(&alloc, thread) {
@@ -292,13 +248,10 @@ impl<'a, T> Claim<'a, T> {
     ) -> Result<Option<Block<T, Global>>, AllocError>
         requires empty { IsEmpty self.old.learnt }
         requires place { IsPlaceOf thread.bucket thread.index self.old.id }
-        ensures same_slot { (self.new.table ≡ self.old.table)
-            × (self.new.sharing ≡ self.old.sharing)
-            × (self.new.id ≡ self.old.id) }
+        ensures same { self.new ≡ record self.old { learnt = self.new.learnt } }
         ensures ok { IfOk result (HasRoom alloc.now thread.bucket self.new.learnt) }
-        ensures err { OnErr result ((self.old.learnt ≡ Missing) × (self.new.learnt ≡ Missing)) }
+        ensures err { OnErr result ((self.old.learnt ≡ Missing) × (self.new ≡ self.old)) }
         ensures vacant { self.old.learnt ≡ Vacant → self.new.learnt ≡ Vacant }
-        ensures reserved { self.new.reserved ≡ self.old.reserved }
     {
         if self.is_missing() {
             return self.make_room(alloc, thread);
@@ -316,13 +269,10 @@ impl<'a, T> Claim<'a, T> {
     ) -> Result<Option<Block<T, Global>>, AllocError>
         requires missing { self.old.learnt ≡ Missing }
         requires place { IsPlaceOf thread.bucket thread.index self.old.id }
-        ensures same_slot { (self.new.table ≡ self.old.table)
-            × (self.new.sharing ≡ self.old.sharing)
-            × (self.new.id ≡ self.old.id) }
+        ensures same { self.new ≡ record self.old { learnt = self.new.learnt } }
         ensures ok { IfOk result (HasRoom alloc.now thread.bucket self.new.learnt) }
-        ensures err { OnErr result (self.new.learnt ≡ Missing) }
-        ensures reserved { (self.new.reserved ≡ self.old.reserved)
-            × (self.new.reserved ≡ true → self.new.learnt ≡ Vacant) }
+        ensures err { OnErr result (self.new ≡ self.old) }
+        ensures reserved { self.new.reserved ≡ true → self.new.learnt ≡ Vacant }
     {
         self.slot.find(thread.index, flag_word_of::<T>(thread));
         if !self.is_missing() {
@@ -345,11 +295,7 @@ impl<'a, T> Claim<'a, T> {
     )
         requires room { HasRoom alloc.now thread.bucket self.old.learnt block }
         requires place { IsPlaceOf thread.bucket thread.index self.old.id }
-        ensures same_slot { (self.new.table ≡ self.old.table)
-            × (self.new.sharing ≡ self.old.sharing)
-            × (self.new.id ≡ self.old.id) }
-        ensures learnt { self.new.learnt ≡ Holding value }
-        ensures reserved { self.new.reserved ≡ self.old.reserved }
+        ensures { self.new ≡ record self.old { learnt = Holding value } }
     {
         let Some(block) = block else {
             return self.publish_standing(thread, value);
@@ -371,11 +317,7 @@ impl<'a, T> Claim<'a, T> {
     fn publish_standing(&mut self, thread: Thread, value: T)
         requires vacant { self.old.learnt ≡ Vacant }
         requires place { IsPlaceOf thread.bucket thread.index self.old.id }
-        ensures same_slot { (self.new.table ≡ self.old.table)
-            × (self.new.sharing ≡ self.old.sharing)
-            × (self.new.id ≡ self.old.id) }
-        ensures learnt { self.new.learnt ≡ Holding value }
-        ensures reserved { self.new.reserved ≡ self.old.reserved }
+        ensures { self.new ≡ record self.old { learnt = Holding value } }
     {
         self.publish(thread, value);
     }
@@ -386,11 +328,8 @@ impl<'a, T> Claim<'a, T> {
     pub fn publish(&mut self, thread: Thread, value: T)
         requires vacant { self.old.learnt ≡ Vacant }
         requires place { IsPlaceOf thread.bucket thread.index self.old.id }
-        ensures same_slot { (self.new.table ≡ self.old.table)
-            × (self.new.sharing ≡ self.old.sharing)
-            × (self.new.id ≡ self.old.id) }
+        ensures same { self.new ≡ record self.old { learnt = self.new.learnt } }
         ensures learnt { learnt_by_publish self.old.learnt value ≡ Some self.new.learnt }
-        ensures reserved { self.new.reserved ≡ self.old.reserved }
     {
         let held = &mut self.held;
         let noted = self.slot.note(held, &value);

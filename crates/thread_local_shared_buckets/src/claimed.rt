@@ -104,15 +104,10 @@ impl<'a, T> ClaimedSlot<'a, T> {
         requires missing { MayLook self.old.learnt }
         requires index { index ≡ self.old.index }
         requires flag_word { flag_word ≡ flag_word_of T.row self.old.id }
-        ensures same_slot { (self.new.table ≡ self.old.table)
-            × (self.new.sharing ≡ self.old.sharing)
-            × (self.new.word ≡ self.old.word)
-            × (self.new.id ≡ self.old.id)
-            × (self.new.index ≡ self.old.index) }
+        ensures same { self.new ≡ record self.old { at = self.new.at; state = self.new.state; learnt = self.new.learnt } }
         ensures looked { HasLooked self.new.learnt }
         ensures empty { self.old.learnt ≡ Missing → (self.new.learnt ≡ Missing) ⊎ (self.new.learnt ≡ Vacant) }
-        ensures reserved { (self.new.reserved ≡ self.old.reserved)
-            × (self.new.reserved ≡ true → self.new.learnt ≢ Missing) }
+        ensures reserved { self.new.reserved ≡ true → self.new.learnt ≢ Missing }
         ensures found { Finds self.old.learnt self.new.learnt }
     {
         let bucket = self.at;
@@ -143,13 +138,7 @@ impl<'a, T> ClaimedSlot<'a, T> {
         requires noted { (noted.sharing ≡ self.old.sharing)
             × (noted.id ≡ self.old.id)
             × (noted.value ≡ left_of T.row (Some value)) }
-        ensures same_slot { (self.new.table ≡ self.old.table)
-            × (self.new.sharing ≡ self.old.sharing)
-            × (self.new.word ≡ self.old.word)
-            × (self.new.id ≡ self.old.id)
-            × (self.new.index ≡ self.old.index) }
-        ensures value { self.new.learnt ≡ Holding value }
-        ensures reserved { self.new.reserved ≡ self.old.reserved }
+        ensures { self.new ≡ record self.old { at = self.new.at; state = self.new.state; learnt = Holding value } }
     {
         let at = self.at;
         // The words of flags lie behind the values.

@@ -67,11 +67,10 @@ impl Mark {
         ensures noted { (result.sharing ≡ nothing.sharing)
             × (result.id ≡ self.old.id)
             × (result.value ≡ left_of T.row (Some value.now)) }
-        ensures same { (self.new.table ≡ self.old.table) × (self.new.id ≡ self.old.id) }
-        ensures left { self.new.left
-            ≡ (if is_first nothing.sharing self.old.table then left_of T.row (Some value.now) else self.old.left) }
-        ensures told { self.new.told
-            ≡ (if is_first nothing.sharing self.old.table then false else self.old.told) }
+        ensures mark { self.new ≡ record self.old {
+          left = if is_first nothing.sharing self.old.table then left_of T.row (Some value.now) else self.old.left;
+          told = if is_first nothing.sharing self.old.table then false else self.old.told;
+        } }
     {
         let _ = nothing;
         let _ = value;
@@ -86,10 +85,7 @@ impl Mark {
         requires left { is_first witness.now.sharing self.old.table ≡ true
             → self.old.left ≡ left_of T.row (Some witness.now.value) }
         requires told { is_first witness.now.sharing self.old.table ≡ false → self.old.told ≡ true }
-        ensures same { (self.new.table ≡ self.old.table)
-            × (self.new.id ≡ self.old.id)
-            × (self.new.left ≡ self.old.left) }
-        ensures told { self.new.told ≡ true }
+        ensures { self.new ≡ record self.old { told = true } }
     {
         let _ = witness;
     }

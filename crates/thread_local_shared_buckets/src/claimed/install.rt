@@ -47,12 +47,7 @@ impl<'a, T> ClaimedSlot<'a, T> {
         requires noted { (noted.sharing ≡ self.old.sharing)
             × (noted.id ≡ self.old.id)
             × (noted.value ≡ left_of T.row (slot_value block.slots thread.index)) }
-        ensures same_slot { (self.new.table ≡ self.old.table)
-            × (self.new.sharing ≡ self.old.sharing)
-            × (self.new.word ≡ self.old.word)
-            × (self.new.id ≡ self.old.id)
-            × (self.new.index ≡ self.old.index) }
-        ensures reserved { self.new.reserved ≡ self.old.reserved }
+        ensures same { self.new ≡ record self.old { at = self.new.at; state = self.new.state; learnt = self.new.learnt } }
         ensures learnt { self.new.learnt ≡ found_as (slot_value block.slots thread.index) }
     {
         let (noted, again) = noted.twice();
@@ -83,12 +78,7 @@ impl<'a, T> ClaimedSlot<'a, T> {
         requires noted { (noted.sharing ≡ self.old.sharing)
             × (noted.id ≡ self.old.id)
             × (noted.value ≡ left_of T.row (slot_value block.slots thread.index)) }
-        ensures same_slot { (self.new.table ≡ self.old.table)
-            × (self.new.sharing ≡ self.old.sharing)
-            × (self.new.word ≡ self.old.word)
-            × (self.new.id ≡ self.old.id)
-            × (self.new.index ≡ self.old.index) }
-        ensures reserved { self.new.reserved ≡ self.old.reserved }
+        ensures same { self.new ≡ record self.old { at = self.new.at; state = self.new.state; learnt = self.new.learnt } }
         ensures learnt { self.new.learnt ≡ found_as (slot_value block.slots thread.index) }
     {
         if state != HOLDING {
@@ -124,12 +114,7 @@ impl<'a, T> ClaimedSlot<'a, T> {
         requires noted { (noted.sharing ≡ self.old.sharing)
             × (noted.id ≡ self.old.id)
             × (noted.value ≡ left_of T.row (slot_value block.slots self.old.index)) }
-        ensures same_slot { (self.new.table ≡ self.old.table)
-            × (self.new.sharing ≡ self.old.sharing)
-            × (self.new.word ≡ self.old.word)
-            × (self.new.id ≡ self.old.id)
-            × (self.new.index ≡ self.old.index) }
-        ensures reserved { self.new.reserved ≡ self.old.reserved }
+        ensures same { self.new ≡ record self.old { at = self.new.at; state = self.new.state; learnt = self.new.learnt } }
         ensures learnt { MatchOption result
             (self.new.learnt ≡ found_as (slot_value block.slots self.old.index))
             (λ _. self.new.learnt ≡ Vacant) }

@@ -64,10 +64,12 @@ impl<'a, T> ClaimedSlot<'a, T> {
             × (result.id ≡ self.old.id)
             × (result.value ≡ left_of T.row (Some value.now)) }
         ensures same { self.new ≡ self.old }
-        ensures held { (held.new.id ≡ held.old.id) × (held.new.mark.table ≡ held.old.mark.table) }
-        ensures left { held.new.mark.left
-            ≡ (if is_first self.old.sharing self.old.table then left_of T.row (Some value.now) else held.old.mark.left) }
-        ensures told { held.new.mark.told ≡ (if is_first self.old.sharing self.old.table then false else true) }
+        ensures held { held.new ≡ record held.old {
+          mark = record held.old.mark {
+            left = if is_first self.old.sharing self.old.table then left_of T.row (Some value.now) else held.old.mark.left;
+            told = if is_first self.old.sharing self.old.table then false else true;
+          };
+        } }
     {
         self.notes(&mut held.mark);
         held.mark.note(self.nothing(), value)
@@ -80,8 +82,7 @@ impl<'a, T> ClaimedSlot<'a, T> {
         requires left { is_first self.now.sharing self.now.table ≡ true
             → held.old.mark.left ≡ left_of T.row (value_held self.now.learnt) }
         requires told { is_first self.now.sharing self.now.table ≡ false → held.old.mark.told ≡ true }
-        ensures held { (held.new.id ≡ held.old.id) × (held.new.mark.table ≡ held.old.mark.table) }
-        ensures told { held.new.mark.told ≡ true }
+        ensures { held.new ≡ record held.old { mark = record held.old.mark { told = true } } }
     {
         let witness = self.witness();
         held.mark.told_by(&witness);

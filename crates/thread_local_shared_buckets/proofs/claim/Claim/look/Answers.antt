@@ -1,15 +1,13 @@
 -- The search for these takes a second.
-use Rattle.std.proofs.Common.{◌≡◌, ℕ, ◌<◌, ◌/◌, ◌^◌, Option, ap, sym, ◌∙◌, subst}
+use Rattle.std.proofs.Common.{◌≡◌, ℕ, ◌<◌, ◌/◌, ◌^◌, ap, sym, ◌∙◌, subst}
 use denote.RattleType.{RattleType}
 use denote.Param.{param}
 use Rattle.thread_local_base.specs.Learnt.{Learnt, Finds}
 use Rattle.thread_local_base.specs.Place.{bucket_of, index_of, id_at}
 use Rattle.thread_local_base.proofs.PlaceLaws.{id_at-place}
 use Rattle.thread_local_buckets.specs.Slots.{flag_word_at}
-use Rattle.thread_local_ids.specs.Sharings.{Belongs}
-use Rattle.thread_local_ids.specs.declared.rights.mark.Mark.{Mark}
 use Rattle.thread_local_shared_buckets.specs.declared.claimed.ClaimedSlot.{ClaimedSlot}
-use Rattle.thread_local_shared_buckets.specs.Known.{HasLooked, MayLook}
+use Rattle.thread_local_shared_buckets.specs.Known.{MayLook}
 use Rattle.thread_local_shared_buckets.specs.Claims.{flag_word_of}
 use Rattle.thread_local_shared_buckets.proofs.claim.Claim.look.Goals as goal
 
@@ -49,26 +47,6 @@ pub find-requires-clause-flag_word : goal.find-requires-clause-flag_word
 find-requires-clause-flag_word g c =
     word_there (param 0 g.row.T) c.flag_word_of.result c.hold-slot.result.id c.args.held.id c.args.thread.bucket c.args.thread.index
     c.flag_word_of.ensures (c.hold-slot.ensures.same_slot.3 ∙ c.requires.id) c.requires.place.0 c.requires.place.1
-
-pub invariant_of-result : goal.invariant_of-result
-invariant_of-result g c =
-    let slot = c.hold-slot.ensures.same_slot in
-    let found = c.find.ensures.same_slot in
-    let same = c.notes.ensures.same.0 in
-    let table = ap (λ (s : ClaimedSlot _). s.table) same ∙ found.0 ∙ slot.0 in
-    let sharing = ap (λ (s : ClaimedSlot _). s.sharing) same ∙ found.1 ∙ slot.1 in (
-      ap (λ (s : ClaimedSlot _). s.id) same ∙ found.3 ∙ slot.3 ∙ c.requires.id,
-      ap (λ (s : ClaimedSlot _). s.index) same ∙ found.4 ∙ slot.4 ∙ c.requires.place.1,
-      subst (λ (s : ClaimedSlot _). HasLooked s.learnt) (sym same) c.find.ensures.looked,
-      ap (λ (m : Mark). m.table) c.notes.ensures.same.1 ∙ c.requires.table.1 ∙ sym c.requires.table.0 ∙ sym table,
-      ap (λ (m : Mark). m.told) c.notes.ensures.same.1 ∙ c.requires.told,
-      subst (λ (t : ℕ). Belongs c.notes.new.self.sharing t) (sym (table ∙ c.requires.table.0))
-          (subst (λ (n : Option ℕ). Belongs n c.args.bucket.now.table) (sym sharing) c.requires.sharing),
-      ap (λ (s : ClaimedSlot _). s.word) same ∙ found.2 ∙ slot.2 ∙ c.requires.word.0,
-      c.requires.word.1,
-      c.requires.reached.0 ∙ sym c.requires.table.0 ∙ sym table,
-      c.requires.reached.1,
-    )
 
 pub returns-clause-found : goal.returns-clause-found
 returns-clause-found g c =

@@ -307,17 +307,14 @@ module _ {M : Type 1} {𝓤 : Ura M} (𝓛 : Logic 𝓤) (𝓜 : Model 𝓤 𝓛
       Ev = env fn.locals l
 
       ends : (pb o k : ℕ) → k < 2 ^ 64 → (back : Val) → Good (layout Back) back → (opt : Back.Denot) (knows : Learnt X.Denot)
-          → ix ≡ h.index → h.index * stride R < 2 ^ 64
+          → w ≡ block_ptr wb wo → ix ≡ h.index → h.index * stride R < 2 ^ 64
           → IfSome opt (λ was. (was.heap ≡ x.heap) × (was.slots ≡ x.slots) × (was.left ≡ 0))
           → MatchOption opt (knows ≡ found_as (slot_value x.slots h.index)) (λ _. knows ≡ Vacant)
           → Seq (Go {0}) 𝓛 (‵ (flft β q) ∷ ‵ (Owned knows k pb o) ∷ ‵ (Back.own_val opt (back ∷ [])) ∷ ‵ others
           ∷ (opened (kept_of h) ++ holding 𝓛 Ev ((23, answer pb o k back) ∷ (1, vptr rb ro) ∷ (2, vint w64 ix) ∷ [])))
           (prop (Wp 𝓤 H 𝓣.C 𝓣.Λ Ev (after 6 fn.body) (at_return 𝓤 H Ev Post)))
-      ends pb o k low back held opt knows is_index close same_back learns =
-          let F₁ : G.Denot → Type 0 = λ r.
-          (r.table ≡ h.table) × (◌≡◌ {A = Option ℕ} r.sharing h.sharing) × (r.word ≡ h.word) × (r.id ≡ h.id)
-          × (r.index ≡ h.index) in
-          let F₂ : G.Denot → Type 0 = λ r. r.reserved ≡ h.reserved in
+      ends pb o k low back held opt knows at is_index close same_back learns =
+          let F₁ : G.Denot → Type 0 = λ r. r ≡ record h { at = r.at; state = r.state; learnt = r.learnt } in
           let F₄ : G.Denot → Type 0 = λ r.
           MatchOption opt (r.learnt ≡ found_as (slot_value x.slots h.index)) (λ _. r.learnt ≡ Vacant) in
           let F₃ : Type 0 = IfSome opt (λ was. (was.heap ≡ x.heap) × (was.slots ≡ x.slots) × (was.left ≡ 0)) in
@@ -366,8 +363,7 @@ module _ {M : Type 1} {𝓤 : Ura M} (𝓛 : Logic 𝓤) (𝓜 : Model 𝓤 𝓛
           move ! (2 ∷ 4 ∷ []) $ fjoin ! $ move ! (2 ∷ 0 ∷ []) $ join ! $
           use0 𝓛 (raw (fact 𝓤 F₃)) (fact_i 𝓤 F₃ (emp 𝓤) same_back) $
           use0 𝓛 (raw (fact 𝓤 (F₄ left))) (fact_i 𝓤 (F₄ left) (emp 𝓤) learns) $ join ! $
-          use0 𝓛 (raw (fact 𝓤 (F₂ left))) (fact_i 𝓤 (F₂ left) (emp 𝓤) refl) $ join ! $
-          use0 𝓛 (raw (fact 𝓤 (F₁ left))) (fact_i 𝓤 (F₁ left) (emp 𝓤) (refl, refl, refl, refl, refl)) $ join ! $
+          use0 𝓛 (raw (fact 𝓤 (F₁ left))) (fact_i 𝓤 (F₁ left) (emp 𝓤) (λ n. record left { bucket = sym at n })) $ join ! $
           returns ! (look_at ! 0 refl) $ free_all ! refl $ keep ! (1 ∷ 2 ∷ 3 ∷ 0 ∷ []) $
           by ! (leaves 𝓛 En stayed c y back opt (left, (tt, (tt, (tt, (tt, (tt, (tt, tt))))))) (tt, (tt, (tt, (tt, (tt, (tt, (tt, tt))))))))
 
@@ -489,7 +485,7 @@ module _ {M : Type 1} {𝓤 : Ura M} (𝓛 : Logic 𝓤) (𝓜 : Model 𝓤 𝓛
           forget_but ! (Ev l) (23 ∷ 1 ∷ 2 ∷ []) refl $
           -- [the token; the claim; the other tokens]
           use0 𝓛 (‵ (Back.own_val None (live 0 vnil ∷ []))) (none_of 𝓛 Bl) $ move ! (1 ∷ 2 ∷ []) $
-          ends l pb o sn low (live 0 vnil) nothing_good None (found_as v) is_index close tt (sym (ap found_as is_value))
+          ends l pb o sn low (live 0 vnil) nothing_good None (found_as v) (at_block w of.0) is_index close tt (sym (ap found_as is_value))
 
       lost_arm : (l : ℕ → ℕ) → p ≡ new → x.slots ≡ with_first i v rest → x.left ≡ 0 → ix ≡ h.index → i * stride R < 2 ^ 64 → (u : Ptr)
           → Seq (Go {0}) 𝓛 (In_arm l (lost u) (calls.answer_val (Err u))) (Goes_on l)
@@ -520,7 +516,7 @@ module _ {M : Type 1} {𝓤 : Ura M} (𝓛 : Logic 𝓤) (𝓜 : Model 𝓤 𝓛
           sets_last ! (agg ! (and_then ! (get ! refl) (and_then ! (lit ! tt) (and_then ! (get ! refl) (no_more !))))) refl
           triple_good $
           forget_but ! (Ev l) (23 ∷ 1 ∷ 2 ∷ []) refl $
-          ends l pb o 1 (lit< tt) back held (Some x) Vacant is_index close (refl, refl, all_made) refl))
+          ends l pb o 1 (lit< tt) back held (Some x) Vacant (at_block w of.0) is_index close (refl, refl, all_made) refl))
 
       -- the exchange, from the function's first statement on
       asks : Wired 𝓡.env code.code → (l : ℕ → ℕ) → sn < 2 ^ 64 → sn ≡ state_of (found_as v) → h.at ≡ block_ptr wb wo → p ≡ new

@@ -1,6 +1,6 @@
 -- `find` loads the bucket's pointer: at null, it takes the pass for the right. Else it loads the
 -- word of the slot's flag, and takes what the slot holds.
-use Rattle.thread_local_base.proofs.Names.{Option, lit<, ◌≡◌, ℕ, ◌+◌, ◌^◌, [], ◌∷◌, refl, sym, ap, ◌∙◌, subst, true}
+use Rattle.thread_local_base.proofs.Names.{lit<, ◌≡◌, ℕ, ◌+◌, ◌^◌, [], ◌∷◌, refl, sym, ap, ◌∙◌, subst, true}
 use Rattle.thread_local_base.proofs.Names.{a_type, Val, vptr, inst_fn, SProp, via, id⊢, Lft, Share}
 use Rattle.thread_local_base.proofs.Names.{Fml, ftrue, fsep, flft, fbor, finv, sem, ‵, raw, ◌⊛◌, later, mean}
 use Rattle.thread_local_base.proofs.Names.{at_ret, ◌$◌, ◌∵◌, !, qed, by, move, keep, drop, split, join, fsplit, fjoin}
@@ -89,12 +89,10 @@ find_spec 𝓤 𝓛 𝓜 𝓡 wired X L =
     let num : ℕ = a.1.1.0 in
     let β : Lft = κs.1.0 in let q : Share = qs.1.0 in let others : Fml = fsep (flft κs.1.1.0 qs.1.1.0) ftrue in
     let ℓ = named_lft 3 1 tt κs in let G : RattleType = claim.the_row ℓ R in let D : RattleType = FieldsType ℓ R in
-    let F₁ : G.Denot → Type 0 = λ r.
-    (r.table ≡ h.table) × (◌≡◌ {A = Option ℕ} r.sharing h.sharing) × (r.word ≡ h.word) × (r.id ≡ h.id)
-    × (r.index ≡ h.index) in
+    let F₁ : G.Denot → Type 0 = λ r. r ≡ record h { at = r.at; state = r.state; learnt = r.learnt } in
     let F₂ : G.Denot → Type 0 = λ r. HasLooked r.learnt in
     let F₃ : G.Denot → Type 0 = λ r. h.learnt ≡ Missing → (r.learnt ≡ Missing) ⊎ (r.learnt ≡ Vacant) in
-    let F₄ : G.Denot → Type 0 = λ r. (r.reserved ≡ h.reserved) × (r.reserved ≡ true → r.learnt ≢ Missing) in
+    let F₄ : G.Denot → Type 0 = λ r. r.reserved ≡ true → r.learnt ≢ Missing in
     let l₀ : Learnt X.Denot = h.learnt in
     let F₅ : G.Denot → Type 0 = λ r. Finds l₀ r.learnt in
     let gone : Learnt X.Denot = Missing in
@@ -199,10 +197,10 @@ find_spec 𝓤 𝓛 𝓜 𝓡 wired X L =
     nothing ! $ nothing ! $ fjoin ! $ nothing ! $ fjoin ! $ move ! (1 ∷ 0 ∷ []) $ fjoin ! $
     move ! (2 ∷ 5 ∷ []) $ fjoin ! $ move ! (2 ∷ 0 ∷ []) $ join ! $
     knows ! (F₅ r) (finds_nothing l₀ unseen) $
-    knows ! (F₄ r) (refl, (λ is. let never : true ≡ false = sym is ∙ sym of.5 ∙ free in cc)) $
+    knows ! (F₄ r) (λ is. let never : true ≡ false = sym is ∙ sym of.5 ∙ free in cc) $
     join ! $ knows ! (F₃ r) (λ _. inl refl) $ join ! $
     knows ! (F₂ r) tt $ join ! $
-    knows ! (F₁ r) (refl, refl, refl, refl, refl) $ join ! $
+    knows ! (F₁ r) (λ k. record r { bucket = sym at k }) $ join ! $
     feq_i ! _ (vunit ∷ []) _ refl $
     returns_within ! Post refl (look_at ! 0 refl) $ free_all ! refl $ keep ! (2 ∷ 3 ∷ 0 ∷ 1 ∷ []) $
     by ! (leaves 𝓛 En hs c y vunit tt (r, (tt, (tt, tt))) (tt, (tt, (tt, tt)))))
@@ -318,10 +316,10 @@ find_spec 𝓤 𝓛 𝓜 𝓡 wired X L =
     nothing ! $ nothing ! $ fjoin ! $ nothing ! $ fjoin ! $ move ! (1 ∷ 0 ∷ []) $ fjoin ! $
     move ! (2 ∷ 3 ∷ []) $ fjoin ! $ move ! (2 ∷ 0 ∷ []) $ join ! $
     knows ! (F₅ r) (finds_slot l₀ unseen v') $
-    knows ! (F₄ r) (refl, (λ _. not_missing v')) $ join ! $
+    knows ! (F₄ r) (λ _. not_missing v') $ join ! $
     knows ! (F₃ r) (λ was. inr (ap found_as (known.1 (ap looked_in_vain was)))) $
     join ! $ knows ! (F₂ r) (known_as v') $ join ! $
-    knows ! (F₁ r) (refl, refl, refl, refl, refl) $ join ! $
+    knows ! (F₁ r) (λ k. record r { bucket = sym at k }) $ join ! $
     feq_i ! _ (vunit ∷ []) _ refl $
     returns ! (look_at ! 0 refl) $ free_all ! refl $ keep ! (2 ∷ 3 ∷ 0 ∷ 1 ∷ []) $
     by ! (leaves 𝓛 En hs c y vunit tt (r, (tt, (tt, tt)))

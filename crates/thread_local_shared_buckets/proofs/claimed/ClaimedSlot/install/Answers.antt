@@ -1,5 +1,5 @@
 -- The search for these takes seconds.
-use Rattle.std.proofs.Common.{◌∙◌, ◌≡◌, ◌^◌, ℕ, List, Option, None, ap, sym}
+use Rattle.std.proofs.Common.{◌∙◌, ◌^◌, ℕ, List, Option, None, ap, sym}
 use Rattle.std.specs.Prelude.{slice_set}
 use base.Stored.{Gv}
 use denote.Param.{param}
@@ -8,6 +8,7 @@ use Rattle.thread_local_base.specs.Place.{bucket_of, index_of}
 use Rattle.thread_local_buckets.specs.Slots.{slot_value, empty_slots}
 use Rattle.thread_local_ids.specs.declared.rights.mark.Noted.{Noted}
 use Rattle.thread_local_ids.specs.Sharings.{left_of}
+use Rattle.thread_local_shared_buckets.specs.declared.claimed.ClaimedSlot.{ClaimedSlot}
 use Rattle.thread_local_shared_buckets.specs.Known.{found_as, state_of}
 use Rattle.thread_local_shared_buckets.proofs.claimed.ClaimedSlot.install.Goals as goal
 
@@ -40,21 +41,23 @@ pub publish_second-requires : goal.publish_second-requires
 publish_second-requires g c =
     let i = c.args.thread.index in
     let none : Option g.row.T.Denot = None in
-    let same = c.exchange-back.ensures.same_slot in
+    let same = c.exchange-back.ensures.same in
     let back = c.in-Some.ensures.back in
     let told = c.twice-noted.ensures.1 in
     let asked = c.requires in
+    let id = ap (λ (slot : ClaimedSlot g.row.T.Denot). slot.id) same in
     record {
       vacant = c.in-Some.ensures.learnt;
-      place = (◌∙◌ {A = ℕ} asked.place.0 (sym (ap bucket_of same.3)), ◌∙◌ {A = ℕ} asked.place.1 (sym (ap index_of same.3)));
-      index = ◌∙◌ {A = ℕ} asked.index (sym same.4);
+      place = (◌∙◌ {A = ℕ} asked.place.0 (sym (ap bucket_of id)), ◌∙◌ {A = ℕ} asked.place.1 (sym (ap index_of id)));
+      index = ◌∙◌ {A = ℕ} asked.index (sym (ap (λ (slot : ClaimedSlot g.row.T.Denot). slot.index) same));
       block = (back.0 ∙ asked.block.0, back.2);
       others = ◌∙◌ {A = List (Option g.row.T.Denot)} (ap (λ (cs : List (Option g.row.T.Denot)). slice_set cs i none) back.1) asked.others;
       state =
           ◌∙◌ {A = ℕ} asked.state (sym (ap (λ (cs : List (Option g.row.T.Denot)). state_of (found_as (slot_value cs i))) back.1));
       noted = (
-        ◌∙◌ {A = Option ℕ} (ap (λ (n : Noted). n.sharing) told) (asked.noted.0 ∙ sym same.1),
-        ◌∙◌ {A = ℕ} (ap (λ (n : Noted). n.id) told) (asked.noted.1 ∙ sym same.3),
+        ◌∙◌ {A = Option ℕ} (ap (λ (n : Noted). n.sharing) told)
+            (asked.noted.0 ∙ sym (ap (λ (slot : ClaimedSlot g.row.T.Denot). slot.sharing) same)),
+        ◌∙◌ {A = ℕ} (ap (λ (n : Noted). n.id) told) (asked.noted.1 ∙ sym id),
         ◌∙◌ {A = Option Gv} (ap (λ (n : Noted). n.value) told)
             (asked.noted.2 ∙ sym (ap (λ (cs : List (Option g.row.T.Denot)). left_of (param 0 g.row.T) (slot_value cs i)) back.1)),
       );
@@ -62,24 +65,22 @@ publish_second-requires g c =
 
 pub returns-in-Some : goal.returns-in-Some
 returns-in-Some g c =
-    let now = c.publish_second.ensures.same_slot in
-    let then = c.exchange-back.ensures.same_slot in
+    let to = c.publish_second.new.self in
     let i = c.args.thread.index in
     record {
-      same_slot = (now.0 ∙ then.0, now.1 ∙ then.1, now.2 ∙ then.2, now.3 ∙ then.3, now.4 ∙ then.4);
-      reserved = c.publish_second.ensures.reserved ∙ c.exchange-back.ensures.reserved;
+      same =
+          ◌∙◌ {A = ClaimedSlot g.row.T.Denot} c.publish_second.ensures.same
+          (ap (λ (slot : ClaimedSlot g.row.T.Denot). record slot { at = to.at; state = to.state; learnt = to.learnt })
+          c.exchange-back.ensures.same);
       learnt =
           ◌∙◌ {A = Learnt g.row.T.Denot} c.publish_second.ensures.learnt
           (ap (λ (cs : List (Option g.row.T.Denot)). found_as (slot_value cs i)) c.in-Some.ensures.back.1);
     }
 
 pub returns-in_default : goal.returns-in_default
-returns-in_default g c =
-    let then = c.exchange-back.ensures in
-    record {
-      same_slot = then.same_slot;
-      reserved = then.reserved;
-      learnt =
-          ◌∙◌ {A = Learnt g.row.T.Denot} c.in_default.ensures.learnt
-          (ap (λ (i : ℕ). found_as (slot_value c.args.block.slots i)) (sym c.requires.index));
-    }
+returns-in_default g c = record {
+  same = c.exchange-back.ensures.same;
+  learnt =
+      ◌∙◌ {A = Learnt g.row.T.Denot} c.in_default.ensures.learnt
+      (ap (λ (i : ℕ). found_as (slot_value c.args.block.slots i)) (sym c.requires.index));
+}

@@ -108,11 +108,7 @@ publish_spec 𝓤 𝓛 𝓜 𝓡 wired X L =
     let m : Member = record { row = R; ty = layout X } in
     let got = one (layout X) vss.1.1.1.0 ((LR.lawful 𝓛).typed x vss.1.1.1.0 are.1.1.1.0) in
     let vx : Val = got.0 in
-    let F₁ : G.Denot → Type 0 = λ g.
-    (g.table ≡ h.table) × (◌≡◌ {A = Option ℕ} g.sharing h.sharing) × (g.word ≡ h.word) × (g.id ≡ h.id)
-    × (g.index ≡ i) in
-    let F₂ : G.Denot → Type 0 = λ g. g.learnt ≡ Holding x in
-    let F₃ : G.Denot → Type 0 = λ g. g.reserved ≡ h.reserved in
+    let F : G.Denot → Type 0 = λ g. g ≡ record h { at = g.at; state = g.state; learnt = Holding x } in
     let Run : List Val → SProp 𝓤 = λ ws. WpFn 𝓤 H 𝓣.C 𝓣.Λ fn ws Post in
     qed 𝓛 (((‵ (flft κs.0 qs.0) ⊛ ‵ (fsep (flft β q) others)) ⊛ ‵ (owns (types_at En.signature.params κs) a vss))
     ∷ raw (fact 𝓤 (Incl υ X.lives)) ∷ raw (fact 𝓤 (h.learnt ≡ Vacant)) ∷ raw (fact 𝓤 (ix ≡ i))
@@ -322,10 +318,7 @@ publish_spec 𝓤 𝓛 𝓜 𝓡 wired X L =
     nothing ! $ nothing ! $ fjoin ! $ nothing ! $ fjoin ! $ nothing ! $ fjoin ! $ nothing ! $ fjoin ! $ move ! (1 ∷ 0 ∷ []) $ fjoin ! $
     -- [what is left of the parameters; the reference's token; the token; the other tokens]
     move ! (2 ∷ 3 ∷ []) $ fjoin ! $ move ! (2 ∷ 0 ∷ []) $ join ! $
-    knows ! (F₃ made_claim) refl $
-    knows ! (F₂ made_claim) refl $ join ! $
-    knows ! (F₁ made_claim) (refl, refl, refl, refl, refl) $
-    join ! $
+    knows ! (F made_claim) refl $
     feq_i ! _ (vunit ∷ []) _ refl $
     returns ! (look_at ! 0 refl) $ free_all ! refl $ keep ! (2 ∷ 3 ∷ 0 ∷ 1 ∷ []) $
     by ! (leaves 𝓛 En hs c y vunit tt (made_claim, (tt, (tt, (tt, (tt, tt)))))

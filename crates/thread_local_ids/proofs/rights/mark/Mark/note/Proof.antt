@@ -78,4 +78,4 @@ note_spec 𝓤 𝓛 𝓜 𝓡 wired T L =
     use0 𝓛 (‵ ((Mark (noted.the_type).name).own_val (tt, tt) (token ∷ []))) (made (noted.the_type).name 𝓛) $
     fjoin ! $ move ! (1 ∷ 0 ∷ []) $ join ! $
     move ! (1 ∷ 2 ∷ []) $ join ! $ join ! $ frame ! $
-    shows ! (refl, refl, refl) $ shows ! (refl, refl) $ shows ! refl $ tells_last ! refl)))))
+    shows ! (refl, refl, refl) $ tells_last ! refl)))))

@@ -15,7 +15,7 @@ use denote.Triple.Walked.{stay_ref, Goes-ref, ends_at}
 use Rattle.thread_local_ids.specs.FirstIds.{note_by}
 use Rattle.thread_local_ids.specs.Told.{tells}
 use Rattle.thread_local_ids.specs.Sharings.{is_first, left_of}
-use Rattle.thread_local_ids.proofs.Facts.{tells as shows, tells_last}
+use Rattle.thread_local_ids.proofs.Facts.{tells_last}
 use Rattle.thread_local_ids.proofs.MarkElements.{told_up}
 use Rattle.thread_local_ids.specs.contracts.tokens.witness.Witness as Witness
 use Rattle.thread_local_ids.specs.contracts.rights.mark.Mark.{the_row as A}
@@ -63,4 +63,4 @@ told_by_spec 𝓤 𝓛 𝓜 𝓡 wired T L =
     move ! (3 ∷ 0 ∷ 1 ∷ []) $ fjoin3 ! $ nothing ! $ nothing ! $ fjoin ! $ move ! (1 ∷ 0 ∷ []) $ fjoin ! $
     feq_i ! _ (vunit ∷ []) _ refl $ move ! (1 ∷ 0 ∷ []) $ join ! $
     move ! (1 ∷ 2 ∷ []) $ join ! $ join ! $ frame ! $
-    shows ! (refl, refl, refl) $ tells_last ! refl))))))
+    tells_last ! refl))))))
