@@ -22,6 +22,9 @@ none_in zero i = refl
 none_in (suc n) zero = refl
 none_in (suc n) (suc i) = none_in n i
 
+pub none_where : {V : Type 0} (cs : List (Option V)) (n i : ℕ) → cs ≡ empty_slots n → slot_value cs i ≡ None
+none_where {V = V} cs n i empty = ap (λ (ys : List (Option V)). slot_value ys i) empty ∙ none_in n i
+
 -- how many slots the block has, by its slots but one
 pub long : {V : Type 0} (cs : List (Option V)) (n i : ℕ) → slice_set cs i None ≡ empty_slots n → length cs ≡ n
 long {V = V} cs n i others =

@@ -1,9 +1,8 @@
 -- What a claim does that fills its slot, by what it has learnt.
-use Rattle.std.proofs.Common.{◌≡◌, ◌≢◌, ◌∙◌, ◌^◌, ℕ, Bool, false, List, Option, None, Some, refl, sym, ap, subst, inl, inr}
-use Rattle.std.specs.Prelude.{MatchBool, slice_set}
-use Rattle.thread_local_buckets.specs.Slots.{empty_slots}
-use Rattle.thread_local_base.specs.Learnt.{Learnt, Unknown, Missing, Standing, Vacant, Holding, learnt_by_publish}
-use Rattle.thread_local_shared_buckets.specs.Known.{HasLooked, state_of}
+use Rattle.std.proofs.Common.{◌≡◌, ◌≢◌, ◌∙◌, ℕ, Option, None, Some, refl, sym, ap, inl, inr}
+use Rattle.std.specs.Prelude.{IsSome, MatchOption}
+use Rattle.thread_local_base.specs.Learnt.{Learnt, Unknown, Missing, Standing, Vacant, Holding}
+use Rattle.thread_local_shared_buckets.specs.Known.{HasLooked, found_as, state_of}
 use Rattle.thread_local_shared_buckets.specs.Room.{IsEmpty, IsFilledBy}
 use Rattle.thread_local_shared_buckets.specs.Views.{ClaimView}
 
@@ -26,32 +25,33 @@ module _ {V : Type 0} where
         made = inl there.1;
       }
 
-  empty_still : (learnt : Learnt V) → HasLooked learnt → state_of learnt ≢ 2 → IsEmpty learnt
-  empty_still Unknown looked apart = absurd looked
-  empty_still Missing looked apart = inl refl
-  empty_still Standing looked apart = absurd looked
-  empty_still Vacant looked apart = inr refl
-  empty_still (Holding x) looked apart = absurd (apart refl)
-
   -- it is empty still
-  pub empty_else : (inner learnt : Learnt V) (state : ℕ) → inner ≡ learnt → HasLooked inner → state ≡ state_of inner → state ≢ 2 → IsEmpty learnt
-  empty_else inner learnt state same looked is apart = subst IsEmpty same (empty_still inner looked (λ two. apart (is ∙ two)))
+  pub empty_else : (inner learnt : Learnt V) (state : ℕ) → inner ≡ learnt → HasLooked inner → state ≡ state_of inner → state ≢ 2
+      → IsEmpty learnt
+  empty_else Unknown learnt state same looked is apart = absurd looked
+  empty_else Missing learnt state same looked is apart = inl (sym same)
+  empty_else Standing learnt state same looked is apart = absurd looked
+  empty_else Vacant learnt state same looked is apart = inr (sym same)
+  empty_else (Holding x) learnt state same looked is apart = absurd (apart is)
 
-  -- a publish into a slot that is empty and whose bucket stands fills it
-  pub vacant_else : (learnt : Learnt V) (missing : Bool) → IsEmpty learnt → MatchBool missing (learnt ≡ Missing) (learnt ≢ Missing)
-      → missing ≡ false
+  -- it is filled by a publishing where there was room
+  pub filled_by : (makes : V → Type 0) (claim room filled : ClaimView V) (value : V) → IsEmpty claim.learnt → makes value
+      → room ≡ record claim { learnt = room.learnt } → filled ≡ record room { learnt = Holding value }
+      → IsFilledBy makes claim filled
+  filled_by makes claim room filled value empty made same published = record {
+    value = value;
+    holds = published ∙ ap (λ (c : ClaimView V). record c { learnt = Holding value }) same;
+    made = inr (empty, made);
+  }
+
+  -- the number of a claim that finds a value
+  pub holding_number : (v : Option V) → IsSome v → 2 ≡ state_of (found_as v)
+  holding_number None some = absurd cc
+  holding_number (Some x) some = refl
+
+  -- a block without a value leaves the slot vacant, whichever block was installed first
+  pub vacant_then : {B : Type 0} (back : Option B) (v : Option V) (learnt : Learnt V) → v ≡ None
+      → MatchOption back (learnt ≡ found_as v) (λ _. learnt ≡ Vacant)
       → learnt ≡ Vacant
-  vacant_else learnt missing (inl none) by found =
-      let apart : learnt ≢ Missing = subst (λ (b : Bool). MatchBool b (learnt ≡ Missing) (learnt ≢ Missing)) found by in absurd (apart none)
-  vacant_else learnt missing (inr vacant) by found = vacant
-
-  pub published_in : (old new : Learnt V) (x : V) → old ≡ Vacant → learnt_by_publish old x ≡ Some new → new ≡ Holding x
-  published_in old new x vacant is =
-      let here : Some (Holding x) ≡ Some new = sym (ap (λ (l : Learnt V). learnt_by_publish l x) vacant) ∙ is in cc
-
-  -- a block with no value but in one slot, by the slot's place
-  pub made_for : (slots : List (Option V)) (i j b k : ℕ) → i ≡ j → b ≡ k → slice_set slots i None ≡ empty_slots (2 ^ b)
-      → slice_set slots j None ≡ empty_slots (2 ^ k)
-  made_for slots i j b k same bucket others =
-      subst (λ (n : ℕ). slice_set slots n None ≡ empty_slots (2 ^ k)) same
-      (subst (λ (m : ℕ). slice_set slots i None ≡ empty_slots (2 ^ m)) bucket others)
+  vacant_then None v learnt none is = is ∙ ap found_as none
+  vacant_then (Some block) v learnt none is = is

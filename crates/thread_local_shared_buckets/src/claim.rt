@@ -141,7 +141,7 @@ impl<'a, T> Claim<'a, T> {
             return self.fill_further(alloc, thread, create);
         }
         let first = Thread::new(0);
-        let block = self.make_room(&alloc, first)?;
+        let block = self.room(&alloc, first)?;
         self.publish_in(&alloc, first, block, create());
         Ok(())
     }
@@ -160,7 +160,7 @@ impl<'a, T> Claim<'a, T> {
         ensures ok { OnOk result (IsFilledBy (F.post create) self.old self.new) }
         ensures err { OnErr result (self.new ≡ self.old) }
     {
-        let block = self.make_room(&alloc, thread)?;
+        let block = self.room(&alloc, thread)?;
         self.publish_in(&alloc, thread, block, create());
         Ok(())
     }
@@ -200,7 +200,8 @@ impl<'a, T> Claim<'a, T> {
     }
 
     /// Installs a block without a value, for a bucket that was missing. The bucket is announced
-    /// before. It is never inlined, so that the way of who publishes is short.
+    /// before. Where another block was installed first, that one stays, and this block is freed. It is
+    /// never inlined, so that the way of who publishes is short.
     #[cold]
     #[inline(never)]
     fn install_empty(&mut self, alloc: &Global, thread: Thread, block: Block<T, Global>)
@@ -214,8 +215,12 @@ impl<'a, T> Claim<'a, T> {
         let noted = self.slot.nothing();
         let announced = self.announcements.announce(thread.bucket);
         let reached = &self.reached;
-        self.slot
-            .install(alloc, thread, block, reached, announced, VACANT, noted);
+        let back = self
+            .slot
+            .exchange(thread.index, block, reached, announced, VACANT, noted);
+        if let Some(block) = back {
+            block.release(alloc, bucket_size(thread.bucket));
+        }
     }
 
     /// Publishes a value in a slot that is empty, for which a missing bucket is made. Where memory is
@@ -237,9 +242,9 @@ impl<'a, T> Claim<'a, T> {
         }
     }
 
-    /// Makes room for a value in a slot that is empty. It looks again for a bucket that was missing, and
-    /// where it is missing still, makes a block for it: the one request for memory. Where it answers no
-    /// block, the slot is vacant.
+    /// Makes room for a value in a slot that is empty. It looks again for a bucket that was missing, by
+    /// the same loads as `look`, and where it is missing still, makes a block for it: the one request for
+    /// memory. Where it answers no block, the slot is vacant, whoever installed the bucket's block.
     #[inline(always)]
     pub fn room(
         &mut self,
@@ -253,27 +258,9 @@ impl<'a, T> Claim<'a, T> {
         ensures err { OnErr result ((self.old.learnt ≡ Missing) × (self.new ≡ self.old)) }
         ensures vacant { self.old.learnt ≡ Vacant → self.new.learnt ≡ Vacant }
     {
-        if self.is_missing() {
-            return self.make_room(alloc, thread);
+        if !self.is_missing() {
+            return Ok(None);
         }
-        Ok(None)
-    }
-
-    /// `room` where the bucket was missing. It looks by the same loads as `look`. Where the bucket
-    /// stands now, the slot is vacant, whoever installed the block.
-    #[inline(always)]
-    fn make_room(
-        &mut self,
-        alloc: &Global,
-        thread: Thread,
-    ) -> Result<Option<Block<T, Global>>, AllocError>
-        requires missing { self.old.learnt ≡ Missing }
-        requires place { IsPlaceOf thread.bucket thread.index self.old.id }
-        ensures same { self.new ≡ record self.old { learnt = self.new.learnt } }
-        ensures ok { IfOk result (HasRoom alloc.now thread.bucket self.new.learnt) }
-        ensures err { OnErr result (self.new ≡ self.old) }
-        ensures reserved { self.new.reserved ≡ true → self.new.learnt ≡ Vacant }
-    {
         self.slot.find(thread.index, flag_word_of::<T>(thread));
         if !self.is_missing() {
             return Ok(None);
@@ -306,7 +293,7 @@ impl<'a, T> Claim<'a, T> {
         let announced = self.announcements.announce(thread.bucket);
         let reached = &self.reached;
         self.slot
-            .install(alloc, thread, block, reached, announced, HOLDING, noted);
+            .install(alloc, thread, block, reached, announced, noted);
         let held = &mut self.held;
         self.slot.told(held);
     }

@@ -21,10 +21,9 @@ use thread_local_buckets::Block;
 use thread_local_ids::{Noted, Reached};
 
 impl<'a, T> ClaimedSlot<'a, T> {
-    /// Offers a block, which publishes the slot's value if the block has one. `state` is the number of
-    /// what a look at the slot finds then. Where another block was installed first, that one stays, the
-    /// value is published there, and this block is freed. The bucket is announced, and it is noted what
-    /// is published.
+    /// Offers a block with the value of the slot, which publishes it. Where another block was installed
+    /// first, that one stays, the value is published there, and this block is freed. The bucket is
+    /// announced, and it is noted what is published.
     #[inline(always)]
     pub(crate) fn install(
         &mut self,
@@ -33,7 +32,6 @@ impl<'a, T> ClaimedSlot<'a, T> {
         block: Block<T, Global>,
         reached: &Reached,
         announced: Announced,
-        state: u64,
         noted: Noted,
     )
         requires missing { self.old.learnt ≡ Missing }
@@ -41,9 +39,9 @@ impl<'a, T> ClaimedSlot<'a, T> {
         requires index { thread.index ≡ self.old.index }
         requires block { (block.heap ≡ alloc.now) × (block.left ≡ 0) }
         requires others { slice_set block.slots thread.index None ≡ empty_slots (2 ^ thread.bucket) }
+        requires value { IsSome (slot_value block.slots thread.index) }
         requires reached { (reached.now.table ≡ self.old.table) × (self.old.id < reached.now.ids) }
         requires announced { (announced.by ≡ self.old.word) × (announced.bucket ≡ thread.bucket) }
-        requires state { state ≡ state_of (found_as (slot_value block.slots thread.index)) }
         requires noted { (noted.sharing ≡ self.old.sharing)
             × (noted.id ≡ self.old.id)
             × (noted.value ≡ left_of T.row (slot_value block.slots thread.index)) }
@@ -51,14 +49,14 @@ impl<'a, T> ClaimedSlot<'a, T> {
         ensures learnt { self.new.learnt ≡ found_as (slot_value block.slots thread.index) }
     {
         let (noted, again) = noted.twice();
-        let back = self.exchange(thread.index, block, reached, announced, state, noted);
+        let back = self.exchange(thread.index, block, reached, announced, HOLDING, noted);
         if let Some(block) = back {
-            self.publish_second(alloc, thread, block, state, again);
+            self.publish_second(alloc, thread, block, again);
         }
     }
 
-    /// Publishes the value of a block where another block was installed first, and frees that block.
-    /// Where it has none, it is only freed. It is never inlined, so that the way of the first is short.
+    /// Publishes the value of a block where another block was installed first, and frees that block. It
+    /// is never inlined, so that the way of the first is short.
     #[cold]
     #[inline(never)]
     fn publish_second(
@@ -66,7 +64,6 @@ impl<'a, T> ClaimedSlot<'a, T> {
         alloc: &Global,
         thread: Thread,
         block: Block<T, Global>,
-        state: u64,
         noted: Noted,
     )
         requires vacant { self.old.learnt ≡ Vacant }
@@ -74,16 +71,13 @@ impl<'a, T> ClaimedSlot<'a, T> {
         requires index { thread.index ≡ self.old.index }
         requires block { (block.heap ≡ alloc.now) × (block.left ≡ 0) }
         requires others { slice_set block.slots thread.index None ≡ empty_slots (2 ^ thread.bucket) }
-        requires state { state ≡ state_of (found_as (slot_value block.slots thread.index)) }
+        requires value { IsSome (slot_value block.slots thread.index) }
         requires noted { (noted.sharing ≡ self.old.sharing)
             × (noted.id ≡ self.old.id)
             × (noted.value ≡ left_of T.row (slot_value block.slots thread.index)) }
         ensures same { self.new ≡ record self.old { at = self.new.at; state = self.new.state; learnt = self.new.learnt } }
         ensures learnt { self.new.learnt ≡ found_as (slot_value block.slots thread.index) }
     {
-        if state != HOLDING {
-            return block.release(alloc, bucket_size(thread.bucket));
-        }
         let (value, block) = emptied(block, alloc, thread);
         block.release(alloc, bucket_size(thread.bucket));
         self.publish(thread.index, flag_word_of::<T>(thread), value, noted);
@@ -95,7 +89,7 @@ impl<'a, T> ClaimedSlot<'a, T> {
     /// bucket is announced. All ids up to this one were held at once, so as many as the bucket has
     /// slots.
     #[inline(always)]
-    fn exchange(
+    pub(crate) fn exchange(
         &mut self,
         index: usize,
         block: Block<T, Global>,

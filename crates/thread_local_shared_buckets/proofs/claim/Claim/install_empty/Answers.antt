@@ -1,59 +1,68 @@
 -- An empty block has no value in any slot.
-use Rattle.std.proofs.Common.{◌∙◌, ◌≡◌, ◌^◌, List, Option, None, ap, sym, subst}
+use Rattle.std.proofs.Common.{◌∙◌, ◌≡◌, ◌^◌, ℕ, List, Option, None, ap, sym, subst, refl}
 use Rattle.std.specs.Prelude.{slice_set}
 use base.Stored.{Gv}
 use denote.Param.{param}
-use Rattle.thread_local_base.specs.Learnt.{Vacant}
-use Rattle.thread_local_shared_buckets.specs.Views.{ClaimView}
-use Rattle.thread_local_buckets.specs.Slots.{slot_value}
+use Rattle.thread_local_base.specs.Learnt.{Learnt, Vacant}
+use Rattle.thread_local_base.specs.Place.{bucket_of}
+use Rattle.thread_local_buckets.specs.Slots.{empty_slots, slot_value}
 use Rattle.thread_local_ids.specs.Sharings.{left_of}
+use Rattle.thread_local_shared_buckets.specs.declared.claimed.ClaimedSlot.{ClaimedSlot}
 use Rattle.thread_local_shared_buckets.specs.Known.{HasLooked, found_as, state_of}
-use Rattle.thread_local_shared_buckets.proofs.ClaimLaws.{goes_on}
-use Rattle.thread_local_shared_buckets.proofs.Learning.{known_as}
-use Rattle.thread_local_shared_buckets.proofs.BlockLaws.{none_again, none_in}
+use Rattle.thread_local_shared_buckets.specs.Views.{ClaimView}
+use Rattle.thread_local_shared_buckets.proofs.ClaimLaws.{goes_on, seen_on}
+use Rattle.thread_local_shared_buckets.proofs.Fills.{vacant_then}
+use Rattle.thread_local_shared_buckets.proofs.BlockLaws.{none_again, none_where}
 use Rattle.thread_local_shared_buckets.proofs.claim.Claim.install_empty.Goals as goal
-use Rattle.thread_local_shared_buckets.proofs.claim.Claim.install_empty.Goals.{After-nothing-noted}
+use Rattle.thread_local_shared_buckets.proofs.claim.Claim.install_empty.Goals.{After-nothing-noted, After-exchange-back}
 
 none_there : (g : _) (c : After-nothing-noted g)
-    → ◌≡◌ {A = Option g.row.T.Denot} (slot_value c.args.block.slots c.args.thread.index) None
-none_there g c =
-    let i = c.args.thread.index in
-    ap (λ (cs : List (Option g.row.T.Denot)). slot_value cs i) c.requires.block.1 ∙ none_in (2 ^ c.args.thread.bucket) i
+    → ◌≡◌ {A = Option g.row.T.Denot} (slot_value c.args.block.slots c.self.inside.slot.index) None
+none_there g c = none_where c.args.block.slots (2 ^ c.args.thread.bucket) c.self.inside.slot.index c.requires.block.1
 
-pub install-requires-clause-others : goal.install-requires-clause-others
-install-requires-clause-others g c =
-    let i = c.args.thread.index in
+pub exchange-back-requires-clause-made : goal.exchange-back-requires-clause-made
+exchange-back-requires-clause-made g c =
+    let slot = c.self.inside.slot in
     let none : Option g.row.T.Denot = None in
-    ap (λ (cs : List (Option g.row.T.Denot)). slice_set cs i none) c.requires.block.1 ∙ none_again (2 ^ c.args.thread.bucket) i
+    let id = c.self.invariant.0 ∙ ap (λ (view : ClaimView g.row.T.Denot). view.id) c.self.view_is in (
+      c.requires.block.2,
+      ◌∙◌ {A = List (Option g.row.T.Denot)}
+          (ap (λ (cs : List (Option g.row.T.Denot)). slice_set cs slot.index none) c.requires.block.1)
+          (none_again (2 ^ c.args.thread.bucket) slot.index
+          ∙ ap (λ (b : ℕ). empty_slots {X = g.row.T.Denot} (2 ^ b)) (◌∙◌ {A = ℕ} c.requires.place.0 (sym (ap bucket_of id)))),
+    )
 
-pub install-requires-clause-state : goal.install-requires-clause-state
-install-requires-clause-state g c =
-    sym (ap (λ (v : Option g.row.T.Denot). state_of (found_as v)) (none_there g (goal.at.install-requires-clause-state g c).After-nothing-noted))
+pub exchange-back-requires-clause-state : goal.exchange-back-requires-clause-state
+exchange-back-requires-clause-state g c =
+    let none = none_there g (goal.at.exchange-back-requires-clause-state g c).After-nothing-noted in
+    sym (ap (λ (v : Option g.row.T.Denot). state_of (found_as v)) none)
 
-pub install-requires-clause-noted : goal.install-requires-clause-noted
-install-requires-clause-noted g c =
+pub exchange-back-requires-clause-noted : goal.exchange-back-requires-clause-noted
+exchange-back-requires-clause-noted g c =
     let noted = c.nothing-noted.ensures in
-    let none = none_there g (goal.at.install-requires-clause-noted g c).After-nothing-noted in
+    let none = none_there g (goal.at.exchange-back-requires-clause-noted g c).After-nothing-noted in
     (noted.0, noted.1, ◌∙◌ {A = Option Gv} noted.2 (sym (ap (λ (v : Option g.row.T.Denot). left_of (param 0 g.row.T) v) none)))
+
+vacant_now : (g : _) (c : After-exchange-back g) → c.exchange-back.new.self.learnt ≡ Vacant
+vacant_now g c =
+    let slots = c.args.block.slots in
+    let index = c.self.inside.slot.index in
+    let none = none_where slots (2 ^ c.args.thread.bucket) index c.requires.block.1 in
+    vacant_then c.exchange-back.result (slot_value slots index) c.exchange-back.new.self.learnt none c.exchange-back.ensures.learnt
 
 pub returns : goal.returns
 returns g c =
-    let none = none_there g (goal.at.returns g c).After-nothing-noted in
-    let same = c.install.ensures.same in
-    let vacant : c.install.new.self.learnt ≡ Vacant =
-    c.install.ensures.learnt ∙ ap (λ (v : Option g.row.T.Denot). found_as v) none in
-    (λ j. record {
-      table = (same j).table;
-      sharing = (same j).sharing;
-      id = c.self.inside.held.id;
-      reserved = (same j).reserved;
-      learnt = vacant j;
-    })
-    ∙ ap (λ (view : ClaimView g.row.T.Denot). record view { learnt = Vacant }) c.self.view_is
+    let from = c.self.inside in
+    let to = c.exchange-back.new.self in
+    let vacant = vacant_now g (goal.at.returns g c).After-exchange-back in
+    let same =
+    ◌∙◌ {A = ClaimedSlot g.row.T.Denot} c.exchange-back.ensures.same
+    (ap (λ (l : Learnt g.row.T.Denot). record from.slot { at = to.at; state = to.state; learnt = l }) vacant) in
+    seen_on from.slot to from.held.id from.held.id Vacant c.args.self.now same refl c.self.view_is
 
 pub invariant_of-self : goal.invariant_of-self
 invariant_of-self g c =
     let from = c.self.inside in
-    let to = c.install.new.self in
-    let looked = subst HasLooked (sym c.install.ensures.learnt) (known_as _) in
-    goes_on from.slot to from.held from.announcements.now from.reached to.learnt c.self.invariant c.install.ensures.same looked
+    let to = c.exchange-back.new.self in
+    let looked = subst HasLooked (sym (vacant_now g (goal.at.invariant_of-self g c).After-exchange-back)) tt in
+    goes_on from.slot to from.held from.announcements.now from.reached to.learnt c.self.invariant c.exchange-back.ensures.same looked

@@ -1,14 +1,12 @@
 -- The search for these takes a second.
-use Rattle.std.proofs.Common.{◌≡◌, ℕ, ◌<◌, ◌/◌, ◌^◌, ap, sym, ◌∙◌, subst}
-use denote.RattleType.{RattleType}
+use Rattle.std.proofs.Common.{◌≡◌, ℕ, ◌<◌, ◌^◌, ap, sym, ◌∙◌, subst}
 use denote.Param.{param}
 use Rattle.thread_local_base.specs.Learnt.{Learnt, Finds}
 use Rattle.thread_local_base.specs.Place.{bucket_of, index_of, id_at}
 use Rattle.thread_local_base.proofs.PlaceLaws.{id_at-place}
-use Rattle.thread_local_buckets.specs.Slots.{flag_word_at}
 use Rattle.thread_local_shared_buckets.specs.declared.claimed.ClaimedSlot.{ClaimedSlot}
 use Rattle.thread_local_shared_buckets.specs.Known.{MayLook}
-use Rattle.thread_local_shared_buckets.specs.Claims.{flag_word_of}
+use Rattle.thread_local_shared_buckets.proofs.IdLaws.{word_there}
 use Rattle.thread_local_shared_buckets.proofs.claim.Claim.look.Goals as goal
 
 -- the right's id is at the place where the claim looks
@@ -17,13 +15,6 @@ id_there : (id held bucket there index : ℕ) → id ≡ held → bucket ≡ the
 id_there id held bucket there index same at in_bucket at_index =
     same ∙ sym (id_at-place held) ∙ ap (λ i. id_at (bucket_of held) i) (sym at_index)
     ∙ ap (λ b. id_at b index) (sym (at ∙ in_bucket))
-
-word_there : (R : RattleType) (word id held bucket index : ℕ) → word ≡ flag_word_at R (2 ^ bucket) (index / 64) → id ≡ held
-    → bucket ≡ bucket_of held → index ≡ index_of held
-    → word ≡ flag_word_of R id
-word_there R word id held bucket index is same in_bucket at_index =
-    is ∙ ap (λ (b : ℕ). flag_word_at R (2 ^ b) (index / 64)) (in_bucket ∙ ap bucket_of (sym same))
-    ∙ ap (λ (i : ℕ). flag_word_at R (2 ^ bucket_of id) (i / 64)) (at_index ∙ ap index_of (sym same))
 
 pub hold-slot-requires-clause-table : goal.hold-slot-requires-clause-table
 hold-slot-requires-clause-table g c = c.requires.table.0

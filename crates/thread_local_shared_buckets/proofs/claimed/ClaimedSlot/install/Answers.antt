@@ -1,6 +1,6 @@
 -- The search for these takes seconds.
-use Rattle.std.proofs.Common.{◌∙◌, ◌^◌, ℕ, List, Option, None, ap, sym}
-use Rattle.std.specs.Prelude.{slice_set}
+use Rattle.std.proofs.Common.{◌∙◌, ◌^◌, ℕ, List, Option, None, ap, sym, subst}
+use Rattle.std.specs.Prelude.{IsSome, slice_set}
 use base.Stored.{Gv}
 use denote.Param.{param}
 use Rattle.thread_local_base.specs.Learnt.{Learnt}
@@ -10,6 +10,7 @@ use Rattle.thread_local_ids.specs.declared.rights.mark.Noted.{Noted}
 use Rattle.thread_local_ids.specs.Sharings.{left_of}
 use Rattle.thread_local_shared_buckets.specs.declared.claimed.ClaimedSlot.{ClaimedSlot}
 use Rattle.thread_local_shared_buckets.specs.Known.{found_as, state_of}
+use Rattle.thread_local_shared_buckets.proofs.Fills.{holding_number}
 use Rattle.thread_local_shared_buckets.proofs.claimed.ClaimedSlot.install.Goals as goal
 
 pub exchange-back-requires : goal.exchange-back-requires
@@ -28,7 +29,9 @@ exchange-back-requires g c =
       );
       reached = asked.reached;
       announced = (asked.announced.0, ◌∙◌ {A = ℕ} asked.announced.1 asked.place.0);
-      state = ◌∙◌ {A = ℕ} asked.state (ap (λ (i : ℕ). state_of (found_as (slot_value slots i))) asked.index);
+      state =
+          ◌∙◌ {A = ℕ} (holding_number (slot_value slots c.args.thread.index) asked.value)
+          (ap (λ (i : ℕ). state_of (found_as (slot_value slots i))) asked.index);
       noted = (
         ◌∙◌ {A = Option ℕ} (ap (λ (n : Noted). n.sharing) told) asked.noted.0,
         ◌∙◌ {A = ℕ} (ap (λ (n : Noted). n.id) told) asked.noted.1,
@@ -52,8 +55,7 @@ publish_second-requires g c =
       index = ◌∙◌ {A = ℕ} asked.index (sym (ap (λ (slot : ClaimedSlot g.row.T.Denot). slot.index) same));
       block = (back.0 ∙ asked.block.0, back.2);
       others = ◌∙◌ {A = List (Option g.row.T.Denot)} (ap (λ (cs : List (Option g.row.T.Denot)). slice_set cs i none) back.1) asked.others;
-      state =
-          ◌∙◌ {A = ℕ} asked.state (sym (ap (λ (cs : List (Option g.row.T.Denot)). state_of (found_as (slot_value cs i))) back.1));
+      value = subst (λ (cs : List (Option g.row.T.Denot)). IsSome (slot_value cs i)) (sym back.1) asked.value;
       noted = (
         ◌∙◌ {A = Option ℕ} (ap (λ (n : Noted). n.sharing) told)
             (asked.noted.0 ∙ sym (ap (λ (slot : ClaimedSlot g.row.T.Denot). slot.sharing) same)),
