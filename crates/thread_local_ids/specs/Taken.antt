@@ -42,8 +42,7 @@ abbrev pub IsTake : (table room : ℕ) (early later : Page) → Result Taken Loc
 IsTake table room early later (Ok taken) = IsTakenAfter table early.moves later.moves taken
 IsTake table room early later (Err error) = IsRefusedAfter room early later error
 
--- what one try under the lock answers: it leaves the page as it is where it takes none
-abbrev pub IsTry : (table room : ℕ) (early later : Page) → Result (Option Taken) LocalError → Type 0
-IsTry table room early later (Ok (Some taken)) = IsTakenAfter table early.moves later.moves taken
-IsTry table room early later (Ok None) = later ≡ early
-IsTry table room early later (Err error) = IsRefusedAfter room early later error
+-- what one try under the lock answers: where it answers nothing, it leaves the page as it is
+abbrev pub IsTry : (table room : ℕ) (early later : Page) → Option (Result Taken LocalError) → Type 0
+IsTry table room early later None = later ≡ early
+IsTry table room early later (Some tried) = IsTake table room early later tried

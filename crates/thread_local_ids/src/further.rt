@@ -58,7 +58,7 @@ impl Further {
         first: &FirstIds,
         page: &mut Page,
         room: &Room,
-    ) -> Result<Option<Taken>, LocalError>
+    ) -> Option<Result<Taken, LocalError>>
         requires { (first.now.table ≡ self.old.table) × (page.old.table ≡ self.old.table) × (room.now.table ≡ self.old.table) }
         ensures take { IsTry first.now.table room.now.ids page.old page.new result }
         ensures table { (self.new.table ≡ self.old.table) × (page.new.table ≡ page.old.table) }
@@ -69,18 +69,18 @@ impl Further {
                 let (word, trace) = first.look(&mut self.log, page, true);
                 if !is_full(word) {
                     self.manager.free(id);
-                    return Ok(None);
+                    return None;
                 }
                 self.reached = self.reached.max(id - (FIRST_IDS - 1));
-                Ok(Some(trace.into_taken(id, page)))
+                Some(Ok(trace.into_taken(id, page)))
             }
             Err(error) => {
                 let (word, trace) = first.look(&mut self.log, page, false);
                 if !is_full(word) {
-                    return Ok(None);
+                    return None;
                 }
                 *page = trace.into_page();
-                Err(error)
+                Some(Err(error))
             }
         }
     }

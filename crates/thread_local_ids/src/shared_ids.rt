@@ -129,10 +129,8 @@ impl SharedIds {
     {
         for _ in rt.forever() {
             let tried = self.further.lock(rt).take(&self.first, page, room);
-            match tried {
-                Ok(Some(taken)) => return Ok(taken),
-                Ok(None) => {}
-                Err(error) => return Err(error),
+            if let Some(tried) = tried {
+                return tried;
             }
             if let Some(taken) = self.first.take(page) {
                 return Ok(taken);
