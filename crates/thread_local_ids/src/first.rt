@@ -7,7 +7,7 @@ ghost use base.Stored.{coded_bool};
 ghost use mathlib.Core.List.{IsPrefix};
 ghost use Rattle.thread_local_base.specs.Bits.{IsLowestUnset};
 ghost use Rattle.thread_local_base.specs.SharedWord.{word_shares, word_owns};
-ghost use Rattle.thread_local_base.specs.IdMoves.{IdMove, Take, Give, moves_coded, held_after, noted, published_in};
+ghost use Rattle.thread_local_base.specs.IdMoves.{IdMove, Take, moves_coded, held_after, noted, published_in};
 ghost use Rattle.thread_local_ids.specs.Rights.{is_out, taken_id, AreNotedOut};
 ghost use Rattle.thread_local_base.specs.Buckets.{values};
 ghost use Rattle.thread_local_base.specs.Held.{is_held};

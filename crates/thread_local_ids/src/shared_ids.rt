@@ -6,7 +6,7 @@ ghost use Rattle.thread_local_base.specs.Buckets.{values};
 ghost use Rattle.thread_local_base.specs.Held.{is_held, HoldsAllBelow};
 ghost use Rattle.thread_local_ids.specs.Sharings.{IsFirst, left_of};
 ghost use Rattle.thread_local_ids.specs.SharedIds.{AreNew};
-ghost use Rattle.thread_local_ids.specs.Taken.{IsHeldIn, IsTakenAfter, IsTake, IsTry};
+ghost use Rattle.thread_local_ids.specs.Taken.{IsHeldIn, IsTakenAfter, IsTake};
 ghost use Rattle.thread_local_ids.specs.FirstIds.{IsReturn};
 
 use crate::first::{FIRST_IDS, FirstIds};

@@ -1,17 +1,16 @@
 //! A claim of a slot, in three states: its bucket was missing, the slot is vacant, the slot holds a
 //! value. It begins in any of them, and goes on from one to the next.
 ghost use Rattle.std.specs.Prelude.{◌≡◌, ◌≢◌, ◌/◌, ◌-◌, ◌^◌, ◌<◌, ◌⊎◌, true, Some, None, Ok, Err, IsSome};
-ghost use Rattle.std.specs.Prelude.{IfOk, OnOk, IfSome, IfErr, OnErr, MatchBool, MatchOption, MatchResult, slice_set};
+ghost use Rattle.std.specs.Prelude.{IfOk, OnOk, IfErr, OnErr, MatchBool, MatchOption, MatchResult, slice_set};
 ghost use Rattle.thread_local_base.specs.Learnt.{Unknown, Missing, Vacant, Holding, Finds, learnt_by_publish};
-ghost use Rattle.thread_local_base.specs.Place.{IsPlaceOf};
+ghost use Rattle.thread_local_base.specs.Place.{IsPlaceOf, bucket_of, id_at};
 ghost use Rattle.thread_local_buckets.specs.Slots.{empty_slots, slot_value, flag_word_at};
-ghost use Rattle.thread_local_shared_buckets.specs.Announcing.{BeginsWithFirst};
 ghost use Rattle.thread_local_ids.specs.Sharings.{Belongs, is_first, left_of};
 ghost use Rattle.thread_local_shared_buckets.specs.Known.{HasLooked, value_held};
 ghost use Rattle.thread_local_shared_buckets.specs.Room.{IsEmpty, HasRoom, IsFilledBy};
 
 use crate::claimed::{ClaimedSlot, HOLDING, MISSING, VACANT};
-use crate::{Announcements, SharedBucket};
+use crate::{Announcements, Shared};
 use std::alloc::{AllocError, Global};
 use std::marker::Model;
 use thread_local_base::{Thread, bucket_size};
@@ -24,8 +23,8 @@ use thread_local_ids::{HeldId, Reached, Right, Token};
 /// holds.
 ///
 /// No call waits, but a closure that a call runs may, and so may the drop of one that it doesn't run.
-/// Only `fill`, `try_fill`, `set` and `room` take memory. These, `look`, `publish_in` and `publish`
-/// make atomic steps.
+/// Only `fill`, `try_fill`, `set` and `room` take memory. These, `Shared::claim`, `publish_in` and
+/// `publish` make atomic steps.
 pub struct Claim<'a, T> {
     slot: ClaimedSlot<'a, T>,
     held: HeldId,
@@ -55,37 +54,28 @@ impl<'a, T> Model for Claim<'a, T> {
     ghost invariant = { λ c. IsClaim c.slot c.held c.announcements.now c.reached };
 }
 
-impl<'a, T> Claim<'a, T> {
-    /// Claims the slot of a held id, in the bucket of the id's place: one atomic load of the
-    /// bucket's pointer, and where the bucket stands, one of the word that has the slot's flag. A
-    /// reserved bucket is never missing.
-    #[tactic(auto, using(crate::proofs::IdLaws::id_of_place))]
-    pub fn look(
-        bucket: &'a SharedBucket<T>,
-        announcements: &'a Announcements,
-        thread: Thread,
-        held: HeldId,
-        right: Right,
-        reached: Reached,
-    ) -> Claim<'a, T>
-        requires word { (bucket.now.word ≡ announcements.now) × BeginsWithFirst announcements.now }
-        requires table { (right.table ≡ bucket.now.table) × (held.mark.table ≡ bucket.now.table) }
+impl<T> Shared<T> {
+    /// Claims the slot of a held id, for as long as the buckets are borrowed: one atomic load of
+    /// the bucket's pointer, and where the bucket stands, one of the word that has the slot's flag.
+    /// The bucket of a reserved slot is never missing. All ids up to this one were held at once.
+    pub fn claim(&self, held: HeldId, right: Right, reached: Reached) -> Claim<'_, T>
+        requires table { (right.table ≡ self.now.table) × (held.mark.table ≡ self.now.table) }
         requires told { held.mark.told ≡ true }
-        requires sharing { Belongs bucket.now.sharing bucket.now.table }
+        requires sharing { Belongs self.now.sharing self.now.table }
         requires id { right.id ≡ held.id }
-        requires place { IsPlaceOf thread.bucket thread.index held.id }
-        requires bucket { bucket.now.bucket ≡ thread.bucket }
-        requires reached { (reached.table ≡ bucket.now.table) × (held.id < reached.ids) }
-        ensures same_slot { (result.table ≡ right.table)
-            × (result.sharing ≡ bucket.now.sharing)
+        requires reached { (reached.table ≡ self.now.table) × (held.id < reached.ids) }
+        ensures same_slot { (result.table ≡ self.now.table)
+            × (result.sharing ≡ self.now.sharing)
             × (result.id ≡ held.id) }
         ensures found { Finds Unknown result.learnt }
         ensures learnt { HasLooked result.learnt }
-        ensures reserved { (result.reserved ≡ bucket.now.reserved)
-            × (result.reserved ≡ true → result.learnt ≢ Missing) }
-        ensures left { is_first result.sharing result.table ≡ true
+        ensures reserved { id_at (bucket_of held.id) 0 < self.now.reserved → result.learnt ≢ Missing }
+        ensures left { is_first self.now.sharing self.now.table ≡ true
             → held.mark.left ≡ left_of T.row (value_held result.learnt) }
     {
+        let thread = Thread::new(held.id);
+        let pointers = &self.parts().pointers;
+        let bucket = &pointers.pointers.pointers[thread.bucket];
         let mut slot = ClaimedSlot::hold(bucket, thread.index, right);
         slot.find(thread.index, flag_word_of::<T>(thread));
         let mut held = held;
@@ -93,11 +83,13 @@ impl<'a, T> Claim<'a, T> {
         Claim {
             slot,
             held,
-            announcements,
+            announcements: &pointers.announced,
             reached,
         }
     }
+}
 
+impl<'a, T> Claim<'a, T> {
     /// Fills the slot if it is empty, with the closure's value, for which a missing bucket is made.
     /// Where memory is refused, the closure isn't called.
     #[inline]
@@ -243,7 +235,7 @@ impl<'a, T> Claim<'a, T> {
     }
 
     /// Makes room for a value in a slot that is empty. It looks again for a bucket that was missing, by
-    /// the same loads as `look`, and where it is missing still, makes a block for it: the one request for
+    /// the same loads as `Shared::claim`, and where it is missing still, makes a block for it: the one request for
     /// memory. Where it answers no block, the slot is vacant, whoever installed the bucket's block.
     #[inline(always)]
     pub fn room(

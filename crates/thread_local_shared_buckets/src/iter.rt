@@ -1,5 +1,5 @@
 //! The walk over shared buckets, by ascending id, while other threads publish values.
-ghost use Rattle.std.specs.Prelude.{◌≡◌, suc, ◌+◌, ◌-◌, ◌^◌, ◌<◌, true, false, None, Some, IfSome, is_some, option_map};
+ghost use Rattle.std.specs.Prelude.{◌≡◌, suc, ◌+◌, ◌-◌, ◌<◌, true, false, None, Some, IfSome, is_some, option_map};
 ghost use Rattle.std.specs.Iterator.{UpTo};
 ghost use Rattle.std.specs.Iterator.SizeHint.{IsWithinCount};
 ghost use Rattle.thread_local_base.specs.Cursor.{cursor_id};

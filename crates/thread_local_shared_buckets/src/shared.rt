@@ -2,25 +2,22 @@
 //! an owner's `Buckets` again.
 ghost use Rattle.std.specs.Prelude.{◌≡◌, ◌≢◌, ◌+◌, ◌-◌, ◌*◌, ◌^◌, ◌<◌, ◌≤◌, ℕ, max, length, true, false, Option, None, Some, IsSome, All};
 ghost use Rattle.std.specs.List.{AllPairs};
-ghost use Rattle.thread_local_base.specs.Learnt.{Unknown, Missing, Finds};
 ghost use Rattle.thread_local_base.specs.Owned.{IsOwned, AreOfFirstBuckets};
-ghost use Rattle.thread_local_base.specs.Place.{bucket_of, id_at};
+ghost use Rattle.thread_local_base.specs.Place.{bucket_of};
 ghost use Rattle.thread_local_base.specs.Judged.{Judged};
-ghost use Rattle.thread_local_ids.specs.Sharings.{Belongs, first_of, is_first, left_of};
+ghost use Rattle.thread_local_ids.specs.Sharings.{Belongs, first_of, is_first};
 ghost use Rattle.thread_local_base.specs.Buckets.{values};
 ghost use Rattle.thread_local_ids.specs.TokenLists.{AllOf};
-ghost use Rattle.thread_local_shared_buckets.specs.Known.{HasLooked, value_held};
 ghost use Rattle.thread_local_shared_buckets.specs.Grown.{only_reserved};
 ghost use Rattle.thread_local_shared_buckets.specs.TableView.{TableView, table_view_coded, IsBucketOf};
 ghost use Rattle.thread_local_shared_buckets.specs.Parts.{parts_own, parts_share};
 
+use crate::SharedBucket;
 use crate::announcements::load_announced;
 use crate::parts::SharedParts;
-use crate::{Claim, SharedBucket};
 use std::marker::{Move, Owns, PhantomData};
-use thread_local_base::Thread;
 use thread_local_buckets::{BucketPointers, Buckets, take_first_bucket};
-use thread_local_ids::{Book, HeldId, Reached, Right, SlotRights, Told};
+use thread_local_ids::{Book, Reached, Right, SlotRights, Told};
 
 mod lends;
 
@@ -142,30 +139,6 @@ impl<T> Shared<T> {
         ensures { IsBucketOf self.now bucket result.now }
     {
         &self.parts().pointers.pointers.pointers[bucket]
-    }
-
-    /// Claims the slot of a held id, for as long as the buckets are borrowed: one atomic load of
-    /// the bucket's pointer, and where the bucket stands, one of the word that has the slot's flag.
-    /// The bucket of a reserved slot is never missing. All ids up to this one were held at once.
-    pub fn claim(&self, held: HeldId, right: Right, reached: Reached) -> Claim<'_, T>
-        requires table { (right.table ≡ self.now.table) × (held.mark.table ≡ self.now.table) }
-        requires told { held.mark.told ≡ true }
-        requires sharing { Belongs self.now.sharing self.now.table }
-        requires id { right.id ≡ held.id }
-        requires reached { (reached.table ≡ self.now.table) × (held.id < reached.ids) }
-        ensures same_slot { (result.table ≡ self.now.table)
-            × (result.sharing ≡ self.now.sharing)
-            × (result.id ≡ held.id) }
-        ensures found { Finds Unknown result.learnt }
-        ensures learnt { HasLooked result.learnt }
-        ensures reserved { id_at (bucket_of held.id) 0 < self.now.reserved → result.learnt ≢ Missing }
-        ensures left { is_first self.now.sharing self.now.table ≡ true
-            → held.mark.left ≡ left_of T.row (value_held result.learnt) }
-    {
-        let thread = Thread::new(held.id);
-        let pointers = &self.parts().pointers;
-        let bucket = &pointers.pointers.pointers[thread.bucket];
-        Claim::look(bucket, &pointers.announced, thread, held, right, reached)
     }
 
     /// Shows that the type of the values is judged, as it was when the buckets were shared. At run

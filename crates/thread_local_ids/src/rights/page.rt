@@ -1,9 +1,8 @@
 //! What was done with the ids of a table: a `History`, which is appended to, its `Page`s, and the
 //! `Tenure` of each id that is held. None has bytes, and no call does anything at run time.
-ghost use Rattle.std.specs.Prelude.{◌≡◌, ℕ, List, [], true};
+ghost use Rattle.std.specs.Prelude.{◌≡◌, ℕ, List, true};
 ghost use mathlib.Core.List.{IsPrefix};
 ghost use mathlib.Core.Logic.{◌∨₁◌};
-ghost use types.Logic.{sem};
 ghost use denote.Sharing.{said};
 ghost use Rattle.thread_local_base.specs.IdMoves.{IdMove, Take, moves_coded, held_after, noted};
 ghost use Rattle.thread_local_base.specs.Held.{is_held};

@@ -1,7 +1,6 @@
 //! For how many ids a table began with room. It has no bytes, and no call does anything at run
 //! time.
 ghost use Rattle.std.specs.Prelude.{◌≡◌, ℕ};
-ghost use types.Logic.{sem};
 ghost use denote.Sharing.{said};
 ghost use Rattle.thread_local_ids.specs.Rights.{room_owns};
 

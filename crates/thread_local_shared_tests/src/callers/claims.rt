@@ -2,16 +2,15 @@
 ghost use Rattle.std.specs.Prelude.{◌≡◌, ◌≢◌, ◌<◌, ◌^◌, ◌⊎◌, MatchBool, MatchOption, true};
 ghost use Rattle.thread_local_buckets.specs.Slots.{empty_slots};
 ghost use Rattle.thread_local_base.specs.Learnt.{Missing, Vacant, Holding};
-ghost use Rattle.thread_local_base.specs.Place.{bucket_of, IsPlaceOf};
+ghost use Rattle.thread_local_base.specs.Place.{bucket_of};
 ghost use Rattle.thread_local_ids.specs.Sharings.{Belongs};
-ghost use Rattle.thread_local_shared_buckets.specs.Announcing.{BeginsWithFirst};
 
 use std::alloc::Global;
 use std::cell::{Cell, RefCell};
 use thread_local_base::{Thread, bucket_size};
 use thread_local_buckets::Block;
 use thread_local_ids::{HeldId, Reached, Right, Token};
-use thread_local_shared_buckets::{Announcements, Claim, SharedBucket};
+use thread_local_shared_buckets::{Claim, Shared};
 
 /// Publishes the value unless the slot holds one.
 fn offered<T: Send + Drop>(claim: &mut Claim<'_, T>, value: T)
@@ -59,26 +58,21 @@ fn ref_cell(claim: &mut Claim<'_, RefCell<String>>, value: RefCell<String>)
 
 /// Looks, and gives the claim up.
 fn visit<T: Send>(
-    bucket: &SharedBucket<T>,
-    announcements: &Announcements,
-    thread: Thread,
+    shared: &Shared<T>,
     held: HeldId,
     right: Right,
     reached: Reached,
 ) -> (HeldId, Right)
-    requires word { (bucket.now.word ≡ announcements.now) × BeginsWithFirst announcements.now }
-    requires table { (right.table ≡ bucket.now.table) × (held.mark.table ≡ bucket.now.table) }
+    requires table { (right.table ≡ shared.now.table) × (held.mark.table ≡ shared.now.table) }
     requires told { held.mark.told ≡ true }
-    requires sharing { Belongs bucket.now.sharing bucket.now.table }
+    requires sharing { Belongs shared.now.sharing shared.now.table }
     requires id { right.id ≡ held.id }
-    requires place { IsPlaceOf thread.bucket thread.index held.id }
-    requires bucket { bucket.now.bucket ≡ thread.bucket }
-    requires reached { (reached.table ≡ bucket.now.table) × (held.id < reached.ids) }
+    requires reached { (reached.table ≡ shared.now.table) × (held.id < reached.ids) }
     ensures table { (result.1.table ≡ right.table) × (result.0.mark.table ≡ right.table) }
     ensures id { (result.0.id ≡ held.id) × (result.1.id ≡ held.id) }
     ensures told { result.0.mark.told ≡ true }
 {
-    Claim::look(bucket, announcements, thread, held, right, reached).give_up()
+    shared.claim(held, right, reached).give_up()
 }
 
 /// What the look lent outlives the claim, and so does a token of it.

@@ -1,10 +1,18 @@
--- The search for these takes a second.
-use Rattle.std.proofs.Common.{◌≡◌, ◌∙◌, ℕ, sym, ap, get_or}
+-- The search for these takes seconds.
+use Rattle.std.proofs.Common.{◌≡◌, ◌∙◌, ℕ, Option, ◌<◌, ◌^◌, sym, ap, subst, refl, get_or}
 use Rattle.std.specs.Prelude.{nat_lt}
 use Rattle.std.proofs.lemmas.Bool.{lt-ltb}
-use Rattle.thread_local_base.specs.Place.{bucket_of, id_at}
+use denote.Param.{param}
+use Rattle.thread_local_base.specs.Learnt.{Learnt, Finds}
+use Rattle.thread_local_base.specs.Place.{bucket_of, index_of, id_at}
+use Rattle.thread_local_base.proofs.PlaceLaws.{id_at-place}
+use Rattle.thread_local_ids.specs.Sharings.{Belongs, is_first, left_of}
+use Rattle.thread_local_ids.specs.declared.rights.mark.Mark.{Mark}
+use Rattle.thread_local_shared_buckets.specs.declared.claimed.ClaimedSlot.{ClaimedSlot}
+use Rattle.thread_local_shared_buckets.specs.Known.{HasLooked, MayLook, value_held}
 use Rattle.thread_local_shared_buckets.specs.Shared.{BucketView}
 use Rattle.thread_local_shared_buckets.specs.TableView.{bucket_view}
+use Rattle.thread_local_shared_buckets.proofs.IdLaws.{word_there}
 use Rattle.thread_local_shared_buckets.proofs.Lists.{listed_bucket}
 use Rattle.thread_local_shared_buckets.proofs.shared.Shared.claim.Goals as goal
 use Rattle.thread_local_shared_buckets.proofs.shared.Shared.claim.Goals.{After-index-pointers-thread}
@@ -19,44 +27,80 @@ at_place g c =
     c.new-thread.result.bucket c.index-pointers-thread.result c.args.self.now
     c.behind-self.told c.new-thread.result.in_table c.behind-self.invariant.0 (c.behind-self.view_is ∙ c.parts.ensures)
 
-pub look-requires-clause-place : goal.look-requires-clause-place
-look-requires-clause-place g c = (c.new-thread.ensures.bucket, c.new-thread.ensures.index)
+-- the right's id is at the place where the claim looks
+id_there : (id held bucket there index : ℕ) → id ≡ held → bucket ≡ there → there ≡ bucket_of held → index ≡ index_of held
+    → id ≡ id_at bucket index
+id_there id held bucket there index same at in_bucket at_index =
+    same ∙ sym (id_at-place held) ∙ ap (λ i. id_at (bucket_of held) i) (sym at_index)
+    ∙ ap (λ b. id_at b index) (sym (at ∙ in_bucket))
 
-pub look-requires-clause-id : goal.look-requires-clause-id
-look-requires-clause-id g c = c.requires.id
+pub hold-slot-requires : goal.hold-slot-requires
+hold-slot-requires g c =
+    let here = at_place g (goal.at.hold-slot-requires g c).After-index-pointers-thread in
+    let thread = c.new-thread.result in
+    let bucket = ap (λ (d : BucketView). d.bucket) here in
+    record {
+      table = c.requires.table.0 ∙ sym (ap (λ (d : BucketView). d.table) here);
+      id = id_there c.args.right.id c.args.held.id _ thread.bucket thread.index c.requires.id bucket c.new-thread.ensures.bucket
+          c.new-thread.ensures.index;
+      within = subst (λ (b : ℕ). thread.index < 2 ^ b) (sym bucket) thread.in_bucket;
+    }
 
-pub look-requires-clause-word : goal.look-requires-clause-word
-look-requires-clause-word g c =
-    let here = at_place g (goal.at.look-requires-clause-word g c).After-index-pointers-thread in
-    (ap (λ (d : BucketView). d.word) here, c.behind-self.invariant.1)
+pub find-requires : goal.find-requires
+find-requires g c =
+    let thread = c.new-thread.result in
+    record {
+      missing = subst (λ (l : Learnt _). MayLook l) (sym c.hold-slot.ensures.unknown) tt;
+      index = sym c.hold-slot.ensures.same_slot.4;
+      flag_word =
+          word_there (param 0 g.row.T) c.flag_word_of.result c.hold-slot.result.id c.args.held.id thread.bucket thread.index
+          c.flag_word_of.ensures (c.hold-slot.ensures.same_slot.3 ∙ c.requires.id) c.new-thread.ensures.bucket c.new-thread.ensures.index;
+    }
 
-pub look-requires-clause-table : goal.look-requires-clause-table
-look-requires-clause-table g c =
-    let here = at_place g (goal.at.look-requires-clause-table g c).After-index-pointers-thread in
-    let table = sym (ap (λ (d : BucketView). d.table) here) in
-    (c.requires.table.0 ∙ table, c.requires.table.1 ∙ table)
+pub returns : goal.returns
+returns g c =
+    let Slot : Type 0 = ClaimedSlot g.row.T.Denot in
+    let now = c.args.self.now in
+    let here = at_place g (goal.at.returns g c).After-index-pointers-thread in
+    let slot = c.hold-slot.ensures.same_slot in
+    let table = ap (λ (s : Slot). s.table) c.find.ensures.same ∙ slot.0 ∙ c.requires.table.0 in
+    let sharing = ap (λ (s : Slot). s.sharing) c.find.ensures.same ∙ slot.1 ∙ ap (λ (d : BucketView). d.sharing) here in
+    let found = c.find.ensures in
+    let same = c.notes.ensures.same.0 in
+    record {
+      same_slot = (ap (λ (s : Slot). s.table) same ∙ table, ap (λ (s : Slot). s.sharing) same ∙ sharing, refl);
+      found = subst (λ (l : Learnt _). Finds l c.notes.new.self.learnt) c.hold-slot.ensures.unknown
+          (subst (λ (s : Slot). Finds c.hold-slot.result.learnt s.learnt) (sym same) found.found);
+      learnt = subst (λ (s : Slot). HasLooked s.learnt) (sym same) found.looked;
+      reserved = λ below none.
+          found.reserved
+          (ap (λ (s : Slot). s.reserved) found.same ∙ c.hold-slot.ensures.reserved ∙ ap (λ (d : BucketView). d.reserved) here
+          ∙ ap (λ (n : ℕ). nat_lt (id_at n 0) now.reserved) c.new-thread.ensures.bucket
+          ∙ lt-ltb (id_at (bucket_of c.args.held.id) 0) now.reserved below)
+          (ap (λ (s : Slot). s.learnt) (sym same) ∙ none);
+      left = λ first.
+          c.notes.ensures.left ((λ i. is_first (sharing i) (table i)) ∙ first)
+          ∙ ap (λ (s : Slot). left_of (param 0 g.row.T) (value_held s.learnt)) (sym same);
+    }
 
-pub look-requires-clause-bucket : goal.look-requires-clause-bucket
-look-requires-clause-bucket g c =
-    let here = at_place g (goal.at.look-requires-clause-bucket g c).After-index-pointers-thread in
-    ap (λ (d : BucketView). d.bucket) here
-
-pub returns-clause-same_slot : goal.returns-clause-same_slot
-returns-clause-same_slot g c =
-    let here = at_place g (goal.at.returns-clause-same_slot g c).After-index-pointers-thread in
-    let slot = c.look.ensures.same_slot in
-    (slot.0 ∙ c.requires.table.0, slot.1 ∙ ap (λ (d : BucketView). d.sharing) here, slot.2)
-
-pub returns-clause-found : goal.returns-clause-found
-returns-clause-found g c = c.look.ensures.found
-
-pub returns-clause-learnt : goal.returns-clause-learnt
-returns-clause-learnt g c = c.look.ensures.learnt
-
-pub returns-clause-reserved : goal.returns-clause-reserved
-returns-clause-reserved g c =
-    let reserved = c.args.self.now.reserved in
-    let here = at_place g (goal.at.returns-clause-reserved g c).After-index-pointers-thread in
-    λ below. c.look.ensures.reserved.1 (c.look.ensures.reserved.0 ∙ ap (λ (d : BucketView). d.reserved) here
-    ∙ ap (λ (n : ℕ). nat_lt (id_at n 0) reserved) c.new-thread.ensures.bucket
-    ∙ lt-ltb (id_at (bucket_of c.args.held.id) 0) reserved below)
+pub invariant_of-result : goal.invariant_of-result
+invariant_of-result g c =
+    let Slot : Type 0 = ClaimedSlot g.row.T.Denot in
+    let here = at_place g (goal.at.invariant_of-result g c).After-index-pointers-thread in
+    let slot = c.hold-slot.ensures.same_slot in
+    let looked = c.notes.ensures.same.0 in
+    let same = looked ∙ c.find.ensures.same in
+    let mark = c.notes.ensures.same.1 in
+    let table = ap (λ (s : Slot). s.table) same ∙ slot.0 ∙ c.requires.table.0 in
+    let sharing = ap (λ (s : Slot). s.sharing) same ∙ slot.1 ∙ ap (λ (d : BucketView). d.sharing) here in (
+      ap (λ (s : Slot). s.id) same ∙ slot.3 ∙ c.requires.id,
+      ap (λ (s : Slot). s.index) same ∙ slot.4 ∙ c.new-thread.ensures.index,
+      subst (λ (s : Slot). HasLooked s.learnt) (sym looked) c.find.ensures.looked,
+      ap (λ (m : Mark). m.table) mark ∙ c.requires.table.1 ∙ sym table,
+      ap (λ (m : Mark). m.told) mark ∙ c.requires.told,
+      subst (λ (s : Option ℕ × ℕ). Belongs s.0 s.1) (λ i. (sym sharing i, sym table i)) c.requires.sharing,
+      ap (λ (s : Slot). s.word) same ∙ slot.2 ∙ ap (λ (d : BucketView). d.word) here,
+      c.behind-self.invariant.1,
+      c.requires.reached.0 ∙ sym table,
+      c.requires.reached.1,
+    )
