@@ -1,4 +1,5 @@
-use Rattle.std.proofs.Common.{◌≡◌, ℕ, ◌+◌, ◌-◌, ◌*◌, ◌/◌, ◌<◌, ◌≤◌, is_some, length, ap, ◌∙◌, subst, arith}
+-- The search for these takes seconds.
+use Rattle.std.proofs.Common.{◌≡◌, ℕ, ◌+◌, ◌-◌, ◌*◌, ◌/◌, ◌%◌, ◌<◌, ◌≤◌, is_some, length, refl, sym, ap, ◌∙◌, subst, arith}
 use Rattle.thread_local_base.specs.Bits.{is_set}
 use Rattle.thread_local_base.specs.Place.{id_at}
 use Rattle.thread_local_base.specs.Rows.{value_in}
@@ -34,10 +35,60 @@ still_ahead : (given : ℕ) (raw : RawIter) → given ≤ read_to raw → given 
 still_ahead given raw ahead =
     let on : read_to raw ≤ read_to (behind_next raw) = omega arith in omega (arith, ahead, on)
 
-pub returns-then-not-stands-clause-behind : goal.returns-then-not-stands-clause-behind
-returns-then-not-stands-clause-behind g c = λ _.
-    NoneBelow-absent (g.P.FlagSource.contents c.args.source.now) c.args.raw.now.bucket (c.args.raw.now.index - 64)
-    c.requires.at.behind (c.stands.ensures.absent c.if-not-stands.true)
+-- the flags that are read next are in the bucket, and no value there is before `given`
+in_row : {V : Type 0} (c d : Contents V) (raw : RawIter) (chunk : ℕ) → d ≡ c → length (row c raw.bucket) ≡ raw.bucket_size
+    → raw.index < raw.bucket_size → chunk ≡ raw.index / 64
+    → chunk * 64 < length (row d raw.bucket)
+in_row c d raw chunk same whole inside here =
+    subst (λ (w : Contents _). chunk * 64 < length (row w raw.bucket)) (sym same) (omega (arith, whole, inside, here))
+
+is_ahead : (given : ℕ) (raw : RawIter) (chunk : ℕ) → given ≤ read_to raw → raw.index < raw.bucket_size → raw.index % 64 ≡ 0
+    → chunk ≡ raw.index / 64
+    → given ≤ id_at raw.bucket (chunk * 64)
+is_ahead given raw chunk ahead inside round here = omega (arith, ahead, inside, round, here)
+
+pub returns-then-not-stands : goal.returns-then-not-stands
+returns-then-not-stands g c = record {
+  same = c.stands.ensures.same;
+  at = c.requires.at;
+  ahead = c.requires.ahead;
+  yielded = refl;
+  bucket = refl;
+  behind = λ _. NoneBelow-absent (g.P.FlagSource.contents c.args.source.now) c.args.raw.now.bucket (c.args.raw.now.index - 64)
+      c.requires.at.behind (c.stands.ensures.absent c.if-not-stands.true);
+  chunk = λ some. absurd (some refl);
+}
+
+pub chunks-init : goal.chunks-init
+chunks-init g c = record {
+  at = c.requires.at;
+  inside = c.requires.inside;
+  whole = c.stands.ensures.whole c.if-not-stands.false ∙ sym c.requires.at.size;
+  ahead = c.requires.ahead;
+  same = c.stands.ensures.same;
+  yielded = refl;
+  bucket = refl;
+  chunk = refl;
+}
+
+pub flags-flags-requires-clause-in_bucket : goal.flags-flags-requires-clause-in_bucket
+flags-flags-requires-clause-in_bucket g c =
+    let kept = c.chunks.invariant in
+    in_row (g.P.FlagSource.contents c.args.source.now) (g.P.FlagSource.contents c.chunks.source) c.chunks.raw c.chunks.chunk
+    (ap (λ (l : g.row.P.Denot). g.P.FlagSource.contents l) kept.same) kept.whole kept.inside kept.chunk
+
+pub flags-flags-requires-clause-ahead : goal.flags-flags-requires-clause-ahead
+flags-flags-requires-clause-ahead g c =
+    let kept = c.chunks.invariant in
+    subst (λ (l : g.row.P.Denot). g.P.FlagSource.given l ≤ id_at c.chunks.raw.bucket (c.chunks.chunk * 64)) (sym kept.same)
+    (is_ahead (g.P.FlagSource.given c.args.source.now) c.chunks.raw c.chunks.chunk kept.ahead kept.inside kept.at.round kept.chunk)
+
+pub returns-then-flags-ne0-clause-same : goal.returns-then-flags-ne0-clause-same
+returns-then-flags-ne0-clause-same g c = c.flags-flags.ensures.same ∙ c.chunks.invariant.same
+
+pub returns-then-flags-ne0-clause-ahead : goal.returns-then-flags-ne0-clause-ahead
+returns-then-flags-ne0-clause-ahead g c =
+    still_ahead (g.P.FlagSource.given c.args.source.now) c.chunks.raw c.chunks.invariant.ahead
 
 pub returns-then-flags-ne0-clause-at : goal.returns-then-flags-ne0-clause-at
 returns-then-flags-ne0-clause-at g c =

@@ -1,3 +1,4 @@
+-- The search for these takes a second.
 use Rattle.std.proofs.Common.{◌≡◌, ◌≢◌, ℕ, zero, suc, ◌+◌, ◌*◌, ◌/◌, ◌%◌, ◌^◌, ◌<◌, w64, bit_and, false, List, [], ◌∷◌, length, slice_set}
 use Rattle.std.proofs.Common.{Option, None, Some, is_some, refl, sym, ap, ◌∙◌, subst, arith, ⊎_elim}
 use Rattle.std.proofs.lemmas.Bool.{cases_eq, ne_eqb}
@@ -5,7 +6,8 @@ use Rattle.std.proofs.lemmas.List.{get_or-set_same, get_or-set_other, length-set
 use Rattle.std.specs.Int.{bit_not}
 use Rattle.thread_local_base.specs.Bits.{is_set}
 use Rattle.thread_local_base.proofs.Word.{is_set-test, clear_bit, place_below}
-use Rattle.thread_local_buckets.specs.Slots.{slot_value, empty_slots}
+use Rattle.thread_local_buckets.specs.Slots.{slot_value, empty_slots, flag_word_at}
+use Rattle.thread_local_buckets.specs.contracts.bucket_pointer.BucketPointer.flags.{T-row}
 use Rattle.thread_local_buckets.specs.declared.bucket_pointer.BucketPointer.{BucketPointer}
 use Rattle.thread_local_buckets.proofs.ChunkFlags.{HasFlags, flags_changed}
 use Rattle.thread_local_buckets.proofs.bucket_pointer.BucketPointer.empty.Goals as goal
@@ -72,6 +74,29 @@ kept_empty {X = X} old new index len long before none is = (
 -- a word without one bit, as code makes it
 abbrev without : ℕ → ℕ → ℕ
 without word bit = bit_and word (bit_not w64 (1 * 2 ^ bit % 2 ^ 64))
+
+pub slots-init : goal.slots-init
+slots-init g c = record { whole = c.requires; empty = λ k none. absurd (omega (arith, none)) }
+
+pub flags-flags-requires-clause-in_block : goal.flags-flags-requires-clause-in_block
+flags-flags-requires-clause-in_block g c =
+    let below : (index len n : ℕ) → n ≡ len → index < len → index / 64 * 64 < n = λ index len n is near. omega (arith, is, near) in
+    below c.slots.index c.args.len (length c.slots.self.slots) c.slots.invariant.whole c.slots-test.true
+
+pub flags-flags-requires-clause-flag_word : goal.flags-flags-requires-clause-flag_word
+flags-flags-requires-clause-flag_word g c =
+    c.flag_word_at-flag_word.ensures ∙ ap (λ (n : ℕ). flag_word_at (T-row g.row.T) n (c.slots.index / 64)) (sym c.slots.invariant.whole)
+
+pub take_and_store-requires-clause-in_block : goal.take_and_store-requires-clause-in_block
+take_and_store-requires-clause-in_block g c =
+    subst (λ (n : ℕ). c.slots.index < n) (sym (ap (λ p. length p.slots) c.flags-flags.ensures.same ∙ c.slots.invariant.whole))
+    c.slots-test.true
+
+pub take_and_store-requires-clause-flag_word : goal.take_and_store-requires-clause-flag_word
+take_and_store-requires-clause-flag_word g c =
+    c.flag_word_at-flag_word.ensures
+    ∙ ap (λ (n : ℕ). flag_word_at (T-row g.row.T) n (c.slots.index / 64))
+    (sym (ap (λ p. length p.slots) c.flags-flags.ensures.same ∙ c.slots.invariant.whole))
 
 pub take_and_store-requires-clause-flags : goal.take_and_store-requires-clause-flags
 take_and_store-requires-clause-flags g c =

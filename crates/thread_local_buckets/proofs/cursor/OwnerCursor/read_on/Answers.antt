@@ -1,6 +1,7 @@
--- The walk goes from one announced bucket to the next until it finds flags that aren't 0.
+-- The walk goes from one announced bucket to the next until it finds flags that aren't 0. The search for these takes seconds.
 use Rattle.std.proofs.Common.{◌≡◌, ◌+◌, ◌-◌, ◌/◌, ◌^◌, ◌<◌, ◌≤◌, ℕ, false, length, ap, sym, ◌∙◌, subst, arith, pow_mono, ⊎_elim}
 use Rattle.std.proofs.lemmas.Bool.{cases_lt}
+use Rattle.std.proofs.lemmas.Nat.{pow_pos}
 use Rattle.thread_local_base.specs.Bits.{IsLowestSet, IsWordBut}
 use Rattle.thread_local_base.specs.Place.{id_at}
 use Rattle.thread_local_base.specs.Buckets.{Contents, values}
@@ -53,6 +54,9 @@ module _ {V : Type 0} (c : Contents V) (left given : ℕ) (raw : RawIter) (word 
         ahead = omega (arith, up, ahead, whole, next);
       }
 
+nearer : (from to b : ℕ) → from + 1 ≤ to → to < 63 → b ≡ to → 63 - b < 63 - from
+nearer from to b after within is = omega (arith, after, within, is)
+
 -- the walk has read flags of the bucket that it is in
 has_read : {V : Type 0} (c : Contents V) (left given bucket : ℕ) (raw : RawIter) (word : ℕ) → AreAhead c left (bucket + 1)
     → IsAt c raw word → given ≤ read_to raw → raw.bucket ≡ bucket
@@ -63,6 +67,13 @@ has_read c left given bucket raw word announced at ahead same behind = record {
   ahead = ahead;
   announced = subst (λ (b : ℕ). AreAhead c left (b + 1)) (sym same) announced;
   none = λ none. subst (λ (b : ℕ). NoneBelow (values c) (id_at (b + 1) 0)) (sym same) (behind none);
+}
+
+pub flags_in_bucket-flags-requires : goal.flags_in_bucket-flags-requires
+flags_in_bucket-flags-requires g c = record {
+  at = subst (λ (n : ℕ). IsAt (g.P.FlagSource.contents c.args.source.now) c.args.self.now.raw n) c.requires.passed c.requires.may_read.walk.at;
+  inside = c.if-raw.true;
+  ahead = c.requires.may_read.ahead;
 }
 
 pub buckets-init : goal.buckets-init
@@ -132,6 +143,21 @@ flags_in_bucket-flags-requires-in-buckets-clause-ahead g c =
     c.buckets.flags kept.read c.buckets-test.true first.new.left first.result.0 first.result.1
     first.ensures.first first.ensures.rest first.ensures.size).ahead
 
+pub flags_in_bucket-flags-requires-in-buckets-clause-inside : goal.flags_in_bucket-flags-requires-in-buckets-clause-inside
+flags_in_bucket-flags-requires-in-buckets-clause-inside g c =
+    let first = c.take_first_bucket-bucket in
+    subst (λ (n : ℕ). 0 < n) (sym first.ensures.size) (pow_pos first.result.0)
+
+pub buckets-smaller : goal.buckets-smaller
+buckets-smaller g c =
+    let first = c.take_first_bucket-bucket in
+    let looked = c.flags_in_bucket-flags-in-buckets in
+    let kept = c.buckets.invariant in
+    let taken =
+    takes (g.P.FlagSource.contents c.args.source.now) c.buckets.left first.new.left (c.buckets.raw.bucket + 1) first.result.0
+    kept.read.announced first.ensures.first first.ensures.rest in
+    nearer c.buckets.raw.bucket first.result.0 looked.new.raw.bucket taken.after taken.in_table looked.ensures.bucket
+
 pub buckets-preserved : goal.buckets-preserved
 buckets-preserved g c =
     let contents = g.P.FlagSource.contents c.args.source.now in
@@ -170,6 +196,9 @@ overflow_sub-self g c =
     let kept = c.buckets.invariant in
     flags_few (g.P.FlagSource.contents c.args.source.now) c.args.self.now c.buckets.raw c.buckets.flags
     c.requires.may_read.walk c.requires.passed kept.fits kept.read.at
+
+pub returns-clause-same : goal.returns-clause-same
+returns-clause-same g c = c.buckets.invariant.same
 
 pub returns-clause-read : goal.returns-clause-read
 returns-clause-read g c =
