@@ -10,7 +10,7 @@ use Rattle.thread_local_buckets.specs.Cursor.{behind_next, read_to, IsAt}
 use Rattle.thread_local_buckets.specs.declared.cursor.RawIter.{RawIter}
 use Rattle.thread_local_buckets.proofs.FlagLaws.{behind_chunk, none_to_next}
 use Rattle.thread_local_buckets.proofs.cursor.flags_in_bucket.Goals as goal
-use Rattle.thread_local_buckets.proofs.cursor.flags_in_bucket.Goals.{then-flags-ne0-via-then-flags-ne0, then-flags-ne0-via-else-flags-ne0+then-raw}
+use Rattle.thread_local_buckets.proofs.cursor.flags_in_bucket.Goals.{After-flags-flags, then-flags-ne0-via-then-flags-ne0, then-flags-ne0-via-else-flags-ne0+then-raw}
 
 -- behind a chunk whose flags were read, of contents that stay
 has_read : {V : Type 0} (c d : Contents V) (raw : RawIter) (chunk word : ℕ) → d ≡ c → IsAt c raw 0 → raw.index < raw.bucket_size
@@ -83,42 +83,39 @@ flags-flags-requires-clause-ahead g c =
     subst (λ (l : g.row.P.Denot). g.P.FlagSource.given l ≤ id_at c.chunks.raw.bucket (c.chunks.chunk * 64)) (sym kept.same)
     (is_ahead (g.P.FlagSource.given c.args.source.now) c.chunks.raw c.chunks.chunk kept.ahead kept.inside kept.at.round kept.chunk)
 
-pub returns-then-flags-ne0-clause-same : goal.returns-then-flags-ne0-clause-same
-returns-then-flags-ne0-clause-same g c = c.flags-flags.ensures.same ∙ c.chunks.invariant.same
-
-pub returns-then-flags-ne0-clause-ahead : goal.returns-then-flags-ne0-clause-ahead
-returns-then-flags-ne0-clause-ahead g c =
-    still_ahead (g.P.FlagSource.given c.args.source.now) c.chunks.raw c.chunks.invariant.ahead
-
-pub returns-then-flags-ne0-clause-at : goal.returns-then-flags-ne0-clause-at
-returns-then-flags-ne0-clause-at g c =
+-- the flags that are read, of the contents as they came
+read : (g : _) (c : After-flags-flags g)
+    → IsAt (g.P.FlagSource.contents c.args.source.now) (behind_next c.chunks.raw) c.flags-flags.result
+read g c =
     let kept = c.chunks.invariant in
     has_read (g.P.FlagSource.contents c.args.source.now) (g.P.FlagSource.contents c.chunks.source) c.chunks.raw
     c.chunks.chunk c.flags-flags.result (ap (λ (l : g.row.P.Denot). g.P.FlagSource.contents l) kept.same) kept.at kept.inside
     kept.whole kept.chunk c.flags-flags.ensures.value
 
-pub returns-then-flags-ne0-clause-behind : goal.returns-then-flags-ne0-clause-behind
-returns-then-flags-ne0-clause-behind g c = λ none.
+pub returns-then-flags-ne0 : goal.returns-then-flags-ne0
+returns-then-flags-ne0 g c =
     let kept = c.chunks.invariant in
-    elim c.then-flags-ne0.branch [
-      | then-flags-ne0-via-then-flags-ne0 w ↦ absurd (w.if-flags-ne0.true none)
-      | then-flags-ne0-via-else-flags-ne0+then-raw w ↦
-          none_left (g.P.FlagSource.contents c.args.source.now) (behind_next c.chunks.raw) c.flags-flags.result
-          c.args.raw.now.bucket
-          (has_read (g.P.FlagSource.contents c.args.source.now) (g.P.FlagSource.contents c.chunks.source) c.chunks.raw
-          c.chunks.chunk c.flags-flags.result (ap (λ (l : g.row.P.Denot). g.P.FlagSource.contents l) kept.same) kept.at
-          kept.inside kept.whole kept.chunk c.flags-flags.ensures.value)
-          none kept.bucket w.if-raw.true
-    ]
+    record {
+      same = c.flags-flags.ensures.same ∙ kept.same;
+      at = read g (goal.at.returns-then-flags-ne0 g c).After-flags-flags;
+      ahead = still_ahead (g.P.FlagSource.given c.args.source.now) c.chunks.raw kept.ahead;
+      yielded = kept.yielded;
+      bucket = kept.bucket;
+      behind = λ none. elim c.then-flags-ne0.branch [
+        | then-flags-ne0-via-then-flags-ne0 w ↦ absurd (w.if-flags-ne0.true none)
+        | then-flags-ne0-via-else-flags-ne0+then-raw w ↦
+            none_left (g.P.FlagSource.contents c.args.source.now) (behind_next c.chunks.raw) c.flags-flags.result
+            c.args.raw.now.bucket (read g (goal.at.returns-then-flags-ne0 g c).After-flags-flags) none kept.bucket w.if-raw.true
+      ];
+      chunk = λ _. omega (arith, kept.chunk);
+    }
 
 pub chunks-preserved : goal.chunks-preserved
 chunks-preserved g c =
     let kept = c.chunks.invariant in
     record {
       at = subst (λ (n : ℕ). IsAt (g.P.FlagSource.contents c.args.source.now) (behind_next c.chunks.raw) n) c.if-flags-ne0.false
-          (has_read (g.P.FlagSource.contents c.args.source.now) (g.P.FlagSource.contents c.chunks.source) c.chunks.raw
-          c.chunks.chunk c.flags-flags.result (ap (λ (l : g.row.P.Denot). g.P.FlagSource.contents l) kept.same) kept.at
-          kept.inside kept.whole kept.chunk c.flags-flags.ensures.value);
+          (read g (goal.at.chunks-preserved g c).After-flags-flags);
       inside = c.if-raw.false;
       whole = kept.whole;
       ahead = still_ahead (g.P.FlagSource.given c.args.source.now) c.chunks.raw kept.ahead;

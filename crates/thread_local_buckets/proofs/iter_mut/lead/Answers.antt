@@ -1,4 +1,5 @@
-use Rattle.std.proofs.Common.{◌≡◌, ◌≢◌, refl, ◌-◌, ◌<◌, ℕ, ap, sym, subst, length, arith}
+-- The search for these takes a second.
+use Rattle.std.proofs.Common.{◌≡◌, ◌≢◌, refl, ◌-◌, ◌<◌, ℕ, ap, sym, ◌∙◌, subst, length, arith}
 use Rattle.thread_local_base.specs.Buckets.{Contents, row}
 use Rattle.thread_local_buckets.specs.Cursor.{IsAt}
 use Rattle.thread_local_buckets.specs.declared.cursor.RawIter.{RawIter}
@@ -29,10 +30,26 @@ enter-requires-clause-in_bucket g c =
     chunk_inside c.args.loan.now.contents c.read_on.new.source.contents c.read_on.new.self.raw c.read_on.new.self.rest
     (ap (λ (l : Loan g.row.T.Denot). l.contents) c.read_on.ensures.same) read.walk.at read.some
 
-pub returns-else-cursor-eq0-clause-read : goal.returns-else-cursor-eq0-clause-read
-returns-else-cursor-eq0-clause-read g c =
-    let may = c.requires.may_read in
-    record { walk = may.walk; ahead = may.ahead; some = above_zero c.args.cursor.now.rest c.if-cursor-eq0.false; left = refl }
+pub returns-then-cursor-eq0 : goal.returns-then-cursor-eq0
+returns-then-cursor-eq0 g c =
+    let entered = c.enter.ensures in
+    let same = c.read_on.ensures.same in
+    record {
+      name = entered.name ∙ ap (λ (l : Loan g.row.T.Denot). l.name) same;
+      contents = entered.contents ∙ ap (λ (l : Loan g.row.T.Denot). l.contents) same;
+      given = entered.given ∙ ap (λ (l : Loan g.row.T.Denot). l.given) same;
+      read = c.read_on.ensures.read;
+      entered = (entered.bucket, entered.first);
+    }
 
-pub returns-else-cursor-eq0-clause-entered : goal.returns-else-cursor-eq0-clause-entered
-returns-else-cursor-eq0-clause-entered g c = c.requires.entered (above_zero c.args.cursor.now.rest c.if-cursor-eq0.false)
+pub returns-else-cursor-eq0 : goal.returns-else-cursor-eq0
+returns-else-cursor-eq0 g c =
+    let may = c.requires.may_read in
+    let some = above_zero c.args.cursor.now.rest c.if-cursor-eq0.false in
+    record {
+      name = refl;
+      contents = refl;
+      given = refl;
+      read = record { walk = may.walk; ahead = may.ahead; some = some; left = refl };
+      entered = c.requires.entered some;
+    }

@@ -84,5 +84,8 @@ deallocate-requires-clause-left g c =
       kept.1 ∙ end (length c.slots.retired.slots) c.slots.index c.args.len kept.2 c.slots-test.false,
     )
 
+pub deallocate-requires-clause-size : goal.deallocate-requires-clause-size
+deallocate-requires-clause-size g c = c.bytes_of_block.ensures
+
 pub returns : goal.returns
 returns g c = c.lift.ensures.null

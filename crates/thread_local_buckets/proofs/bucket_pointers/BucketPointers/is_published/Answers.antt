@@ -17,31 +17,20 @@ flag_of c d bucket index flags same seen =
     is_set-test flags (index % 64) ∙ seen (index % 64) (place_below index)
     ∙ ap (λ (k : ℕ). is_some (value_in d bucket k)) at ∙ ap (λ (w : Contents _). is_some (value_in w bucket index)) same
 
-pub returns-then-stands-clause-value : goal.returns-then-stands-clause-value
-returns-then-stands-clause-value g c =
-    flag_of c.args.self.now c.stands.new.self c.args.thread.bucket c.args.thread.index c.flags.result
-    c.stands.ensures.same c.flags.ensures.value
+pub returns-then-stands : goal.returns-then-stands
+returns-then-stands g c = record {
+  same = c.flags.ensures.same ∙ c.stands.ensures.same;
+  value = flag_of c.args.self.now c.stands.new.self c.args.thread.bucket c.args.thread.index c.flags.result
+      c.stands.ensures.same c.flags.ensures.value;
+  within = λ published. subst (λ (n : ℕ). c.args.thread.index < n) (sym (c.stands.ensures.whole c.if-stands.true)) c.args.thread.in_bucket;
+  stands = λ published. sym c.stands.ensures.value ∙ c.if-stands.true;
+}
 
-pub returns-then-stands-clause-same : goal.returns-then-stands-clause-same
-returns-then-stands-clause-same g c = c.flags.ensures.same ∙ c.stands.ensures.same
-
-pub returns-then-stands-clause-within : goal.returns-then-stands-clause-within
-returns-then-stands-clause-within g c = λ published.
-    subst (λ (n : ℕ). c.args.thread.index < n) (sym (c.stands.ensures.whole c.if-stands.true)) c.args.thread.in_bucket
-
-pub returns-then-stands-clause-stands : goal.returns-then-stands-clause-stands
-returns-then-stands-clause-stands g c = λ published. sym c.stands.ensures.value ∙ c.if-stands.true
-
-pub returns-else-stands-clause-same : goal.returns-else-stands-clause-same
-returns-else-stands-clause-same g c = c.stands.ensures.same
-
-pub returns-else-stands-clause-value : goal.returns-else-stands-clause-value
-returns-else-stands-clause-value g c =
-    c.if-stands.false
-    ∙ sym (ap (λ (cs : List (Option g.row.T.Denot)). is_some (slice_index_or cs c.args.thread.index None)) (c.stands.ensures.absent c.if-stands.false))
-
-pub returns-else-stands-clause-within : goal.returns-else-stands-clause-within
-returns-else-stands-clause-within g c = λ stands. absurd (false≢true (sym c.if-stands.false ∙ stands))
-
-pub returns-else-stands-clause-stands : goal.returns-else-stands-clause-stands
-returns-else-stands-clause-stands g c = λ stands. absurd (false≢true (sym c.if-stands.false ∙ stands))
+pub returns-else-stands : goal.returns-else-stands
+returns-else-stands g c = record {
+  same = c.stands.ensures.same;
+  value = c.if-stands.false
+      ∙ sym (ap (λ (cs : List (Option g.row.T.Denot)). is_some (slice_index_or cs c.args.thread.index None)) (c.stands.ensures.absent c.if-stands.false));
+  within = λ stands. absurd (false≢true (sym c.if-stands.false ∙ stands));
+  stands = λ stands. absurd (false≢true (sym c.if-stands.false ∙ stands));
+}

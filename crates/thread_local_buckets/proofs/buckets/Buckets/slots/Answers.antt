@@ -1,6 +1,6 @@
-use Rattle.std.proofs.Common.{◌+◌, refl, sym, ◌∙◌, ap, subst, arith}
+use Rattle.std.proofs.Common.{◌≡◌, ◌+◌, refl, sym, ◌∙◌, ap, subst, arith}
 use Rattle.thread_local_base.specs.Buckets.{Contents, stands, slots}
-use Rattle.thread_local_base.specs.Owned.{Owned}
+use Rattle.thread_local_base.specs.Owned.{Owned, IsOwned}
 use Rattle.thread_local_buckets.specs.Announced.{Announces}
 use Rattle.thread_local_buckets.proofs.AddingSlots.{added_none, added_more, added_absent, added_fits, added_all}
 use Rattle.thread_local_buckets.proofs.Reserving.{few_reserved}
@@ -51,17 +51,27 @@ buckets-preserved g c =
       reserved = kept.reserved;
     }
 
-pub returns-clause-value : goal.returns-clause-value
-returns-clause-value g c =
-    added_all c.announced-left.new.self c.buckets.left c.buckets.slots c.buckets.invariant.added c.buckets-test.false
-    ∙ ap (λ (w : Contents g.row.T.Denot). slots (stands w)) c.announced-left.ensures.same
-    ∙ ap (λ (o : Owned _). slots (stands o.contents)) c.self.view_is
+-- the buckets as they came
+same_buckets : (g : _) (c : goal.After-buckets g)
+    → ◌≡◌ {A = Owned g.row.T.Denot} (record { contents = c.buckets.self-inside.pointers; reserved = c.buckets.self-inside.reserved })
+    (record { contents = c.self.inside.pointers; reserved = c.self.inside.reserved })
+same_buckets g c = λ i. record {
+  contents = (c.buckets.invariant.same ∙ c.announced-left.ensures.same) i;
+  reserved = c.buckets.invariant.reserved i;
+}
 
-pub returns-clause-reserved : goal.returns-clause-reserved
-returns-clause-reserved g c =
+pub invariant_of-self : goal.invariant_of-self
+invariant_of-self g c = subst (λ (o : Owned g.row.T.Denot). IsOwned o) (sym (same_buckets g c)) c.self.invariant
+
+pub returns : goal.returns
+returns g c =
     let value =
     added_all c.announced-left.new.self c.buckets.left c.buckets.slots c.buckets.invariant.added c.buckets-test.false
     ∙ ap (λ (w : Contents g.row.T.Denot). slots (stands w)) c.announced-left.ensures.same in
     let few = few_reserved (record { contents = c.self.inside.pointers; reserved = c.self.inside.reserved }) c.self.invariant in
     let same = ap (λ (o : Owned _). o.reserved) c.self.view_is in
-    omega arith
+    record {
+      value = value ∙ ap (λ (o : Owned _). slots (stands o.contents)) c.self.view_is;
+      reserved = omega (arith, value, few, same);
+      same = same_buckets g c ∙ c.self.view_is;
+    }
