@@ -71,17 +71,17 @@ chunks-init g c = record {
   chunk = refl;
 }
 
-pub flags-flags-requires-clause-in_bucket : goal.flags-flags-requires-clause-in_bucket
-flags-flags-requires-clause-in_bucket g c =
+pub flags-flags-requires : goal.flags-flags-requires
+flags-flags-requires g c =
     let kept = c.chunks.invariant in
-    in_row (g.P.FlagSource.contents c.args.source.now) (g.P.FlagSource.contents c.chunks.source) c.chunks.raw c.chunks.chunk
-    (ap (λ (l : g.row.P.Denot). g.P.FlagSource.contents l) kept.same) kept.whole kept.inside kept.chunk
-
-pub flags-flags-requires-clause-ahead : goal.flags-flags-requires-clause-ahead
-flags-flags-requires-clause-ahead g c =
-    let kept = c.chunks.invariant in
-    subst (λ (l : g.row.P.Denot). g.P.FlagSource.given l ≤ id_at c.chunks.raw.bucket (c.chunks.chunk * 64)) (sym kept.same)
-    (is_ahead (g.P.FlagSource.given c.args.source.now) c.chunks.raw c.chunks.chunk kept.ahead kept.inside kept.at.round kept.chunk)
+    record {
+      in_table = kept.at.in_table;
+      size = kept.at.size;
+      in_bucket = in_row (g.P.FlagSource.contents c.args.source.now) (g.P.FlagSource.contents c.chunks.source) c.chunks.raw c.chunks.chunk
+          (ap (λ (l : g.row.P.Denot). g.P.FlagSource.contents l) kept.same) kept.whole kept.inside kept.chunk;
+      ahead = subst (λ (l : g.row.P.Denot). g.P.FlagSource.given l ≤ id_at c.chunks.raw.bucket (c.chunks.chunk * 64)) (sym kept.same)
+          (is_ahead (g.P.FlagSource.given c.args.source.now) c.chunks.raw c.chunks.chunk kept.ahead kept.inside kept.at.round kept.chunk);
+    }
 
 -- the flags that are read, of the contents as they came
 read : (g : _) (c : After-flags-flags g)

@@ -25,12 +25,12 @@ buckets-preserved-then-stands g c =
       same = c.count_in_bucket-count.ensures.same ∙ c.stands.ensures.same ∙ c.buckets.invariant.same;
     }
 
-pub returns-clause-counted : goal.returns-clause-counted
-returns-clause-counted g c =
-    counted_all c.args.self.now c.buckets.left c.buckets.count c.buckets.invariant.counted c.buckets-test.false
-
-pub returns-clause-fits : goal.returns-clause-fits
-returns-clause-fits g c = counted_fits c.args.self.now c.buckets.left c.buckets.count c.buckets.invariant.counted
+pub returns : goal.returns
+returns g c = record {
+  counted = counted_all c.args.self.now c.buckets.left c.buckets.count c.buckets.invariant.counted c.buckets-test.false;
+  fits = counted_fits c.args.self.now c.buckets.left c.buckets.count c.buckets.invariant.counted;
+  same = c.buckets.invariant.same;
+}
 
 -- The search for these takes a second.
 pub buckets-init : goal.buckets-init
@@ -57,9 +57,6 @@ count_in_bucket-count-requires g c =
         ),
       ),
     )
-
-pub returns-clause-same : goal.returns-clause-same
-returns-clause-same g c = c.buckets.invariant.same
 
 pub buckets-preserved : goal.buckets-preserved
 buckets-preserved g c =

@@ -1,7 +1,8 @@
-use Rattle.std.proofs.Common.{◌≡◌, ◌+◌, ◌*◌, ◌^◌, ◌<◌, ◌≤◌, min, [], ℕ, bit_and, sym, ◌∙◌, ap, lit<, refl, subst, arith, pow_mono}
+use Rattle.std.proofs.Common.{◌≡◌, ◌+◌, ◌*◌, ◌^◌, ◌<◌, ◌≤◌, ◌/◌, min, [], length, pow_pos, ℕ, bit_and, sym, ◌∙◌, ap, lit<, refl, subst, arith, pow_mono}
 use Rattle.thread_local_base.specs.Place.{id_at}
 use Rattle.thread_local_base.specs.Buckets.{Contents, values, row}
 use Rattle.thread_local_base.specs.Counting.{count_below}
+use Rattle.thread_local_base.specs.Walk.{walk}
 use Rattle.thread_local_base.proofs.TakingLaws.{id_at-next, count_below-zero, count_below-absent, count_below-fits}
 use Rattle.thread_local_buckets.proofs.Counting.{counted_at_first, counted_fits, counted_all, IsCounted}
 use Rattle.thread_local_buckets.specs.Announced.{Announces, AreAhead}
@@ -68,20 +69,34 @@ are_counted c announced count bucket told last counted = record {
   counted = counted ∙ ap (λ (b : ℕ). count_below (values c) (id_at b 0)) last;
 }
 
-pub returns-then-further-eq0-clause-counted : goal.returns-then-further-eq0-clause-counted
-returns-then-further-eq0-clause-counted g c =
-    let kept = c.loop-bucket.invariant in
-    counted_all c.args.self.now (bit_and c.args.announced (bit_not w64 127)) c.loop-bucket.count
-    (are_counted c.args.self.now c.args.announced c.loop-bucket.count c.loop-bucket.bucket c.requires.announced
-    (omega (arith, c.loop-bucket-test.false, c.loop-bucket.auto.bucket-end)) kept.counted)
-    c.if-further-eq0.true
+pub count_in_chunks-count-requires : goal.count_in_chunks-count-requires
+count_in_chunks-count-requires g c =
+    let some : 1 ≤ (2 ^ c.loop-bucket.bucket + 63) / 64 = omega (arith, pow_pos c.loop-bucket.bucket) in
+    let low : c.loop-bucket.bucket < 63 = omega (arith, c.loop-bucket-test.true) in
+    let whole = ap (λ (w : Contents g.row.T.Denot). length (row w c.loop-bucket.bucket)) c.stands.ensures.same ∙ c.stands.ensures.whole c.if-stands.true in
+    (lit< tt, (low, (c.bucket_size.ensures, (whole, (omega arith, some)))))
 
-pub returns-then-further-eq0-clause-fits : goal.returns-then-further-eq0-clause-fits
-returns-then-further-eq0-clause-fits g c =
+pub returns : goal.returns
+returns g c = record {
+  same = c.count_further.ensures.same ∙ c.loop-bucket.invariant.same;
+  counted = c.count_further.ensures.counted ∙ ap (λ (w : Contents g.row.T.Denot). length (walk (values w))) c.loop-bucket.invariant.same;
+  fits = c.count_further.ensures.fits;
+}
+
+pub returns-then-further-eq0 : goal.returns-then-further-eq0
+returns-then-further-eq0 g c =
     let kept = c.loop-bucket.invariant in
-    counted_fits c.args.self.now (bit_and c.args.announced (bit_not w64 127)) c.loop-bucket.count
-    (are_counted c.args.self.now c.args.announced c.loop-bucket.count c.loop-bucket.bucket c.requires.announced
-    (omega (arith, c.loop-bucket-test.false, c.loop-bucket.auto.bucket-end)) kept.counted)
+    let counted =
+    are_counted c.args.self.now c.args.announced c.loop-bucket.count c.loop-bucket.bucket c.requires.announced
+    (omega (arith, c.loop-bucket-test.false, c.loop-bucket.auto.bucket-end)) kept.counted in
+    record {
+      same = kept.same;
+      counted = counted_all c.args.self.now (bit_and c.args.announced (bit_not w64 127)) c.loop-bucket.count
+          counted
+          c.if-further-eq0.true;
+      fits = counted_fits c.args.self.now (bit_and c.args.announced (bit_not w64 127)) c.loop-bucket.count
+          counted;
+    }
 
 pub count_further-requires : goal.count_further-requires
 count_further-requires g c =

@@ -1,6 +1,6 @@
-use Rattle.std.specs.Prelude.{OnErr}
+use Rattle.std.specs.Prelude.{OnErr, OnOk, IsErr}
 use Rattle.std.proofs.Common.{◌≡◌, ◌∙◌, ◌*◌, ◌^◌, ◌%◌, ℕ, bit_or, List, Option, Result, Ok, Err, length, inr, lit<, sym, ap, subst, arith, pow_pos}
-use Rattle.std.proofs.lemmas.Bool.{cond-true, cond-false}
+use Rattle.std.proofs.lemmas.Bool.{cond-true, cond-false, false≢true}
 use Rattle.thread_local_base.specs.Buckets.{Contents, row, stands}
 use Rattle.thread_local_base.specs.Rows.{with_row, empty_row}
 use Rattle.thread_local_base.proofs.RowLaws.{length-empty_row}
@@ -20,28 +20,26 @@ either : {X E P : Type 0} (result : Result X E) → P → OnErr result P
 either (Ok x) here = tt
 either (Err e) here = here
 
+not_ok : {X E : Type 0} (result : Result X E) (P : Type 0) → IsErr result → OnOk result P
+not_ok (Ok x) P failed = absurd (false≢true failed)
+not_ok (Err e) P failed = tt
+
 -- The search for these takes two seconds.
 pub stands-requires : goal.stands-requires
 stands-requires g c = (lit< tt, c.requires)
 
-pub returns-then-stands-clause-err : goal.returns-then-stands-clause-err
-returns-then-stands-clause-err g c = tt
-
-pub returns-then-stands-clause-refused : goal.returns-then-stands-clause-refused
-returns-then-stands-clause-refused g c = tt
-
-pub returns-then-stands-clause-ok : goal.returns-then-stands-clause-ok
-returns-then-stands-clause-ok g c =
+pub returns-then-stands : goal.returns-then-stands
+returns-then-stands g c =
     let now = c.args.self.now in
     let b = c.args.bucket in
-    c.stands.ensures.same
-    ∙ sym (cond-true (stands now b) now (with_row now b (empty_row b)) (sym c.stands.ensures.value ∙ c.if-stands.true))
-
-pub returns-then-stands-clause-absent : goal.returns-then-stands-clause-absent
-returns-then-stands-clause-absent g c = λ missing. row-absent c.args.self.now c.args.bucket missing
-
-pub returns-then-stands-clause-table : goal.returns-then-stands-clause-table
-returns-then-stands-clause-table g c = c.stands.ensures.table
+    record {
+      ok = c.stands.ensures.same
+          ∙ sym (cond-true (stands now b) now (with_row now b (empty_row b)) (sym c.stands.ensures.value ∙ c.if-stands.true));
+      err = tt;
+      refused = tt;
+      absent = λ missing. row-absent now b missing;
+      table = c.stands.ensures.table;
+    }
 
 pub lay-requires-clause-made : goal.lay-requires-clause-made
 lay-requires-clause-made g c =
@@ -69,29 +67,26 @@ invariant_of-self g c =
     (sym (row_changes s b c.lay.new.self (empty_row b) (c.lay.ensures ∙ made)))
     (IsAnnounced-laid word (contents_of s) b (empty_row b) c.requires (inr (length-empty_row _ b)) c.self.invariant)
 
-pub returns-clause-ok : goal.returns-clause-ok
-returns-clause-ok g c =
+pub returns : goal.returns
+returns g c =
     let now = c.args.self.now in
     let b : ℕ = c.args.bucket in
     let made = new_row c.in_ok-block.block.slots c.bucket_size.result b c.in_ok-block.ensures.1 c.bucket_size.ensures in
-    row_changes c.self.inside.pointers b c.lay.new.self (empty_row b) (c.lay.ensures ∙ made)
-    ∙ ap (λ (z : Contents g.row.T.Denot). with_row z b (empty_row b)) (c.self.view_is ∙ c.stands.ensures.same)
-    ∙ sym (cond-false (stands now b) now (with_row now b (empty_row b)) (sym c.stands.ensures.value ∙ c.if-stands.false))
+    record {
+      ok = row_changes c.self.inside.pointers b c.lay.new.self (empty_row b) (c.lay.ensures ∙ made)
+          ∙ ap (λ (z : Contents g.row.T.Denot). with_row z b (empty_row b)) (c.self.view_is ∙ c.stands.ensures.same)
+          ∙ sym (cond-false (stands now b) now (with_row now b (empty_row b)) (sym c.stands.ensures.value ∙ c.if-stands.false));
+      err = tt;
+      refused = tt;
+      absent = λ missing. row-absent now b missing;
+      table = c.stands.ensures.table;
+    }
 
-pub returns-clause-absent : goal.returns-clause-absent
-returns-clause-absent g c = λ missing. row-absent c.args.self.now c.args.bucket missing
-
-pub returns-clause-table : goal.returns-clause-table
-returns-clause-table g c = c.stands.ensures.table
-
-pub returns-in_err-block-clause-err : goal.returns-in_err-block-clause-err
-returns-in_err-block-clause-err g c = either c.from_residual.result c.stands.ensures.same
-
-pub returns-in_err-block-clause-refused : goal.returns-in_err-block-clause-refused
-returns-in_err-block-clause-refused g c = either c.from_residual.result (sym c.stands.ensures.value ∙ c.if-stands.false)
-
-pub returns-in_err-block-clause-absent : goal.returns-in_err-block-clause-absent
-returns-in_err-block-clause-absent g c = λ missing. row-absent c.args.self.now c.args.bucket missing
-
-pub returns-in_err-block-clause-table : goal.returns-in_err-block-clause-table
-returns-in_err-block-clause-table g c = c.stands.ensures.table
+pub returns-in_err-block : goal.returns-in_err-block
+returns-in_err-block g c = record {
+  err = either c.from_residual.result c.stands.ensures.same;
+  refused = either c.from_residual.result (sym c.stands.ensures.value ∙ c.if-stands.false);
+  absent = λ missing. row-absent c.args.self.now c.args.bucket missing;
+  table = c.stands.ensures.table;
+  ok = not_ok c.from_residual.result _ c.from_residual.ensures.0;
+}

@@ -28,23 +28,19 @@ returns g c = record {
       ∙ ap (λ (z : Contents g.row.T.Denot). with_slot z c.args.thread.bucket c.args.thread.index (Some c.args.value)) c.self.view_is;
 }
 
-pub publish-requires-clause-flag_word : goal.publish-requires-clause-flag_word
-publish-requires-clause-flag_word g c = c.flag_word_at-flag_word.ensures
-    ∙ ap (λ (n : ℕ). flag_word_at (T-row g.row.T) n (c.args.thread.index / 64))
-    (size_of_pointer c.self.inside.pointers c.args.self.now c.args.thread.bucket
-    c.args.thread.index c.bucket_size.result c.pointer_mut.result.now c.self.view_is
-    c.self.invariant.0 c.pointer_mut.ensures.value c.requires.in_bucket c.bucket_size.ensures)
-
-pub publish-requires-clause-in_block : goal.publish-requires-clause-in_block
-publish-requires-clause-in_block g c =
-    subst (λ (cs : List (Option _)). c.args.thread.index < length cs)
-    (row_seen c.self.inside.pointers c.args.self.now c.args.thread.bucket c.pointer_mut.result.now c.self.view_is
-    c.pointer_mut.ensures.value)
-    c.requires.in_bucket
-
-pub publish-requires-clause-empty : goal.publish-requires-clause-empty
-publish-requires-clause-empty g c =
-    ap (λ (cs : List (Option g.row.T.Denot)). slice_index_or cs c.args.thread.index None)
-    (sym (row_seen c.self.inside.pointers c.args.self.now c.args.thread.bucket c.pointer_mut.result.now c.self.view_is
-    c.pointer_mut.ensures.value))
-    ∙ c.requires.empty
+pub publish-requires : goal.publish-requires
+publish-requires g c = record {
+  flag_word = c.flag_word_at-flag_word.ensures
+      ∙ ap (λ (n : ℕ). flag_word_at (T-row g.row.T) n (c.args.thread.index / 64))
+      (size_of_pointer c.self.inside.pointers c.args.self.now c.args.thread.bucket
+      c.args.thread.index c.bucket_size.result c.pointer_mut.result.now c.self.view_is
+      c.self.invariant.0 c.pointer_mut.ensures.value c.requires.in_bucket c.bucket_size.ensures);
+  in_block = subst (λ (cs : List (Option _)). c.args.thread.index < length cs)
+      (row_seen c.self.inside.pointers c.args.self.now c.args.thread.bucket c.pointer_mut.result.now c.self.view_is
+      c.pointer_mut.ensures.value)
+      c.requires.in_bucket;
+  empty = ap (λ (cs : List (Option g.row.T.Denot)). slice_index_or cs c.args.thread.index None)
+      (sym (row_seen c.self.inside.pointers c.args.self.now c.args.thread.bucket c.pointer_mut.result.now c.self.view_is
+      c.pointer_mut.ensures.value))
+      ∙ c.requires.empty;
+}

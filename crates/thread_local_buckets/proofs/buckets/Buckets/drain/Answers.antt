@@ -1,13 +1,13 @@
-use Rattle.std.proofs.Common.{◌≡◌, ℕ, List, [], Option, None, length, map, ap, sym, ◌∙◌, subst}
+use Rattle.std.proofs.Common.{◌≡◌, ℕ, List, [], Option, None, length, map, refl, ap, sym, ◌∙◌, subst}
 use Rattle.std.specs.Prelude.{nat_lt}
 use Rattle.std.proofs.lemmas.List.{length-map}
 use Rattle.std.proofs.Math.ListN.{get_or-map}
 use Rattle.thread_local_base.specs.Buckets.{Contents, row, stands, values}
-use Rattle.thread_local_base.specs.Owned.{Owned}
+use Rattle.thread_local_base.specs.Owned.{Owned, IsOwned}
 use Rattle.thread_local_base.specs.Owner.{emptied}
 use Rattle.thread_local_base.specs.Walk.{walk}
 use Rattle.thread_local_base.proofs.EmptyingLaws.{values-emptied}
-use Rattle.thread_local_buckets.specs.Cursor.{IsOwnerWalk}
+use Rattle.thread_local_buckets.specs.Cursor.{values_left, IsOwnerWalk}
 use Rattle.thread_local_buckets.specs.Emptied.{owned_emptied}
 use Rattle.thread_local_buckets.proofs.DrainLaws.{keeps_along}
 use Rattle.thread_local_buckets.proofs.buckets.Buckets.drain.Goals as goal
@@ -29,21 +29,28 @@ counted g c =
     c.begin_walk-cursor.ensures.same
     ∙ c.self.view_is
 
-pub returns-clause-ready : goal.returns-clause-ready
-returns-clause-ready g c = let begun = c.begin_walk-cursor in
-    subst (λ (w : Contents _). IsOwnerWalk w begun.result) (sym begun.ensures.same) begun.ensures.walk
+pub invariant_of-self : goal.invariant_of-self
+invariant_of-self g c =
+    subst (λ (w : Contents g.row.T.Denot). IsOwned (record { contents = w; reserved = c.self.inside.reserved }))
+    (sym c.begin_walk-cursor.ensures.same) c.self.invariant
 
-pub returns-clause-rest : goal.returns-clause-rest
-returns-clause-rest g c = ap (λ (s : Owned _). walk (values s.contents)) (counted g c)
+pub invariant_of-result : goal.invariant_of-result
+invariant_of-result g c =
+    let begun = c.begin_walk-cursor in
+    record {
+      few = begun.ensures.walk.few;
+      ends = subst (λ (w : Contents g.row.T.Denot). values_left begun.result ≡ 0 → emptied w ≡ w) (sym begun.ensures.same) begun.ensures.ends;
+    }
 
-pub returns-clause-leaves : goal.returns-clause-leaves
-returns-clause-leaves g c = ap (λ (s : Owned _). owned_emptied s) (counted g c)
-
-pub returns-clause-stays : goal.returns-clause-stays
-returns-clause-stays g c = keeps_along _
-
-pub returns-clause-would_be_empty : goal.returns-clause-would_be_empty
-returns-clause-would_be_empty g c = values-emptied c.args.self.now.contents
-
-pub returns-clause-would_stand : goal.returns-clause-would_stand
-returns-clause-would_stand g c = still_stand c.args.self.now.contents
+pub returns : goal.returns
+returns g c = record {
+  ready = let begun = c.begin_walk-cursor in
+      subst (λ (w : Contents _). IsOwnerWalk w begun.result) (sym begun.ensures.same) begun.ensures.walk;
+  rest = ap (λ (s : Owned _). walk (values s.contents)) (counted g c);
+  leaves = ap (λ (s : Owned _). owned_emptied s) (counted g c);
+  stays = keeps_along _;
+  would_be_empty = values-emptied c.args.self.now.contents;
+  would_stand = still_stand c.args.self.now.contents;
+  fresh = c.begin_walk-cursor.ensures.raw;
+  same_reference = refl;
+}

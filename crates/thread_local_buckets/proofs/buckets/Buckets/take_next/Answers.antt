@@ -133,14 +133,14 @@ read_on-requires g c =
     let may = may_read c.self.inside c.args.self.now c.args.cursor.now c.self.view_is c.requires.walk c.requires.some in
     record { may_read = may; passed = c.if-cursor-eq0.true }
 
-pub pass-bit-requires-clause-walk : goal.pass-bit-requires-clause-walk
-pass-bit-requires-clause-walk g c = (it_is_at_hand g (goal.at.pass-bit-requires-clause-walk g c).Joined-cursor-eq0).read.walk
-
-pub pass-bit-requires-clause-given : goal.pass-bit-requires-clause-given
-pass-bit-requires-clause-given g c = λ id below. absurd (omega (arith, below))
-
-pub pass-bit-requires-clause-some : goal.pass-bit-requires-clause-some
-pass-bit-requires-clause-some g c = (it_is_at_hand g (goal.at.pass-bit-requires-clause-some g c).Joined-cursor-eq0).read.some
+pub pass-bit-requires : goal.pass-bit-requires
+pass-bit-requires g c =
+    let read = (it_is_at_hand g (goal.at.pass-bit-requires g c).Joined-cursor-eq0).read in
+    record {
+      walk = read.walk;
+      given = λ id below. absurd (omega (arith, below));
+      some = read.some;
+    }
 
 pub overflow_sub-index : goal.overflow_sub-index
 overflow_sub-index g c = c.pass-bit.ensures.read

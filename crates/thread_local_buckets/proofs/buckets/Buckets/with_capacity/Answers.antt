@@ -25,22 +25,18 @@ invariant_of-result g c =
     let P : ℕ → Type 0 = λ n. IsOwned (record { contents = c.loop-bucket.pointers; reserved = n - 1 }) in
     subst P (sym c.bucket_size.ensures) (IsOwned-filled c.loop-bucket.pointers c.digits-first.result c.digits-first.ensures.bounded filled)
 
-pub returns-clause-empty : goal.returns-clause-empty
-returns-clause-empty g c = c.loop-bucket.invariant.empty
-
-pub returns-clause-stands : goal.returns-clause-stands
-returns-clause-stands g c =
+pub returns : goal.returns
+returns g c =
     let last : c.loop-bucket.bucket ≡ c.digits-first.result = omega arith in
-    (all_made c.loop-bucket.pointers c.loop-bucket.bucket (binary_digits c.args.capacity)
-    (last ∙ c.digits-first.ensures.value) c.loop-bucket.invariant).standing
-
-pub returns-clause-slots : goal.returns-clause-slots
-returns-clause-slots g c =
-    let last : c.loop-bucket.bucket ≡ c.digits-first.result = omega arith in
-    slots-filled c.loop-bucket.pointers c.args.capacity c.in_ok-check.ensures.ok
-    (all_made c.loop-bucket.pointers c.loop-bucket.bucket (binary_digits c.args.capacity)
-    (last ∙ c.digits-first.ensures.value) c.loop-bucket.invariant)
-
-pub returns-clause-reserved : goal.returns-clause-reserved
-returns-clause-reserved g c =
-    ap (λ n. n - 1) c.bucket_size.ensures ∙ ap (λ k. 2 ^ k - 1) c.digits-first.ensures.value ∙ reserved-digits c.args.capacity
+    let made =
+    all_made c.loop-bucket.pointers c.loop-bucket.bucket (binary_digits c.args.capacity)
+    (last ∙ c.digits-first.ensures.value) c.loop-bucket.invariant in
+    record {
+      empty = c.loop-bucket.invariant.empty;
+      stands = made.standing;
+      slots = slots-filled c.loop-bucket.pointers c.args.capacity c.in_ok-check.ensures.ok
+          made;
+      reserved = ap (λ n. n - 1) c.bucket_size.ensures ∙ ap (λ k. 2 ^ k - 1) c.digits-first.ensures.value ∙ reserved-digits c.args.capacity;
+      too_large = λ large. absurd (omega (arith, large, c.in_ok-check.ensures.ok));
+      not_too_large = λ same. cc;
+    }

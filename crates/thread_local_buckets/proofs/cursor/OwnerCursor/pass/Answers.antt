@@ -1,4 +1,4 @@
-use Rattle.std.proofs.Common.{◌+◌, ◌-◌, arith}
+use Rattle.std.proofs.Common.{◌+◌, ◌-◌, refl, arith}
 use Rattle.thread_local_buckets.proofs.NextValue.{Passes, passes}
 use Rattle.thread_local_buckets.proofs.cursor.OwnerCursor.pass.Goals as goal
 
@@ -11,32 +11,20 @@ it_passes g c =
     (g.P.FlagSource.given c.args.source.now) c.requires.walk (omega arith) c.requires.some (omega arith)
     c.take_first-bit.ensures.first c.take_first-bit.ensures.rest c.requires.given
 
-pub returns-clause-in_bucket : goal.returns-clause-in_bucket
-returns-clause-in_bucket g c = (it_passes g c).inside
-
-pub returns-clause-published : goal.returns-clause-published
-returns-clause-published g c = (it_passes g c).published
-
-pub returns-clause-ahead : goal.returns-clause-ahead
-returns-clause-ahead g c = (it_passes g c).ahead
-
-pub returns-clause-before : goal.returns-clause-before
-returns-clause-before g c = (it_passes g c).before
-
-pub returns-clause-left : goal.returns-clause-left
-returns-clause-left g c = omega (arith, (it_passes g c).left)
-
-pub returns-clause-flags : goal.returns-clause-flags
-returns-clause-flags g c = (it_passes g c).flags
-
-pub returns-clause-walk : goal.returns-clause-walk
-returns-clause-walk g c = (it_passes g c).on
-
-pub returns-clause-behind : goal.returns-clause-behind
-returns-clause-behind g c = (it_passes g c).behind
-
-pub returns-clause-first : goal.returns-clause-first
-returns-clause-first g c = (it_passes g c).first
-
-pub returns-clause-read : goal.returns-clause-read
-returns-clause-read g c = (it_passes g c).read
+pub returns : goal.returns
+returns g c =
+    let passed = it_passes g c in
+    record {
+      in_bucket = passed.inside;
+      published = passed.published;
+      ahead = passed.ahead;
+      before = passed.before;
+      left = omega (arith, passed.left);
+      flags = passed.flags;
+      walk = passed.on;
+      behind = passed.behind;
+      first = passed.first;
+      read = passed.read;
+      same = refl;
+      raw = refl;
+    }

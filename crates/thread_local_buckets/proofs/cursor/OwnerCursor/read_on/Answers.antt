@@ -121,32 +121,20 @@ take_first_bucket-bucket-requires g c =
     some_left (g.P.FlagSource.contents c.args.source.now) c.buckets.left (g.P.FlagSource.given c.args.source.now) c.buckets.raw
     c.buckets.flags c.buckets.invariant.read c.buckets-test.true _ c.requires.may_read.some c.requires.may_read.walk.counted
 
-pub flags_in_bucket-flags-requires-in-buckets-clause-at : goal.flags_in_bucket-flags-requires-in-buckets-clause-at
-flags_in_bucket-flags-requires-in-buckets-clause-at g c =
+pub flags_in_bucket-flags-requires-in-buckets : goal.flags_in_bucket-flags-requires-in-buckets
+flags_in_bucket-flags-requires-in-buckets g c =
     let kept = c.buckets.invariant in
     let first = c.take_first_bucket-bucket in
-    subst (λ (l : g.row.P.Denot). IsAt (g.P.FlagSource.contents l)
-    (record { yielded = c.buckets.raw.yielded; bucket = first.result.0; bucket_size = first.result.1; index = 0 }) 0)
-    (sym kept.same)
-    (is_on (g.P.FlagSource.contents c.args.source.now) c.buckets.left (g.P.FlagSource.given c.args.source.now) c.buckets.raw
+    let raw : RawIter = record { yielded = c.buckets.raw.yielded; bucket = first.result.0; bucket_size = first.result.1; index = 0 } in
+    let on =
+    is_on (g.P.FlagSource.contents c.args.source.now) c.buckets.left (g.P.FlagSource.given c.args.source.now) c.buckets.raw
     c.buckets.flags kept.read c.buckets-test.true first.new.left first.result.0 first.result.1
-    first.ensures.first first.ensures.rest first.ensures.size).at
-
-pub flags_in_bucket-flags-requires-in-buckets-clause-ahead : goal.flags_in_bucket-flags-requires-in-buckets-clause-ahead
-flags_in_bucket-flags-requires-in-buckets-clause-ahead g c =
-    let kept = c.buckets.invariant in
-    let first = c.take_first_bucket-bucket in
-    subst (λ (l : g.row.P.Denot). g.P.FlagSource.given l ≤ read_to
-    (record { yielded = c.buckets.raw.yielded; bucket = first.result.0; bucket_size = first.result.1; index = 0 }))
-    (sym kept.same)
-    (is_on (g.P.FlagSource.contents c.args.source.now) c.buckets.left (g.P.FlagSource.given c.args.source.now) c.buckets.raw
-    c.buckets.flags kept.read c.buckets-test.true first.new.left first.result.0 first.result.1
-    first.ensures.first first.ensures.rest first.ensures.size).ahead
-
-pub flags_in_bucket-flags-requires-in-buckets-clause-inside : goal.flags_in_bucket-flags-requires-in-buckets-clause-inside
-flags_in_bucket-flags-requires-in-buckets-clause-inside g c =
-    let first = c.take_first_bucket-bucket in
-    subst (λ (n : ℕ). 0 < n) (sym first.ensures.size) (pow_pos first.result.0)
+    first.ensures.first first.ensures.rest first.ensures.size in
+    record {
+      at = subst (λ (l : g.row.P.Denot). IsAt (g.P.FlagSource.contents l) raw 0) (sym kept.same) on.at;
+      inside = subst (λ (n : ℕ). 0 < n) (sym first.ensures.size) (pow_pos first.result.0);
+      ahead = subst (λ (l : g.row.P.Denot). g.P.FlagSource.given l ≤ read_to raw) (sym kept.same) on.ahead;
+    }
 
 pub buckets-smaller : goal.buckets-smaller
 buckets-smaller g c =

@@ -83,55 +83,37 @@ it_gave g c =
     (it_is_there_still g c) c.give-item.ensures.contents c.give-item.ensures.given
 
 -- The search for all that follows takes three seconds.
-pub lead-requires-clause-may_read : goal.lead-requires-clause-may_read
-lead-requires-clause-may_read g c = record {
-  walk = c.self.invariant.0;
-  ahead = c.self.invariant.2;
-  some = c.is_over.ensures.goes_on c.if-is_over.false;
+pub lead-requires : goal.lead-requires
+lead-requires g c = record {
+  may_read = record {
+    walk = c.self.invariant.0;
+    ahead = c.self.invariant.2;
+    some = c.is_over.ensures.goes_on c.if-is_over.false;
+  };
+  entered = c.self.invariant.3;
 }
 
-pub lead-requires-clause-entered : goal.lead-requires-clause-entered
-lead-requires-clause-entered g c = c.self.invariant.3
+pub pass-bit-requires : goal.pass-bit-requires
+pass-bit-requires g c = record {
+  walk = subst (λ (w : Contents _). IsOwnerWalk w c.lead.new.cursor) (sym c.lead.ensures.contents) c.lead.ensures.read.walk;
+  given = λ id below.
+      ap (λ (w : Contents _). values w id) c.lead.ensures.contents
+      ∙ c.self.invariant.1 id (subst (λ (n : ℕ). id < n) c.lead.ensures.given below);
+  some = c.lead.ensures.read.some;
+}
 
-pub pass-bit-requires-clause-walk : goal.pass-bit-requires-clause-walk
-pass-bit-requires-clause-walk g c =
-    subst (λ (w : Contents _). IsOwnerWalk w c.lead.new.cursor) (sym c.lead.ensures.contents) c.lead.ensures.read.walk
-
-pub pass-bit-requires-clause-given : goal.pass-bit-requires-clause-given
-pass-bit-requires-clause-given g c = λ id below.
-    ap (λ (w : Contents _). values w id) c.lead.ensures.contents
-    ∙ c.self.invariant.1 id (subst (λ (n : ℕ). id < n) c.lead.ensures.given below)
-
-pub pass-bit-requires-clause-some : goal.pass-bit-requires-clause-some
-pass-bit-requires-clause-some g c = c.lead.ensures.read.some
-
-pub give-item-requires-clause-in_table : goal.give-item-requires-clause-in_table
-give-item-requires-clause-in_table g c =
-    subst (λ (b : ℕ). b < 63) (sym (it_is_there g c).bucket) c.pass-bit.ensures.walk.at.in_table
-
-pub give-item-requires-clause-in_bucket : goal.give-item-requires-clause-in_bucket
-give-item-requires-clause-in_bucket g c =
+pub give-item-requires : goal.give-item-requires
+give-item-requires g c =
     let there = it_is_there g c in
     let same = sym there.same in
     let bucket = sym there.bucket in
     let slot = sym there.slot in
-    subst (λ (t : Type 0). t) (λ j. slot j < length (row (same j).contents (bucket j))) c.pass-bit.ensures.in_bucket
-
-pub give-item-requires-clause-ahead : goal.give-item-requires-clause-ahead
-give-item-requires-clause-ahead g c =
-    let there = it_is_there g c in
-    let same = sym there.same in
-    let bucket = sym there.bucket in
-    let slot = sym there.slot in
-    subst (λ (t : Type 0). t) (λ j. (same j).given ≤ id_at (bucket j) (slot j)) c.pass-bit.ensures.ahead
-
-pub give-item-requires-clause-published : goal.give-item-requires-clause-published
-give-item-requires-clause-published g c =
-    let there = it_is_there g c in
-    let same = sym there.same in
-    let bucket = sym there.bucket in
-    let slot = sym there.slot in
-    subst (λ (t : Type 0). t) (λ j. IsSome (value_in (same j).contents (bucket j) (slot j))) c.pass-bit.ensures.published
+    record {
+      in_table = subst (λ (b : ℕ). b < 63) bucket c.pass-bit.ensures.walk.at.in_table;
+      in_bucket = subst (λ (t : Type 0). t) (λ j. slot j < length (row (same j).contents (bucket j))) c.pass-bit.ensures.in_bucket;
+      ahead = subst (λ (t : Type 0). t) (λ j. (same j).given ≤ id_at (bucket j) (slot j)) c.pass-bit.ensures.ahead;
+      published = subst (λ (t : Type 0). t) (λ j. IsSome (value_in (same j).contents (bucket j) (slot j))) c.pass-bit.ensures.published;
+    }
 
 pub overflow_sub-index : goal.overflow_sub-index
 overflow_sub-index g c = c.pass-bit.ensures.read
