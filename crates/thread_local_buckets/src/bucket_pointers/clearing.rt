@@ -16,12 +16,11 @@ impl<T: Drop> BucketPointers<T> {
         requires standing { id_at bucket 0 < reserved → IsTrue (stands self.old bucket) }
         ensures { self.new ≡ with_row self.old bucket (cleared_row reserved bucket) }
     {
-        let alloc = self.alloc;
         let size = bucket_size(bucket);
         if size <= reserved {
             self.pointers.pointer_mut(bucket).empty(size);
         } else {
-            self.pointers.pointer_mut(bucket).release(size, &alloc);
+            self.pointers.pointer_mut(bucket).release(size, &self.alloc);
         }
     }
 

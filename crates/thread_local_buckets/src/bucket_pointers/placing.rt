@@ -23,8 +23,7 @@ impl<T> BucketPointers<T> {
         if self.stands(bucket) {
             return Ok(());
         }
-        let alloc = self.alloc;
-        let block = Block::new(&alloc, bucket_size(bucket))?;
+        let block = Block::new(&self.alloc, bucket_size(bucket))?;
         self.announced.bits |= 1 << bucket;
         self.pointers.pointer_mut(bucket).lay(block);
         Ok(())
