@@ -44,7 +44,6 @@ impl<T: Drop> Iterator for IntoEntries<T> {
     ghost remaining = { item_count (λ rest. rest) };
 
     /// The next value, with its id.
-    #[tactic(auto, using(crate::proofs::EntriesLaws::no_entries))]
     #[inline(always)]
     fn next(&mut self) -> Option<(usize, T)> {
         if self.cursor.is_over() {
@@ -66,7 +65,6 @@ impl<T: Drop> Iterator for IntoEntries<T> {
 
 impl<T: Drop> ExactSizeIterator for IntoEntries<T> {
     /// The number of values still to come. They were counted when the walk was made.
-    #[tactic(auto, using(crate::proofs::EntriesLaws::length_of_entries))]
     fn len(&self) -> usize {
         self.cursor.len()
     }

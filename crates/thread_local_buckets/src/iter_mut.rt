@@ -73,7 +73,6 @@ impl<'a, T> Iterator for EntriesMut<'a, T> {
     ghost remaining = { item_count entries_mut_rest };
 
     /// The next value, with its id. Its flag stays set.
-    #[tactic(auto, using(crate::proofs::EntriesLaws::no_entries))]
     #[inline]
     fn next(&mut self) -> Option<(usize, &'a mut T)> {
         if self.cursor.is_over() {
@@ -99,7 +98,6 @@ impl<'a, T> Iterator for EntriesMut<'a, T> {
 
 impl<T> ExactSizeIterator for EntriesMut<'_, T> {
     /// The number of values still to come. They were counted when the walk was made.
-    #[tactic(auto, using(crate::proofs::EntriesLaws::length_of_entries))]
     fn len(&self) -> usize {
         self.cursor.len()
     }

@@ -1,5 +1,5 @@
 -- The search for these takes seconds.
-use Rattle.std.proofs.Common.{◌≡◌, ℕ, ◌+◌, ◌-◌, ◌*◌, ◌/◌, ◌%◌, ◌<◌, ◌≤◌, is_some, length, refl, sym, ap, ◌∙◌, subst, arith}
+use Rattle.std.proofs.Common.{◌≡◌, ℕ, ◌+◌, ◌-◌, ◌*◌, ◌/◌, ◌<◌, ◌≤◌, is_some, length, refl, sym, ap, ◌∙◌, subst, arith}
 use Rattle.thread_local_base.specs.Bits.{is_set}
 use Rattle.thread_local_base.specs.Place.{id_at}
 use Rattle.thread_local_base.specs.Rows.{value_in}
@@ -35,18 +35,6 @@ still_ahead : (given : ℕ) (raw : RawIter) → given ≤ read_to raw → given 
 still_ahead given raw ahead =
     let on : read_to raw ≤ read_to (behind_next raw) = omega arith in omega (arith, ahead, on)
 
--- the flags that are read next are in the bucket, and no value there is before `given`
-in_row : {V : Type 0} (c d : Contents V) (raw : RawIter) (chunk : ℕ) → d ≡ c → length (row c raw.bucket) ≡ raw.bucket_size
-    → raw.index < raw.bucket_size → chunk ≡ raw.index / 64
-    → chunk * 64 < length (row d raw.bucket)
-in_row c d raw chunk same whole inside here =
-    subst (λ (w : Contents _). chunk * 64 < length (row w raw.bucket)) (sym same) (omega (arith, whole, inside, here))
-
-is_ahead : (given : ℕ) (raw : RawIter) (chunk : ℕ) → given ≤ read_to raw → raw.index < raw.bucket_size → raw.index % 64 ≡ 0
-    → chunk ≡ raw.index / 64
-    → given ≤ id_at raw.bucket (chunk * 64)
-is_ahead given raw chunk ahead inside round here = omega (arith, ahead, inside, round, here)
-
 pub returns-then-not-stands : goal.returns-then-not-stands
 returns-then-not-stands g c = record {
   same = c.stands.ensures.same;
@@ -74,13 +62,15 @@ chunks-init g c = record {
 pub flags-flags-requires : goal.flags-flags-requires
 flags-flags-requires g c =
     let kept = c.chunks.invariant in
+    let raw = c.chunks.raw in
+    let first : ℕ = c.chunks.chunk * 64 in
     record {
       in_table = kept.at.in_table;
       size = kept.at.size;
-      in_bucket = in_row (g.P.FlagSource.contents c.args.source.now) (g.P.FlagSource.contents c.chunks.source) c.chunks.raw c.chunks.chunk
-          (ap (λ (l : g.row.P.Denot). g.P.FlagSource.contents l) kept.same) kept.whole kept.inside kept.chunk;
-      ahead = subst (λ (l : g.row.P.Denot). g.P.FlagSource.given l ≤ id_at c.chunks.raw.bucket (c.chunks.chunk * 64)) (sym kept.same)
-          (is_ahead (g.P.FlagSource.given c.args.source.now) c.chunks.raw c.chunks.chunk kept.ahead kept.inside kept.at.round kept.chunk);
+      in_bucket = subst (λ (l : g.row.P.Denot). first < length (row (g.P.FlagSource.contents l) raw.bucket)) (sym kept.same)
+          (omega (arith, kept.whole, kept.inside, kept.chunk));
+      ahead = subst (λ (l : g.row.P.Denot). g.P.FlagSource.given l ≤ id_at raw.bucket first) (sym kept.same)
+          (omega (arith, kept.ahead, kept.inside, kept.at.round, kept.chunk));
     }
 
 -- the flags that are read, of the contents as they came

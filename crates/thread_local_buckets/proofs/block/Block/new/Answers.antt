@@ -1,5 +1,6 @@
 use Rattle.std.proofs.Common.{◌≡◌, ℕ, ◌+◌, ◌*◌, ◌^◌, ◌<◌, List, length, sym, ap, ◌∙◌, subst, arith}
 use Rattle.std.specs.Prelude.{None, replicate}
+use Rattle.std.proofs.lemmas.Result.{IfOk-from_err}
 use Rattle.std.proofs.lemmas.List.{length-replicate}
 use Rattle.thread_local_buckets.specs.Slots.{chunks, flag_word_at}
 use Rattle.thread_local_buckets.specs.contracts.block.Block.new.{T-row}
@@ -17,6 +18,9 @@ allocate-requires-clause-fits g c =
 
 pub allocate-requires-clause-size : goal.allocate-requires-clause-size
 allocate-requires-clause-size g c = c.bytes_of_block.ensures (allocate-requires-clause-fits g c)
+
+pub returns-in_err-block : goal.returns-in_err-block
+returns-in_err-block g c = IfOk-from_err c.from_residual.result _ c.from_residual.ensures.0
 
 pub push-requires-in-chunks-clause-next : goal.push-requires-in-chunks-clause-next
 push-requires-in-chunks-clause-next g c =

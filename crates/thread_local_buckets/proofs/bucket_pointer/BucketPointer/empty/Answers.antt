@@ -1,15 +1,14 @@
 -- The search for these takes a second.
-use Rattle.std.proofs.Common.{◌≡◌, ◌≢◌, ℕ, zero, suc, ◌+◌, ◌*◌, ◌/◌, ◌%◌, ◌^◌, ◌<◌, w64, bit_and, false, List, [], ◌∷◌, length, slice_set}
+use Rattle.std.proofs.Common.{◌≡◌, ◌≢◌, ℕ, zero, suc, ◌+◌, ◌*◌, ◌/◌, ◌%◌, ◌^◌, ◌<◌, w64, bit_and, false, IsSome, List, [], ◌∷◌, length, slice_set}
 use Rattle.std.proofs.Common.{Option, None, Some, is_some, refl, sym, ap, ◌∙◌, subst, arith, ⊎_elim}
-use Rattle.std.proofs.lemmas.Bool.{cases_eq, ne_eqb}
+use Rattle.std.proofs.lemmas.Bool.{cases_eq, eq-eqb, ne_eqb}
 use Rattle.std.proofs.lemmas.List.{get_or-set_same, get_or-set_other, length-set}
 use Rattle.std.specs.Int.{bit_not}
-use Rattle.thread_local_base.specs.Bits.{is_set}
-use Rattle.thread_local_base.proofs.Word.{is_set-test, clear_bit, place_below}
+use Rattle.thread_local_base.proofs.Word.{clear_bit, place_below}
 use Rattle.thread_local_buckets.specs.Slots.{slot_value, empty_slots, flag_word_at}
 use Rattle.thread_local_buckets.specs.contracts.bucket_pointer.BucketPointer.flags.{T-row}
 use Rattle.thread_local_buckets.specs.declared.bucket_pointer.BucketPointer.{BucketPointer}
-use Rattle.thread_local_buckets.proofs.ChunkFlags.{HasFlags, flags_changed}
+use Rattle.thread_local_buckets.proofs.ChunkFlags.{HasFlags, flag_read, flags_changed}
 use Rattle.thread_local_buckets.proofs.bucket_pointer.BucketPointer.empty.Goals as goal
 use Rattle.thread_local_buckets.proofs.bucket_pointer.BucketPointer.empty.Goals.{then-flags-index-eq1, else-flags-index-eq1}
 
@@ -47,18 +46,6 @@ none_there : {X : Type 0} (slot : Option X) → is_some slot ≡ false → slot 
 none_there None none = refl
 none_there (Some x) none = cc
 
--- or where its flag isn't set
-unset : {X : Type 0} (slots : List (Option X)) (index flags : ℕ)
-    → ((bit : ℕ) → bit < 64 → is_set flags bit ≡ is_some (slot_value slots (index / 64 * 64 + bit)))
-    → (bit_and (flags / 2 ^ (index % 64)) 1 ≢ 1)
-    → slot_value slots index ≡ None
-unset slots index flags seen not_one =
-    let at : index / 64 * 64 + index % 64 ≡ index = omega arith in
-    none_there (slot_value slots index)
-    (ap (λ (k : ℕ). is_some (slot_value slots k)) (sym at)
-    ∙ sym (seen (index % 64) (place_below index)) ∙ sym (is_set-test flags (index % 64))
-    ∙ ne_eqb (bit_and (flags / 2 ^ (index % 64)) 1) 1 not_one)
-
 kept_empty : {X : Type 0} (old new : List (Option X)) (index len : ℕ) → length old ≡ len
     → ((k : ℕ) → k < index → slot_value old k ≡ None) → slot_value old index ≡ None → new ≡ old
     → (length new ≡ len) × ((k : ℕ) → k < index + 1 → slot_value new k ≡ None)
@@ -80,35 +67,33 @@ slots-init g c = record { whole = c.requires; empty = λ k none. absurd (omega (
 
 pub flags-flags-requires-clause-in_block : goal.flags-flags-requires-clause-in_block
 flags-flags-requires-clause-in_block g c =
-    let below : (index len n : ℕ) → n ≡ len → index < len → index / 64 * 64 < n = λ index len n is near. omega (arith, is, near) in
-    below c.slots.index c.args.len (length c.slots.self.slots) c.slots.invariant.whole c.slots-test.true
+    omega (arith, c.slots.invariant.whole, c.slots-test.true)
 
 pub flags-flags-requires-clause-flag_word : goal.flags-flags-requires-clause-flag_word
 flags-flags-requires-clause-flag_word g c =
     c.flag_word_at-flag_word.ensures ∙ ap (λ (n : ℕ). flag_word_at (T-row g.row.T) n (c.slots.index / 64)) (sym c.slots.invariant.whole)
 
-pub take_and_store-requires-clause-in_block : goal.take_and_store-requires-clause-in_block
-take_and_store-requires-clause-in_block g c =
-    subst (λ (n : ℕ). c.slots.index < n) (sym (ap (λ p. length p.slots) c.flags-flags.ensures.same ∙ c.slots.invariant.whole))
-    c.slots-test.true
-
-pub take_and_store-requires-clause-flag_word : goal.take_and_store-requires-clause-flag_word
-take_and_store-requires-clause-flag_word g c =
-    c.flag_word_at-flag_word.ensures
-    ∙ ap (λ (n : ℕ). flag_word_at (T-row g.row.T) n (c.slots.index / 64))
-    (sym (ap (λ p. length p.slots) c.flags-flags.ensures.same ∙ c.slots.invariant.whole))
-
-pub take_and_store-requires-clause-flags : goal.take_and_store-requires-clause-flags
-take_and_store-requires-clause-flags g c =
+pub take_and_store-requires : goal.take_and_store-requires
+take_and_store-requires g c =
     let slots = c.slots.self.slots in
     let index = c.slots.index in
     let read = c.flags-flags in
-    let near : index < length slots = subst (λ (n : ℕ). index < n) (sym c.slots.invariant.whole) c.slots-test.true in
-    subst (λ (later : BucketPointer g.row.T.Denot).
-    HasFlags (slice_set later.slots index None) (index / 64) (without read.result (index % 64)))
-    (sym read.ensures.same)
-    (flags_changed slots index None read.result _ near read.ensures.value
-    (clear_bit read.result (index % 64) (place_below index)))
+    let back = sym read.ensures.same in
+    let whole = sym c.slots.invariant.whole in
+    let near : index < length slots = subst (λ (n : ℕ). index < n) whole c.slots-test.true in
+    record {
+      in_block = subst (λ (later : BucketPointer g.row.T.Denot). index < length later.slots) back near;
+      flag_word = c.flag_word_at-flag_word.ensures
+          ∙ ap (λ (n : ℕ). flag_word_at (T-row g.row.T) n (index / 64)) whole
+          ∙ ap (λ (later : BucketPointer g.row.T.Denot). flag_word_at (T-row g.row.T) (length later.slots) (index / 64)) back;
+      published = subst (λ (later : BucketPointer g.row.T.Denot). IsSome (slot_value later.slots index)) back
+          (flag_read slots index read.result read.ensures.value
+          ∙ eq-eqb (bit_and (read.result / 2 ^ (index % 64)) 1) 1 c.if-flags-index-eq1.true);
+      flags = subst (λ (later : BucketPointer g.row.T.Denot). HasFlags (slice_set later.slots index None) (index / 64) (without read.result (index % 64)))
+          back
+          (flags_changed slots index None read.result _ near read.ensures.value
+          (clear_bit read.result (index % 64) (place_below index)));
+    }
 
 pub slots-preserved : goal.slots-preserved
 slots-preserved g c =
@@ -124,7 +109,10 @@ slots-preserved g c =
           record { whole = more.0; empty = more.1 }
       | else-flags-index-eq1 w ↦
           let is : new ≡ old = ap (λ p. p.slots) w.self-is ∙ ap (λ p. p.slots) c.flags-flags.ensures.same in
-          let none = unset old index c.flags-flags.result c.flags-flags.ensures.value w.if-flags-index-eq1.false in
+          let none =
+          none_there (slot_value old index)
+          (flag_read old index c.flags-flags.result c.flags-flags.ensures.value
+          ∙ ne_eqb (bit_and (c.flags-flags.result / 2 ^ (index % 64)) 1) 1 w.if-flags-index-eq1.false) in
           let more = kept_empty old new index c.args.len kept.whole kept.empty none is in
           record { whole = more.0; empty = more.1 }
     ]

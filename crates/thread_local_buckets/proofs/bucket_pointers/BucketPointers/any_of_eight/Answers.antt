@@ -56,17 +56,9 @@ loop-at-preserved g c =
       same = c.flags-any.ensures.same ∙ kept.same;
     }
 
-pub returns-clause-same : goal.returns-clause-same
-returns-clause-same g c = c.loop-at.invariant.same
-
-pub returns-clause-some : goal.returns-clause-some
-returns-clause-some g c = λ set.
+pub returns : goal.returns
+returns g c =
+    let kept = c.loop-at.invariant in
     let last : c.args.chunk + c.loop-at.at ≡ c.args.chunk + 8 = omega (arith, c.loop-at-test.false, c.loop-at.auto.at-end) in
-    let more = c.loop-at.invariant.some set in
     let ends = ap (λ (i : ℕ). count_below (values c.args.self.now) (id_at c.args.bucket (i * 64))) last in
-    omega (arith, more, ends)
-
-pub returns-clause-none : goal.returns-clause-none
-returns-clause-none g c = λ zero.
-    let last : c.args.chunk + c.loop-at.at ≡ c.args.chunk + 8 = omega (arith, c.loop-at-test.false, c.loop-at.auto.at-end) in
-    c.loop-at.invariant.none zero ∙ ap (λ (i : ℕ). count_below (values c.args.self.now) (id_at c.args.bucket (i * 64))) last
+    record { same = kept.same; some = λ set. omega (arith, kept.some set, ends); none = λ zero. kept.none zero ∙ ends }

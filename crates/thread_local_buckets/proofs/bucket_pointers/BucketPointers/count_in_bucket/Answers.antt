@@ -67,13 +67,6 @@ any_of_eight-requires g c =
       ),
     )
 
-pub count_in_chunks-count-requires : goal.count_in_chunks-count-requires
-count_in_chunks-count-requires g c =
-    let whole =
-    long_as c.any_of_eight.new.self c.args.self.now c.args.bucket
-    (c.any_of_eight.ensures.same ∙ c.loop-group.invariant.same) c.requires.whole in
-    (lit< tt, (c.requires.in_table, (c.requires.size, (whole, (omega arith, omega (arith, c.loop-group-test.true, c.requires.size))))))
-
 pub overflow_add-count : goal.overflow_add-count
 overflow_add-count g c =
     let b : ℕ = c.args.bucket in
@@ -120,11 +113,6 @@ loop-group-preserved g c =
           }
     ]
 
-pub count_in_chunks-requires : goal.count_in_chunks-requires
-count_in_chunks-requires g c =
-    let whole = long_as c.loop-group.self c.args.self.now c.args.bucket c.loop-group.invariant.same c.requires.whole in
-    (lit< tt, (c.requires.in_table, (c.requires.size, (whole, (omega arith, omega (arith, c.requires.size))))))
-
 -- the count of a whole bucket, from the count up to the last group's end
 bucket_counted : {V : Type 0} (first now : Contents V) (b size group groups count more : ℕ)
     → now ≡ first → size ≡ 2 ^ b → groups ≡ (size + 63) / 64 / 8 → group ≡ groups
@@ -165,21 +153,20 @@ overflow_add-result g c =
           c.requires.in_table (omega arith) counted;
     }
 
-pub returns-clause-same : goal.returns-clause-same
-returns-clause-same g c = c.count_in_chunks.ensures.same ∙ c.loop-group.invariant.same
-
-pub returns-clause-counted : goal.returns-clause-counted
-returns-clause-counted g c =
-    let b : ℕ = c.args.bucket in
-    let kept = c.loop-group.invariant in
-    let groups : ℕ = (c.args.size + 63) / 64 / 8 in
-    let counted =
-    bucket_counted c.args.self.now c.loop-group.self b c.args.size c.loop-group.group groups
-    c.loop-group.count c.count_in_chunks.result kept.same c.requires.size refl
-    (omega (arith, c.loop-group-test.false, c.loop-group.auto.group-end))
-    c.count_in_chunks.ensures.counted kept.counted in
-    let end : id_at b (2 ^ b) ≡ id_at (b + 1) 0 = (let twice = two-pow-succ b in
-    let some = pow_pos b in
-    let one : 2 ^ (b + 1) ≡ 2 ^ suc b = ap (λ (i : ℕ). 2 ^ i) (let s : b + 1 ≡ suc b = omega arith in s) in
-    omega (arith, twice, some, one)) in
-    counted ∙ ap (count_below (values c.args.self.now)) end
+pub returns : goal.returns
+returns g c = record {
+  same = c.count_in_chunks.ensures.same ∙ c.loop-group.invariant.same;
+  counted = let b : ℕ = c.args.bucket in
+      let kept = c.loop-group.invariant in
+      let groups : ℕ = (c.args.size + 63) / 64 / 8 in
+      let counted =
+      bucket_counted c.args.self.now c.loop-group.self b c.args.size c.loop-group.group groups
+      c.loop-group.count c.count_in_chunks.result kept.same c.requires.size refl
+      (omega (arith, c.loop-group-test.false, c.loop-group.auto.group-end))
+      c.count_in_chunks.ensures.counted kept.counted in
+      let end : id_at b (2 ^ b) ≡ id_at (b + 1) 0 = (let twice = two-pow-succ b in
+      let some = pow_pos b in
+      let one : 2 ^ (b + 1) ≡ 2 ^ suc b = ap (λ (i : ℕ). 2 ^ i) (let s : b + 1 ≡ suc b = omega arith in s) in
+      omega (arith, twice, some, one)) in
+      counted ∙ ap (count_below (values c.args.self.now)) end;
+}

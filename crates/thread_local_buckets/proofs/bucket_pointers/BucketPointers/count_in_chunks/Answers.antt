@@ -46,12 +46,11 @@ loop-chunk-preserved g c =
       same = c.flags.ensures.same ∙ kept.same;
     }
 
-pub returns-clause-same : goal.returns-clause-same
-returns-clause-same g c = c.loop-chunk.invariant.same
-
-pub returns-clause-counted : goal.returns-clause-counted
-returns-clause-counted g c =
-    let b : ℕ = c.args.bucket in
-    let last : c.loop-chunk.chunk ≡ c.args.to =
-    omega (arith, c.loop-chunk-test.false, c.loop-chunk.auto.chunk-end, c.requires.order) in
-    c.loop-chunk.invariant.counted ∙ ap (λ (k : ℕ). count_below (values c.args.self.now) (id_at b (min (k * 64) (2 ^ b)))) last
+pub returns : goal.returns
+returns g c = record {
+  same = c.loop-chunk.invariant.same;
+  counted = let b : ℕ = c.args.bucket in
+      let last : c.loop-chunk.chunk ≡ c.args.to =
+      omega (arith, c.loop-chunk-test.false, c.loop-chunk.auto.chunk-end, c.requires.order) in
+      c.loop-chunk.invariant.counted ∙ ap (λ (k : ℕ). count_below (values c.args.self.now) (id_at b (min (k * 64) (2 ^ b)))) last;
+}

@@ -1,4 +1,4 @@
-use Rattle.std.proofs.Common.{◌≡◌, ◌+◌, ◌*◌, ◌^◌, ◌<◌, ◌≤◌, ◌/◌, min, [], length, pow_pos, ℕ, bit_and, sym, ◌∙◌, ap, lit<, refl, subst, arith, pow_mono}
+use Rattle.std.proofs.Common.{◌≡◌, ◌+◌, ◌*◌, ◌^◌, ◌<◌, ◌≤◌, min, [], length, ℕ, bit_and, sym, ◌∙◌, ap, lit<, refl, subst, arith, pow_mono}
 use Rattle.thread_local_base.specs.Place.{id_at}
 use Rattle.thread_local_base.specs.Buckets.{Contents, values, row}
 use Rattle.thread_local_base.specs.Counting.{count_below}
@@ -69,13 +69,6 @@ are_counted c announced count bucket told last counted = record {
   counted = counted ∙ ap (λ (b : ℕ). count_below (values c) (id_at b 0)) last;
 }
 
-pub count_in_chunks-count-requires : goal.count_in_chunks-count-requires
-count_in_chunks-count-requires g c =
-    let some : 1 ≤ (2 ^ c.loop-bucket.bucket + 63) / 64 = omega (arith, pow_pos c.loop-bucket.bucket) in
-    let low : c.loop-bucket.bucket < 63 = omega (arith, c.loop-bucket-test.true) in
-    let whole = ap (λ (w : Contents g.row.T.Denot). length (row w c.loop-bucket.bucket)) c.stands.ensures.same ∙ c.stands.ensures.whole c.if-stands.true in
-    (lit< tt, (low, (c.bucket_size.ensures, (whole, (omega arith, some)))))
-
 pub returns : goal.returns
 returns g c = record {
   same = c.count_further.ensures.same ∙ c.loop-bucket.invariant.same;
@@ -86,16 +79,14 @@ returns g c = record {
 pub returns-then-further-eq0 : goal.returns-then-further-eq0
 returns-then-further-eq0 g c =
     let kept = c.loop-bucket.invariant in
+    let further : ℕ = bit_and c.args.announced (bit_not w64 127) in
     let counted =
     are_counted c.args.self.now c.args.announced c.loop-bucket.count c.loop-bucket.bucket c.requires.announced
     (omega (arith, c.loop-bucket-test.false, c.loop-bucket.auto.bucket-end)) kept.counted in
     record {
       same = kept.same;
-      counted = counted_all c.args.self.now (bit_and c.args.announced (bit_not w64 127)) c.loop-bucket.count
-          counted
-          c.if-further-eq0.true;
-      fits = counted_fits c.args.self.now (bit_and c.args.announced (bit_not w64 127)) c.loop-bucket.count
-          counted;
+      counted = counted_all c.args.self.now further c.loop-bucket.count counted c.if-further-eq0.true;
+      fits = counted_fits c.args.self.now further c.loop-bucket.count counted;
     }
 
 pub count_further-requires : goal.count_further-requires

@@ -1,6 +1,7 @@
-use Rattle.std.specs.Prelude.{OnErr, OnOk, IsErr}
-use Rattle.std.proofs.Common.{◌≡◌, ◌∙◌, ◌*◌, ◌^◌, ◌%◌, ℕ, bit_or, List, Option, Result, Ok, Err, length, inr, lit<, sym, ap, subst, arith, pow_pos}
-use Rattle.std.proofs.lemmas.Bool.{cond-true, cond-false, false≢true}
+use Rattle.std.specs.Prelude.{OnErr}
+use Rattle.std.proofs.Common.{◌≡◌, ◌∙◌, ◌*◌, ◌^◌, ◌%◌, ℕ, bit_or, List, Option, Result, Ok, Err, length, inr, sym, ap, subst, arith, pow_pos}
+use Rattle.std.proofs.lemmas.Bool.{cond-true, cond-false}
+use Rattle.std.proofs.lemmas.Result.{IfOk-from_err}
 use Rattle.thread_local_base.specs.Buckets.{Contents, row, stands}
 use Rattle.thread_local_base.specs.Rows.{with_row, empty_row}
 use Rattle.thread_local_base.proofs.RowLaws.{length-empty_row}
@@ -20,14 +21,7 @@ either : {X E P : Type 0} (result : Result X E) → P → OnErr result P
 either (Ok x) here = tt
 either (Err e) here = here
 
-not_ok : {X E : Type 0} (result : Result X E) (P : Type 0) → IsErr result → OnOk result P
-not_ok (Ok x) P failed = absurd (false≢true failed)
-not_ok (Err e) P failed = tt
-
 -- The search for these takes two seconds.
-pub stands-requires : goal.stands-requires
-stands-requires g c = (lit< tt, c.requires)
-
 pub returns-then-stands : goal.returns-then-stands
 returns-then-stands g c =
     let now = c.args.self.now in
@@ -88,5 +82,5 @@ returns-in_err-block g c = record {
   refused = either c.from_residual.result (sym c.stands.ensures.value ∙ c.if-stands.false);
   absent = λ missing. row-absent c.args.self.now c.args.bucket missing;
   table = c.stands.ensures.table;
-  ok = not_ok c.from_residual.result _ c.from_residual.ensures.0;
+  ok = IfOk-from_err c.from_residual.result _ c.from_residual.ensures.0;
 }

@@ -29,18 +29,15 @@ returns g c = record {
 }
 
 pub publish-requires : goal.publish-requires
-publish-requires g c = record {
-  flag_word = c.flag_word_at-flag_word.ensures
-      ∙ ap (λ (n : ℕ). flag_word_at (T-row g.row.T) n (c.args.thread.index / 64))
-      (size_of_pointer c.self.inside.pointers c.args.self.now c.args.thread.bucket
-      c.args.thread.index c.bucket_size.result c.pointer_mut.result.now c.self.view_is
-      c.self.invariant.0 c.pointer_mut.ensures.value c.requires.in_bucket c.bucket_size.ensures);
-  in_block = subst (λ (cs : List (Option _)). c.args.thread.index < length cs)
-      (row_seen c.self.inside.pointers c.args.self.now c.args.thread.bucket c.pointer_mut.result.now c.self.view_is
-      c.pointer_mut.ensures.value)
-      c.requires.in_bucket;
-  empty = ap (λ (cs : List (Option g.row.T.Denot)). slice_index_or cs c.args.thread.index None)
-      (sym (row_seen c.self.inside.pointers c.args.self.now c.args.thread.bucket c.pointer_mut.result.now c.self.view_is
-      c.pointer_mut.ensures.value))
-      ∙ c.requires.empty;
-}
+publish-requires g c =
+    let b = c.args.thread.bucket in
+    let i = c.args.thread.index in
+    let seen = row_seen c.self.inside.pointers c.args.self.now b c.pointer_mut.result.now c.self.view_is c.pointer_mut.ensures.value in
+    record {
+      in_block = subst (λ (cs : List (Option _)). i < length cs) seen c.requires.in_bucket;
+      flag_word = c.flag_word_at-flag_word.ensures
+          ∙ ap (λ (n : ℕ). flag_word_at (T-row g.row.T) n (i / 64))
+          (size_of_pointer c.self.inside.pointers c.args.self.now b i c.bucket_size.result c.pointer_mut.result.now c.self.view_is
+          c.self.invariant.0 c.pointer_mut.ensures.value c.requires.in_bucket c.bucket_size.ensures);
+      empty = ap (λ (cs : List (Option g.row.T.Denot)). slice_index_or cs i None) (sym seen) ∙ c.requires.empty;
+    }

@@ -19,46 +19,38 @@ invariant_of-self g c =
     subst (λ (z : Contents g.row.T.Denot). IsAnnounced c.self.inside.announced.bits z) (sym changed)
     (IsAnnounced-with_slot c.self.inside.announced.bits (contents_of s) c.args.bucket c.args.index None c.self.invariant)
 
-pub returns-clause-after : goal.returns-clause-after
-returns-clause-after g c =
-    slot_changes c.self.inside.pointers c.args.bucket c.pointer_mut.result.now
-    c.take_and_store.new.self c.args.index None c.pointer_mut.ensures.value
-    c.take_and_store.ensures.after
-    ∙ ap (λ (z : Contents g.row.T.Denot). with_slot z c.args.bucket c.args.index None) c.self.view_is
-
-pub take_and_store-requires : goal.take_and_store-requires
-take_and_store-requires g c = record {
-  flag_word = c.flag_word_at-flag_word.ensures
-      ∙ ap (λ (n : ℕ). flag_word_at (T-row g.row.T) c.args.size n) c.requires.chunk
-      ∙ ap (λ (n : ℕ). flag_word_at (T-row g.row.T) n (c.args.index / 64))
-      (size_of_pointer c.self.inside.pointers c.args.self.now c.args.bucket c.args.index
-      c.args.size c.pointer_mut.result.now c.self.view_is c.self.invariant.0
-      c.pointer_mut.ensures.value c.requires.in_bucket c.requires.size);
-  in_block = subst (λ (cs : List (Option _)). c.args.index < length cs)
-      (row_seen c.self.inside.pointers c.args.self.now c.args.bucket c.pointer_mut.result.now c.self.view_is
-      c.pointer_mut.ensures.value)
-      c.requires.in_bucket;
-  published = subst (λ (cs : List (Option _)). IsSome (slice_index_or cs c.args.index None))
-      (row_seen c.self.inside.pointers c.args.self.now c.args.bucket c.pointer_mut.result.now c.self.view_is
-      c.pointer_mut.ensures.value)
-      c.requires.published;
-  flags = let v = c.args.self.now in
-      let b = c.args.bucket in
-      let i = c.args.index in
-      let table = subst (λ (z : Contents g.row.T.Denot). IsTable z) c.self.view_is c.self.invariant.0 in
-      let low : b < length v.rows = let here = c.requires.in_table in omega (arith, table.buckets) in
-      let taken : row (with_slot v b i None) b ≡ set c.pointer_mut.result.now.slots i None =
-      row-with_row-same v b (set (row v b) i None) low
-      ∙ ap (λ (cs : List (Option g.row.T.Denot)). set cs i None)
-      (row_seen c.self.inside.pointers v b c.pointer_mut.result.now c.self.view_is c.pointer_mut.ensures.value) in
-      λ bit near. c.requires.flags bit near
-      ∙ ap (λ (cs : List (Option g.row.T.Denot)). is_some (slice_index_or cs (i / 64 * 64 + bit) None)) taken;
-}
-
 -- The search for these takes seconds.
-pub returns-clause-value : goal.returns-clause-value
-returns-clause-value g c =
-    ap (λ (cs : List (Option g.row.T.Denot)). slice_index_or cs c.args.index None)
-    (row_seen c.self.inside.pointers c.args.self.now c.args.bucket c.pointer_mut.result.now c.self.view_is
-    c.pointer_mut.ensures.value)
-    ∙ c.take_and_store.ensures.value
+pub take_and_store-requires : goal.take_and_store-requires
+take_and_store-requires g c =
+    let v = c.args.self.now in
+    let b = c.args.bucket in
+    let i = c.args.index in
+    let seen = row_seen c.self.inside.pointers v b c.pointer_mut.result.now c.self.view_is c.pointer_mut.ensures.value in
+    let table = subst (λ (z : Contents g.row.T.Denot). IsTable z) c.self.view_is c.self.invariant.0 in
+    let low : b < length v.rows = let here = c.requires.in_table in omega (arith, table.buckets) in
+    let taken : row (with_slot v b i None) b ≡ set c.pointer_mut.result.now.slots i None =
+    row-with_row-same v b (set (row v b) i None) low ∙ ap (λ (cs : List (Option g.row.T.Denot)). set cs i None) seen in
+    record {
+      in_block = subst (λ (cs : List (Option _)). i < length cs) seen c.requires.in_bucket;
+      flag_word = c.flag_word_at-flag_word.ensures
+          ∙ ap (λ (n : ℕ). flag_word_at (T-row g.row.T) c.args.size n) c.requires.chunk
+          ∙ ap (λ (n : ℕ). flag_word_at (T-row g.row.T) n (i / 64))
+          (size_of_pointer c.self.inside.pointers v b i c.args.size c.pointer_mut.result.now c.self.view_is c.self.invariant.0
+          c.pointer_mut.ensures.value c.requires.in_bucket c.requires.size);
+      published = subst (λ (cs : List (Option _)). IsSome (slice_index_or cs i None)) seen c.requires.published;
+      flags = λ bit near. c.requires.flags bit near
+          ∙ ap (λ (cs : List (Option g.row.T.Denot)). is_some (slice_index_or cs (i / 64 * 64 + bit) None)) taken;
+    }
+
+pub returns : goal.returns
+returns g c =
+    let s = c.self.inside.pointers in
+    let b = c.args.bucket in
+    let lent = c.pointer_mut in
+    record {
+      value = ap (λ (cs : List (Option g.row.T.Denot)). slice_index_or cs c.args.index None)
+          (row_seen s c.args.self.now b lent.result.now c.self.view_is lent.ensures.value)
+          ∙ c.take_and_store.ensures.value;
+      after = slot_changes s b lent.result.now c.take_and_store.new.self c.args.index None lent.ensures.value c.take_and_store.ensures.after
+          ∙ ap (λ (z : Contents g.row.T.Denot). with_slot z b c.args.index None) c.self.view_is;
+    }

@@ -14,22 +14,17 @@ invariant_of-self g c =
     IsOwned-cleared c.clear.new.self c.self.inside.reserved c.clear.ensures.table
     c.self.invariant.first c.clear.ensures.rows
 
-pub returns-clause-rows : goal.returns-clause-rows
-returns-clause-rows g c = λ b.
-    row-cleared c.clear.new.self c.self.inside.reserved c.clear.ensures.table c.self.invariant.first c.clear.ensures.rows b
-    ∙ ap (λ (o : Owned g.row.T.Denot). cleared_row o.reserved b) c.self.view_is
-
-pub returns-clause-empty : goal.returns-clause-empty
-returns-clause-empty g c =
-    values-cleared c.clear.new.self c.self.inside.reserved c.clear.ensures.table
-    c.self.invariant.first c.clear.ensures.rows
-
-pub returns-clause-stands : goal.returns-clause-stands
-returns-clause-stands g c = λ b.
-    stands-cleared c.clear.new.self c.self.inside.reserved c.clear.ensures.table c.self.invariant.first c.clear.ensures.rows b
-    ∙ ap (λ (o : Owned g.row.T.Denot). nat_lt (id_at b 0) o.reserved) c.self.view_is
-
-pub returns-clause-slots : goal.returns-clause-slots
-returns-clause-slots g c =
-    slots-cleared c.clear.new.self c.self.inside.reserved c.clear.ensures.table c.self.invariant.first c.clear.ensures.rows
-    ∙ ap (λ (o : Owned g.row.T.Denot). o.reserved) c.self.view_is
+pub returns : goal.returns
+returns g c = record {
+  rows = λ b.
+      row-cleared c.clear.new.self c.self.inside.reserved c.clear.ensures.table c.self.invariant.first c.clear.ensures.rows b
+      ∙ ap (λ (o : Owned g.row.T.Denot). cleared_row o.reserved b) c.self.view_is;
+  empty = values-cleared c.clear.new.self c.self.inside.reserved c.clear.ensures.table
+      c.self.invariant.first c.clear.ensures.rows;
+  stands = λ b.
+      stands-cleared c.clear.new.self c.self.inside.reserved c.clear.ensures.table c.self.invariant.first c.clear.ensures.rows b
+      ∙ ap (λ (o : Owned g.row.T.Denot). nat_lt (id_at b 0) o.reserved) c.self.view_is;
+  slots = slots-cleared c.clear.new.self c.self.inside.reserved c.clear.ensures.table c.self.invariant.first c.clear.ensures.rows
+      ∙ ap (λ (o : Owned g.row.T.Denot). o.reserved) c.self.view_is;
+  reserved = ap (λ (o : Owned g.row.T.Denot). o.reserved) c.self.view_is;
+}

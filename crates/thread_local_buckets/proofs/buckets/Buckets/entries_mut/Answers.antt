@@ -1,9 +1,8 @@
 -- The search for these takes a second.
-use Rattle.std.proofs.Common.{refl, sym, ap, ◌∙◌, subst, arith}
+use Rattle.std.proofs.Common.{refl, sym, ap, ◌∙◌, subst}
 use Rattle.thread_local_base.specs.Buckets.{Contents, values}
 use Rattle.thread_local_base.specs.Owned.{Owned, IsOwned}
 use Rattle.thread_local_base.specs.Walk.{walk, paired}
-use Rattle.thread_local_buckets.specs.Cursor.{IsOwnerWalk}
 use Rattle.thread_local_buckets.specs.LendingValues.{owned_refilled}
 use Rattle.thread_local_buckets.proofs.Refilling.{refilled-stands, refilled-published}
 use Rattle.thread_local_buckets.proofs.buckets.Buckets.entries_mut.Goals as goal
@@ -12,16 +11,6 @@ pub invariant_of-self : goal.invariant_of-self
 invariant_of-self g c =
     subst (λ (w : Contents g.row.T.Denot). IsOwned (record { contents = w; reserved = c.self.inside.reserved }))
     (sym c.begin_walk-cursor.ensures.same) c.self.invariant
-
-pub invariant_of-result : goal.invariant_of-result
-invariant_of-result g c =
-    let begun = c.begin_walk-cursor in
-    let first = c.lend.ensures.given in (
-      subst (λ (w : Contents g.row.T.Denot). IsOwnerWalk w begun.result) (sym (c.lend.ensures.contents ∙ begun.ensures.same)) begun.ensures.walk,
-      (λ id below. absurd (omega (arith, below, first))),
-      omega (arith, first),
-      (λ some. absurd (omega (arith, some, begun.ensures.rest))),
-    )
 
 pub returns : goal.returns
 returns g c =

@@ -1,9 +1,9 @@
-use Rattle.std.proofs.Common.{◌≡◌, ◌<◌, ◌^◌, ℕ, true, false, Some, None, length, lit<, subst, sym, ap, ◌∙◌, inl, inr}
-use Rattle.std.specs.Prelude.{is_some, IsSome}
+use Rattle.std.proofs.Common.{◌≡◌, ◌<◌, ◌^◌, ℕ, true, false, Some, None, subst, sym, ap, ◌∙◌, inl, inr}
+use Rattle.std.specs.Prelude.{is_some}
 use Rattle.std.proofs.lemmas.Bool.{cond-true}
 use mathlib.Core.Path.{fun_ext}
 use Rattle.thread_local_base.specs.Place.{id_at}
-use Rattle.thread_local_base.specs.Buckets.{Contents, row, stands, values, IsTable}
+use Rattle.thread_local_base.specs.Buckets.{Contents, stands, values, IsTable}
 use Rattle.thread_local_base.specs.Owned.{Owned, IsOwned}
 use Rattle.thread_local_base.specs.Rows.{value_in, with_slot, with_row, empty_row}
 use Rattle.thread_local_base.specs.Walk.{with_value}
@@ -49,16 +49,6 @@ owned_still {V} o d b i owned low looked stood w =
     (IsOwned-with_published o.contents b owned.table low o.reserved i w owned)
 
 -- The search for these takes a second.
-pub get_mut-requires : goal.get_mut-requires
-get_mut-requires g c =
-    let b = c.args.thread.bucket in
-    let i = c.args.thread.index in
-    let P : Contents g.row.T.Denot → Type 0 = λ k. (i < length (row k b)) × IsSome (value_in k b i) in (
-      lit< tt,
-      subst P (sym c.is_published.ensures.same)
-          (c.is_published.ensures.within c.if-is_published.true, sym c.is_published.ensures.value ∙ c.if-is_published.true),
-    )
-
 pub invariant_of-self-lent : goal.invariant_of-self-lent
 invariant_of-self-lent g c =
     let first : Owned _ = record { contents = c.self.inside.pointers; reserved = c.self.inside.reserved } in

@@ -90,9 +90,6 @@ owned_still o d e b i value owned low stood kept published w =
     (sym (ends o.contents b within (row-absent o.contents b) d e i value stood kept published w))
     (IsOwned-with_published o.contents b owned.table low o.reserved i w owned)
 
-pub ensure_bucket-requires : goal.ensure_bucket-requires
-ensure_bucket-requires g c = (lit< tt, c.args.thread.in_table)
-
 -- The search for this and the next takes seconds.
 pub publish_or_drop-requires : goal.publish_or_drop-requires
 publish_or_drop-requires g c = (

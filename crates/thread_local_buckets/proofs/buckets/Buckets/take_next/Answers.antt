@@ -121,13 +121,7 @@ owned_still c d e reserved b i owned same after =
           (owned.standing bucket low below);
     })
 
--- The search for all that follows takes a minute, and leaves two of them open.
-pub read_on-requires-room-P-FlagSource : goal.read_on-requires-room-P-FlagSource
-read_on-requires-room-P-FlagSource g c κs within = lit< tt
-
-pub pass-bit-requires-room-P-FlagSource : goal.pass-bit-requires-room-P-FlagSource
-pass-bit-requires-room-P-FlagSource g c κs within = lit< tt
-
+-- The search for all that follows takes long, and leaves two of them open.
 pub read_on-requires : goal.read_on-requires
 read_on-requires g c =
     let may = may_read c.self.inside c.args.self.now c.args.cursor.now c.self.view_is c.requires.walk c.requires.some in
@@ -141,9 +135,6 @@ pass-bit-requires g c =
       given = λ id below. absurd (omega (arith, below));
       some = read.some;
     }
-
-pub overflow_sub-index : goal.overflow_sub-index
-overflow_sub-index g c = c.pass-bit.ensures.read
 
 pub overflow_add-index : goal.overflow_add-index
 overflow_add-index g c =
@@ -182,41 +173,26 @@ invariant_of-self g c =
     owned_still inside.pointers c.pass-bit.new.source c.take_and_store-value.new.self inside.reserved cursor.raw.bucket
     (slot_at cursor.raw c.pass-bit.result) at.owned c.pass-bit.ensures.same c.take_and_store-value.ensures.after
 
-pub returns-clause-walk : goal.returns-clause-walk
-returns-clause-walk g c =
-    let cursor = c.pass-bit.new.self in
-    let i = slot_at cursor.raw c.pass-bit.result in
-    let now = c.take_and_store-value.ensures.after ∙ ap (λ (w : Contents _). with_slot w cursor.raw.bucket i None) c.pass-bit.ensures.same in
-    subst (λ (w : Contents _). IsOwnerWalk w cursor) (sym now) c.pass-bit.ensures.walk
-
-pub returns-clause-first : goal.returns-clause-first
-returns-clause-first g c =
-    let at = it_is_at_hand g (goal.at.returns-clause-first g c).Joined-cursor-eq0 in
+pub returns : goal.returns
+returns g c =
+    let at = it_is_at_hand g (goal.at.returns g c).Joined-cursor-eq0 in
     let cursor = c.pass-bit.new.self in
     let b = cursor.raw.bucket in
     let i = slot_at cursor.raw c.pass-bit.result in
-    let value = c.take_and_store-value.result in
-    let now = c.take_and_store-value.ensures.after ∙ ap (λ (w : Contents _). with_slot w b i None) c.pass-bit.ensures.same in
-    let there = ap (λ (w : Contents _). value_in w b i) (sym c.pass-bit.ensures.same) ∙ c.take_and_store-value.ensures.value in
-    let size = sym c.pass-bit.ensures.walk.at.size in
+    let passed = c.pass-bit.ensures in
+    let taken = c.take_and_store-value in
+    let now = taken.ensures.after ∙ ap (λ (w : Contents _). with_slot w b i None) passed.same in
+    let there = ap (λ (w : Contents _). value_in w b i) (sym passed.same) ∙ taken.ensures.value in
+    let size = sym passed.walk.at.size in
     let left = sym now in
-    sym (ap (λ (s : Owned _). walk (paired (values s.contents))) (at.same ∙ c.self.view_is))
-    ∙ c.pass-bit.ensures.first value there
-    ∙ (λ j. (i + (size j - 1), value) ∷ walk (paired (values (left j))))
-
-pub returns-clause-left : goal.returns-clause-left
-returns-clause-left g c =
-    c.pass-bit.ensures.left ∙ (it_is_at_hand g (goal.at.returns-clause-left g c).Joined-cursor-eq0).read.left
-
-pub returns-clause-ends : goal.returns-clause-ends
-returns-clause-ends g c =
-    let at = it_is_at_hand g (goal.at.returns-clause-ends g c).Joined-cursor-eq0 in
-    (it_takes g c at.owned.table).ends
-
-pub returns-clause-leaves : goal.returns-clause-leaves
-returns-clause-leaves g c =
-    let at = it_is_at_hand g (goal.at.returns-clause-leaves g c).Joined-cursor-eq0 in
-    ap (λ (w : Contents _).
-    let s : Owned _ = record { contents = w; reserved = c.if-cursor-eq0.self-inside.reserved } in s)
-    (it_takes g c at.owned.table).leaves
-    ∙ ap (λ (s : Owned _). owned_emptied s) (at.same ∙ c.self.view_is)
+    let takes = it_takes g c at.owned.table in
+    record {
+      walk = subst (λ (w : Contents _). IsOwnerWalk w cursor) left passed.walk;
+      first = sym (ap (λ (s : Owned _). walk (paired (values s.contents))) (at.same ∙ c.self.view_is))
+          ∙ passed.first taken.result there
+          ∙ (λ j. (i + (size j - 1), taken.result) ∷ walk (paired (values (left j))));
+      left = passed.left ∙ at.read.left;
+      ends = takes.ends;
+      leaves = ap (λ (w : Contents _). let s : Owned _ = record { contents = w; reserved = c.if-cursor-eq0.self-inside.reserved } in s) takes.leaves
+          ∙ ap (λ (s : Owned _). owned_emptied s) (at.same ∙ c.self.view_is);
+    }

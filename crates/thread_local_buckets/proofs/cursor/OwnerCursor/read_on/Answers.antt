@@ -54,9 +54,6 @@ module _ {V : Type 0} (c : Contents V) (left given : ℕ) (raw : RawIter) (word 
         ahead = omega (arith, up, ahead, whole, next);
       }
 
-nearer : (from to b : ℕ) → from + 1 ≤ to → to < 63 → b ≡ to → 63 - b < 63 - from
-nearer from to b after within is = omega (arith, after, within, is)
-
 -- the walk has read flags of the bucket that it is in
 has_read : {V : Type 0} (c : Contents V) (left given bucket : ℕ) (raw : RawIter) (word : ℕ) → AreAhead c left (bucket + 1)
     → IsAt c raw word → given ≤ read_to raw → raw.bucket ≡ bucket
@@ -144,7 +141,7 @@ buckets-smaller g c =
     let taken =
     takes (g.P.FlagSource.contents c.args.source.now) c.buckets.left first.new.left (c.buckets.raw.bucket + 1) first.result.0
     kept.read.announced first.ensures.first first.ensures.rest in
-    nearer c.buckets.raw.bucket first.result.0 looked.new.raw.bucket taken.after taken.in_table looked.ensures.bucket
+    omega (arith, taken.after, taken.in_table, looked.ensures.bucket)
 
 pub buckets-preserved : goal.buckets-preserved
 buckets-preserved g c =

@@ -31,15 +31,9 @@ is_there l m raw old bit same entered is =
       slot = ap (λ (n : ℕ). n + bit) first;
     }
 
-it_is_there : (g : _) (c : goal.After-give-arg-1 g)
+it_is_there : (g : _) (c : goal.After-give-item g)
     → IsThere c.pass-bit.new.source c.lead.new.loan c.pass-bit.new.self.raw c.pass-bit.result
 it_is_there g c =
-    is_there c.pass-bit.new.source c.lead.new.loan c.pass-bit.new.self.raw c.lead.new.cursor.raw c.pass-bit.result
-    c.pass-bit.ensures.same c.lead.ensures.entered c.pass-bit.ensures.raw
-
-it_is_there_still : (g : _) (c : goal.After-give-item g)
-    → IsThere c.pass-bit.new.source c.lead.new.loan c.pass-bit.new.self.raw c.pass-bit.result
-it_is_there_still g c =
     is_there c.pass-bit.new.source c.lead.new.loan c.pass-bit.new.self.raw c.lead.new.cursor.raw c.pass-bit.result
     c.pass-bit.ensures.same c.lead.ensures.entered c.pass-bit.ensures.raw
 
@@ -80,7 +74,7 @@ it_gave : (g : _) (c : goal.After-give-item g)
     → Gave c.pass-bit.new.source c.lead.new.loan c.give-item.new.self c.pass-bit.new.self.raw c.pass-bit.result
 it_gave g c =
     gave c.pass-bit.new.source c.lead.new.loan c.give-item.new.self c.pass-bit.new.self.raw c.pass-bit.result
-    (it_is_there_still g c) c.give-item.ensures.contents c.give-item.ensures.given
+    (it_is_there g c) c.give-item.ensures.contents c.give-item.ensures.given
 
 -- The search for all that follows takes three seconds.
 pub lead-requires : goal.lead-requires
@@ -104,7 +98,9 @@ pass-bit-requires g c = record {
 
 pub give-item-requires : goal.give-item-requires
 give-item-requires g c =
-    let there = it_is_there g c in
+    let there =
+    is_there c.pass-bit.new.source c.lead.new.loan c.pass-bit.new.self.raw c.lead.new.cursor.raw c.pass-bit.result
+    c.pass-bit.ensures.same c.lead.ensures.entered c.pass-bit.ensures.raw in
     let same = sym there.same in
     let bucket = sym there.bucket in
     let slot = sym there.slot in
@@ -114,9 +110,6 @@ give-item-requires g c =
       ahead = subst (λ (t : Type 0). t) (λ j. (same j).given ≤ id_at (bucket j) (slot j)) c.pass-bit.ensures.ahead;
       published = subst (λ (t : Type 0). t) (λ j. IsSome (value_in (same j).contents (bucket j) (slot j))) c.pass-bit.ensures.published;
     }
-
-pub overflow_sub-index : goal.overflow_sub-index
-overflow_sub-index g c = c.pass-bit.ensures.read
 
 pub overflow_add-index : goal.overflow_add-index
 overflow_add-index g c = record { fits = (it_is_near g c).index }
@@ -130,7 +123,7 @@ overflow_add-result g c = record { fits = (it_is_near g c).id }
 pub invariant_of-self : goal.invariant_of-self
 invariant_of-self g c =
     let cursor = c.pass-bit.new.self in
-    let there = it_is_there_still g c in
+    let there = it_is_there g c in
     let now = it_gave g c in
     let next : (a b : ℕ) → a < b → a + 1 ≤ b = λ a b less. omega (arith, less) in (
       subst (λ (w : Contents _). IsOwnerWalk w cursor) (sym now.contents) c.pass-bit.ensures.walk,
@@ -142,18 +135,12 @@ invariant_of-self g c =
       (λ _. (c.give-item.ensures.bucket ∙ there.bucket, c.give-item.ensures.first ∙ there.first)),
     )
 
-pub is_over-requires : goal.is_over-requires
-is_over-requires g c = tt
-
-pub returns-then-is_over-clause-steps : goal.returns-then-is_over-clause-steps
-returns-then-is_over-clause-steps g c =
+pub returns-then-is_over : goal.returns-then-is_over
+returns-then-is_over g c =
     let none =
     sym (ap entries_mut_rest c.self.view_is)
     ∙ no_entries (values c.self.inside.loan.contents) (sym c.self.invariant.0.counted ∙ c.is_over.ensures.over c.if-is_over.true) in
-    (none, none)
-
-pub returns-then-is_over-clause-goes : goal.returns-then-is_over-clause-goes
-returns-then-is_over-clause-goes g c = record { on = λ _. tt; keeps = tt; rests = λ _. tt }
+    record { steps = (none, none); goes = record { on = λ _. tt; keeps = tt; rests = λ _. tt } }
 
 it_steps : (g : _) (c : goal.After-give-item g)
     → entries_mut_rest c.args.self.now
@@ -163,7 +150,7 @@ it_steps g c =
     let raw = c.pass-bit.new.self.raw in
     let i = slot_at raw c.pass-bit.result in
     let item = c.give-item.result.now in
-    let there = it_is_there_still g c in
+    let there = it_is_there g c in
     let same = sym there.same in
     let bucket = sym there.bucket in
     let slot = sym there.slot in
@@ -176,8 +163,8 @@ it_steps g c =
     ∙ c.pass-bit.ensures.first item value
     ∙ (λ j. (i + (size j - 1), item) ∷ walk (paired (values (left j))))
 
-pub returns-clause-steps : goal.returns-clause-steps
-returns-clause-steps g c = it_steps g c
-
-pub returns-clause-goes : goal.returns-clause-goes
-returns-clause-goes g c = record { on = λ _. (tt, tt, shorter _ _ _ (it_steps g c)); keeps = tt; rests = λ _. tt }
+pub returns : goal.returns
+returns g c = record {
+  steps = it_steps g c;
+  goes = record { on = λ _. (tt, tt, shorter _ _ _ (it_steps g c)); keeps = tt; rests = λ _. tt };
+}
