@@ -1,7 +1,14 @@
 -- What a call of the `get_or` family leaves that fills the slot.
-use Rattle.std.proofs.Common.{◌≡◌, subst, Option, Some, None, Ok, Bool, false, ap}
-use Rattle.thread_local_base.specs.Answers.{View, Answered, answer_or, view_after_or}
-use Rattle.thread_local.specs.Locals.{LocalView, knows, IsFilled, IsAnswered, Fills}
+use Rattle.std.proofs.Common.{◌≡◌, ◌∙◌, subst, sym, List, Option, Some, None, Ok, Bool, Bor, false, option_map, ap}
+use Rattle.std.specs.Prelude.{MatchOption}
+use Rattle.thread_local_base.specs.Answers.{View, Answered, answer_or, view_after_or, view_of}
+use Rattle.thread_local_base.specs.IdMoves.{IdMove}
+use Rattle.thread_local_base.specs.Learnt.{Learnt, Holding}
+use Rattle.thread_local_ids.specs.Views.{TokenView}
+use Rattle.thread_local_shared_buckets.specs.Room.{IsEmpty}
+use Rattle.thread_local_shared_buckets.specs.Views.{ClaimView}
+use Rattle.thread_local.specs.Locals.{LocalView, local_view, knows, IsFilled, IsAnswered, Fills}
+use Rattle.thread_local.specs.Tables.{ThreadLocalView}
 
 -- what a call that fills the slot leaves there
 left_there : {V E : Type 0} (before : Option V) (known : Bool) (value : V) (after : View V)
@@ -35,6 +42,18 @@ fills_by {V} E makes old new there filled held =
     let some = holds_filled E makes old new filled in
     let same : filled.value ≡ there = cc in
     subst (λ (value : V). Fills E makes old new value) same filled.fills
+
+-- a value that outlives the seat's borrow is the one in the slot
+pub some_lasting : {V : Type 0} (of : ThreadLocalView) (claim : ClaimView V) (before : List IdMove) (now : LocalView V)
+    (got : Option (TokenView V × Bor V)) (there : TokenView V × Bor V) → local_view of claim before ≡ now
+    → MatchOption got (IsEmpty claim.learnt) (λ x.
+    (x.0.sharing ≡ claim.sharing) × (x.0.id ≡ claim.id) × (x.0.value ≡ x.1.now) × (claim.learnt ≡ Holding x.1.now))
+    → got ≡ Some there
+    → now.value ≡ Some there.1.now
+some_lasting {V} of claim before now (Some x) there is told some =
+    sym (ap (λ (s : LocalView V). s.value) is) ∙ ap (λ (l : Learnt V). (view_of l).value) told.3
+    ∙ ap (λ (o : Option (TokenView V × Bor V)). option_map (λ x. x.1.now) o) some
+some_lasting of claim before now None there is told some = absurd cc
 
 -- what makes the value may be said in other words
 pub filled_as : {V : Type 0} (E : Type 0) {makes says : V → Type 0} (old new : LocalView V) → ((value : V) → makes value → says value)

@@ -294,18 +294,7 @@ impl<'a, T: Sync> Seat<'a, T> {
         ensures empty { OnErr result (self.new.value ≡ None) }
     {
         self.try_fill(create)?;
-        Ok(self.lasting())
-    }
-
-    /// The value, which lasts as long as the table is lent.
-    fn lasting(&self) -> &'a T
-        requires { self.now.value ≢ None }
-        ensures { self.now.value ≡ Some result.now }
-    {
-        match self.claim.lasting() {
-            Some((_, value)) => value,
-            None => unreachable!(),
-        }
+        Ok(self.claim.lasting().unwrap().1)
     }
 
     /// The values of the table by ascending id, each lent as `&`, while others may publish more. A

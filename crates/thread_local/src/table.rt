@@ -2,7 +2,7 @@
 //! the type of its values has to show, and tokens that say what its slots were published with, have
 //! their names here too.
 ghost use Rattle.std.specs.Prelude.{◌≡◌, ◌≢◌, ◌≤◌, ◌<◌, ◌-◌, ◌*◌, ◌^◌, ℕ, max, length};
-ghost use Rattle.std.specs.Prelude.{Option, true, false, None, Some, Err, alloc_error, IfOk, IsSome, map, [], All};
+ghost use Rattle.std.specs.Prelude.{true, false, None, Some, Err, alloc_error, IfOk, IsSome, map, [], All};
 ghost use Rattle.std.specs.List.{AllPairs};
 ghost use Rattle.std.specs.List.Sorted.{IsStrictlyIncreasing};
 ghost use Rattle.thread_local_base.specs.Capacity.{reserved_slots};
@@ -26,7 +26,6 @@ use std::default::MadeWith;
 use std::marker::{Model, PhantomData};
 use std::sync::Wait;
 use thread_local_base::held::a_history_leaves_ids_held;
-use thread_local_base::walk::walk_lists_the_map;
 use thread_local_base::{LocalError, Thread};
 pub use thread_local_base::{Judge, judge_sync, judge_value};
 pub use thread_local_buckets::CapacityError;
@@ -306,8 +305,6 @@ impl<T> ThreadLocal<T> {
         ensures fresh { entries_mut_given result ≡ 0 }
         ensures ascending { IsStrictlyIncreasing (map (λ entry. entry.0) (entries_mut_rest result)) }
     {
-        // That the ids of a walk ascend.
-        walk_lists_the_map::<T>();
         self.buckets.owner().entries_mut()
     }
 
@@ -324,8 +321,6 @@ impl<T> ThreadLocal<T> {
     pub fn into_entries(self) -> IntoEntries<T>
         ensures ascending { IsStrictlyIncreasing (map (λ entry. entry.0) result) }
     {
-        // That the ids of a walk ascend.
-        walk_lists_the_map::<T>();
         self.into_buckets().into_entries()
     }
 

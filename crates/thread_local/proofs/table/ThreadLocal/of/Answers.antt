@@ -1,5 +1,7 @@
 -- The search for these takes seconds.
-use Rattle.std.proofs.Common.{◌∙◌, Option, ℕ, IsSome, sym, ap, subst, refl}
+use Rattle.std.proofs.Common.{◌≡◌, ◌∙◌, Option, None, ℕ, IsSome, sym, ap, subst, refl, lit<}
+use Rattle.thread_local_base.specs.Buckets.{Contents, values}
+use Rattle.thread_local_base.specs.Owned.{IsOwned}
 use Rattle.thread_local_ids.specs.Sharings.{Belongs, first_of, is_first}
 use Rattle.thread_local_ids.proofs.ToldElements.{first_belongs}
 use Rattle.std.proofs.lemmas.Bool.{eq-eqb}
@@ -30,3 +32,12 @@ invariant_of-result g c =
       ids.room ∙ sym ids.right.0 ∙ table,
       subst (λ (s : Option ℕ). Belongs s c.first.result.table) (sym c.first.ensures.sharing) (first_belongs c.first.result.table),
     )
+
+pub first-requires : goal.first-requires
+first-requires g c =
+    let parts = c.into_parts-pointers.ensures in
+    let none : (id : ℕ) → values c.into_parts-pointers.result.0 id ≡ None =
+    λ id. ap (λ (w : Contents g.row.T.Denot). values w id) parts.pointers ∙ c.requires.empty id in
+    let same : c.args.buckets ≡ record { contents = c.into_parts-pointers.result.0; reserved = c.into_parts-pointers.result.1 } =
+    λ i. record { contents = sym parts.pointers i; reserved = sym parts.reserved i } in
+    (lit< tt, (lit< tt, (c.requires.judged, (subst IsOwned same parts.owned, (none, c.requires.ids.slots ∙ sym c.requires.ids.right.0)))))
