@@ -83,12 +83,8 @@ impl<T> BucketPointer<T> {
         requires empty { slot_value self.old.slots index ≡ None }
         ensures { self.new.slots ≡ slice_set self.old.slots index (Some value) }
     {
-        let at = self.at;
-        unsafe {
-            (at as *mut T).add(index).write(value);
-            let flags = (at as *mut u64).add(flag_word);
-            *flags |= 1 << (index % 64);
-        }
+        let flags = self.flags(index / 64, flag_word);
+        self.publish_and_store(index, flag_word, flags | 1 << (index % 64), value);
     }
 
     /// Puts a value into an empty slot, and then stores `flags` as the word of this number, which is

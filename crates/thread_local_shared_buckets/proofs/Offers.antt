@@ -38,6 +38,7 @@ use Rattle.thread_local_base.specs.Judged.{Judged}
 use Rattle.thread_local_base.specs.Bits.{is_set_in}
 use Rattle.thread_local_buckets.specs.Slots.{each, chunks, AreFlags, flags_at, block_ty, value_offset, content_at, slot}
 use Rattle.thread_local_buckets.specs.Slots.{flags, back, block_owns, empty_slots, slot_value, heap_token, Fits}
+use Rattle.thread_local_buckets.proofs.Rooms.{each_cut, each_joined}
 use Rattle.thread_local_shared_buckets.specs.Shared.{BucketView, Turn, StandingBlock, Who, free, claimed, early, block_code}
 use Rattle.thread_local_shared_buckets.specs.Shared.{value_code, pinned, opened, tracked_value, age, holds, lies_with_slot, shared_slot_as}
 use Rattle.thread_local_shared_buckets.specs.Shared.{by as lent_by}
@@ -387,27 +388,6 @@ module _ {M : Type 1} {𝓤 : Ura M} (𝓛 : Logic 𝓤) (R : RattleType) (t : T
               use1 𝓛 (‵ (numbered_slot R t b ν sharing table k o ns η i)) (born_one sharing table k ns i η w clear) $ done !
           mine_born (Some x) i η w set = full_born L x sharing table k ns i η w set
 
-  -- ---- several slots one after another
-  each_apart : {X : Type 0} (F : X → ℕ → Fml) (xs ys : List X) (i j : ℕ) → j ≡ length xs + i
-      → ⟦ each F (xs ++ ys) i ⟧ ⊢ ⟦ each F xs i ⟧ ∗ ⟦ each F ys j ⟧
-  each_apart F [] ys i j is =
-      let at : i ≡ j = omega (arith, is) in
-      qed 𝓛 (‵ (each F ys i) ∷ []) ∵ rewrite ! 0 (λ (k : ℕ). ‵ (each F ys k)) at refl $ nothing ! $ done !
-  each_apart F (x ∷ xs) ys i j is =
-      qed 𝓛 (‵ (each F ((x ∷ xs) ++ ys) i) ∷ []) ∵ fsplit ! $ move ! (1 ∷ []) $
-      use1 𝓛 (‵ (each F xs (suc i)) ⊛ ‵ (each F ys j)) (each_apart F xs ys (suc i) j (omega (arith, is))) $ split ! $
-      move ! (2 ∷ 0 ∷ []) $ fjoin ! $ done !
-
-  each_together : {X : Type 0} (F : X → ℕ → Fml) (xs ys : List X) (i j : ℕ) → j ≡ length xs + i
-      → ⟦ each F xs i ⟧ ∗ ⟦ each F ys j ⟧ ⊢ ⟦ each F (xs ++ ys) i ⟧
-  each_together F [] ys i j is =
-      let at : j ≡ i = omega (arith, is) in
-      qed 𝓛 (‵ ftrue ∷ ‵ (each F ys j) ∷ []) ∵ drop ! $ rewrite ! 0 (λ (k : ℕ). ‵ (each F ys k)) at refl $ done !
-  each_together F (x ∷ xs) ys i j is =
-      qed 𝓛 (‵ (each F (x ∷ xs) i) ∷ ‵ (each F ys j) ∷ []) ∵ fsplit ! $ move ! (1 ∷ 2 ∷ []) $
-      use2 𝓛 (‵ (each F (xs ++ ys) (suc i))) (each_together F xs ys (suc i) j (omega (arith, is))) $
-      move ! (1 ∷ 0 ∷ []) $ fjoin ! $ done !
-
   unborn_apart : (sharing : Option GName) (table n m r k j : ℕ) → n ≡ m + r → j ≡ m + k
       → ⟦ all_unborn R sharing table t n k ⟧ ⊢ ⟦ all_unborn R sharing table t m k ⟧ ∗ ⟦ all_unborn R sharing table t r j ⟧
   unborn_apart sharing table n zero r k j many is =
@@ -507,7 +487,7 @@ module _ {M : Type 1} {𝓤 : Ura M} (𝓛 : Logic 𝓤) (R : RattleType) (t : T
         -- [its own token; the right to free; the way back; the slots; the words; the life's token; the other]
         move ! (3 ∷ []) $
         use1 𝓛 (‵ (each (slot R b o) first_slots 0) ⊛ ‵ (each (slot R b o) (v ∷ empty_slots rest) at))
-        (each_apart (slot R b o) first_slots (v ∷ empty_slots rest) 0 at (omega (arith, long))) $ split ! $
+        (each_cut 𝓛 (slot R b o) first_slots (v ∷ empty_slots rest) 0 at (omega (arith, long))) $ split ! $
         use1 𝓛 (later (some (λ (names : List ℕ).
         given (length names ≡ at) (‵ (each (bare_slot b ν o) names 0)))))
         (lends_all b ν o at 0) $
@@ -570,7 +550,7 @@ module _ {M : Type 1} {𝓤 : Ura M} (𝓛 : Logic 𝓤) (R : RattleType) (t : T
         -- [the slots behind; the claim's; those before; the way back; the right to free; the words]
         move ! (1 ∷ 0 ∷ []) $ fjoin ! $ move ! (1 ∷ 0 ∷ []) $
         use2 𝓛 (‵ (each (slot R b o) cs 0))
-        (each_together (slot R b o) first_slots (v ∷ empty_slots rest) 0 at (omega (arith, long))) $
+        (each_joined 𝓛 (slot R b o) first_slots (v ∷ empty_slots rest) 0 at (omega (arith, long))) $
         -- [the slots; the way back; the right to free; the words]
         move ! (1 ∷ []) $ rewrite ! 0 (λ (m : ℕ). ‵ (back R b o m)) (sym as_many) refl $ move ! (2 ∷ []) $
         rewrite ! 0 (λ (m : ℕ). ‵ (ghosts.dealloc_token a (block_ty R m) p)) (sym as_many) refl $
@@ -639,7 +619,7 @@ module _ {M : Type 1} {𝓤 : Ura M} (𝓛 : Logic 𝓤) (R : RattleType) (t : T
         -- [the slots behind; before; the claim's; what the claim gets; the words; the ends]
         move ! (2 ∷ 0 ∷ []) $ fjoin ! $ move ! (1 ∷ 0 ∷ []) $
         use2 𝓛 (‵ (slots_stand R d t p s ns))
-        (each_together N z.before (z.here ∷ z.behind) 0 at (omega (arith, so.before))) $
+        (each_joined 𝓛 N z.before (z.here ∷ z.behind) 0 at (omega (arith, so.before))) $
         -- [the slots; what its claim gets; the words; the ends]
         move ! (2 ∷ []) $ rewrite ! 0 (λ (m : ℕ). ‵ (each (flags_at R m b o) ns 0)) as_many refl $ move ! (0 ∷ 1 ∷ []) $
         fjoin ! $ nothing ! $ fpack ! (AreFlagWords R n ns) (λ _. ftrue) (flag_words R v at rest ns are.1 n many are.0) $
