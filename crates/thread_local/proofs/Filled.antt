@@ -27,13 +27,6 @@ pub holds_filled : {V : Type 0} (E : Type 0) (makes : V → Type 0) (old new : L
 holds_filled E makes old new filled =
     left_there {E = E} old.value old.known filled.value (knows new) filled.fills.says.answered filled.fills.says.leaves
 
-pub some_filled : {V : Type 0} (E : Type 0) (makes : V → Type 0) (old new : LocalView V) → IsFilled E makes old new
-    → new.value ≡ None
-    → ⊥
-some_filled E makes old new filled none =
-    let some = holds_filled E makes old new filled in
-    cc
-
 -- the value in the slot then is what the call answers
 pub fills_by : {V : Type 0} (E : Type 0) (makes : V → Type 0) (old new : LocalView V) (there : V)
     → IsFilled E makes old new → new.value ≡ Some there
@@ -54,17 +47,6 @@ some_lasting {V} of claim before now (Some x) there is told some =
     sym (ap (λ (s : LocalView V). s.value) is) ∙ ap (λ (l : Learnt V). (view_of l).value) told.3
     ∙ ap (λ (o : Option (TokenView V × Bor V)). option_map (λ x. x.1.now) o) some
 some_lasting of claim before now None there is told some = absurd cc
-
--- what makes the value may be said in other words
-pub filled_as : {V : Type 0} (E : Type 0) {makes says : V → Type 0} (old new : LocalView V) → ((value : V) → makes value → says value)
-    → IsFilled E makes old new
-    → IsFilled E says old new
-filled_as E old new leads filled =
-    let fills = filled.fills in
-    record {
-      value = filled.value;
-      fills = record { says = fills.says; made = λ none. leads filled.value (fills.made none); same = fills.same };
-    }
 
 pub answered : {V E : Type 0} {makes : V → Type 0} {old new : LocalView V} {there : V}
     → Fills E makes old new there

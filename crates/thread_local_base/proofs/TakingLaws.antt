@@ -179,11 +179,6 @@ module _ {V : Type 0} where
       let some = pow_pos b in
       omega arith
 
-  -- past the end of a bucket is the start of the next
-  pub NoneBelow-end : (c : Contents V) (b i : ℕ) → i ≡ 2 ^ b → NoneBelow (values c) (id_at b i)
-      → NoneBelow (values c) (id_at (b + 1) 0)
-  NoneBelow-end c b i last none = let P : ℕ → Type 0 = NoneBelow (values c) in subst P (ap (id_at b) last ∙ sym (id_at-next b)) none
-
   -- past the last bucket there is nothing
   pub walk-met : (c : Contents V) (b i : ℕ) → 63 ≤ b → NoneBelow (values c) (id_at b i) → length (walk (values c)) ≡ 0
   walk-met c b i past none =

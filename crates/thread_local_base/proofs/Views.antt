@@ -60,27 +60,11 @@ below_peak (e ∷ entries) zero id h = cc
 below_peak (e ∷ entries) (suc peak) zero h = omega arith
 below_peak (e ∷ entries) (suc peak) (suc id) h = let below = below_peak entries peak id h in omega arith
 
--- a prefix is no longer than its list
-pub length-front : (entries : List Bool) (peak : ℕ) → length (take peak entries) ≤ length entries
-length-front [] zero = omega arith
-length-front [] (suc peak) = omega arith
-length-front (e ∷ entries) zero = omega arith
-length-front (e ∷ entries) (suc peak) = let front = length-front entries peak in omega arith
-
 -- a write below the peak doesn't change the entries from the peak on
 pub IsFreeFrom-set : (entries : List Bool) (peak id : ℕ) (value : Bool) → id < peak
     → IsFreeFrom peak entries
     → IsFreeFrom peak (set entries id value)
 IsFreeFrom-set entries peak id value below above k h = let apart : k ≢ id = omega arith in rw get_or-set_other (above k h)
-
--- the first free entry is at the peak or below it
-pub least_within : (entries : List Bool) (peak : ℕ) → peak ≤ length entries → IsFreeFrom peak entries → least entries ≤ peak
-least_within [] peak within above = omega arith
-least_within (false ∷ entries) peak within above = omega arith
-least_within (true ∷ entries) zero within above = let first : true ≡ false = above 0 (omega arith) in cc
-least_within (true ∷ entries) (suc peak) within above =
-    let rest = least_within entries peak (omega arith) (λ k p. above (suc k) (omega arith)) in
-    omega arith
 
 -- a write doesn't change the entries before it
 pub HoldsAllBelow-set : (entries : List Bool) (id n : ℕ) (value : Bool) → n ≤ id

@@ -142,17 +142,6 @@ next_unset_from words from at bit before full next = record {
   between = λ i lower below. ⊎_elim (λ first. full i lower first) (λ then. next.between i then below) (cases_lt i at);
 }
 
--- past the last word no bit is set
-pub none_behind : (words : List ℕ) → IsNextUnset words (length words * 64) (length words * 64)
-none_behind words = record {
-  after = omega arith;
-  unset =
-      ap (λ word. is_set word (length words * 64 % 64))
-      (get_or_past words (length words * 64 / 64) 0 (omega arith))
-      ∙ is_set-zero (length words * 64 % 64);
-  between = λ i from below. absurd (omega arith);
-}
-
 -- the sum of `count_ones` over the words counts the bits that are set
 pub count_ones-sum : (words : List ℕ) → ((at : ℕ) → at < length words → get_or words at 0 < 2 ^ 64)
     → sum_by count_ones words ≡ count_by (λ b. b) (bits_of words)

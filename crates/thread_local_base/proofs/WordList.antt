@@ -26,9 +26,6 @@ module _ (w : Inside) (words : List ℕ) (are : AreWords w) (view : words_of w �
       let counted : 0 < w.count = omega (arith, ap length view, length-take w.count (w.first ∷ w.rest.items)) in
       sym (all_words w.count w.first w.rest.items are counted) ∙ view
 
-  pub rest_length : 0 < length words → suc (length w.rest.items) ≡ length words
-  rest_length some = ap length (all_seen some)
-
   pub first_word : (at : ℕ) → at < length words → at ≡ 0 → w.first ≡ get_or words at 0
   first_word at within start =
       ap (λ (ws : List ℕ). get_or ws 0 0) (all_seen (omega arith)) ∙ ap (λ (k : ℕ). get_or words k 0) (sym start)
@@ -135,12 +132,6 @@ cleared (suc n) first left rest now words are many view filled =
     let all : suc n ≡ length words = omega (arith, ap length view, length-take (suc n) (first ∷ rest)) in
     let zeros : take n now ≡ replicate n 0 = ap (λ (ws : List ℕ). take n ws) filled ∙ take-replicate n left 0 (omega arith) in
     ap (λ (ws : List ℕ). 0 ∷ ws) zeros ∙ ap (λ (k : ℕ). replicate k 0) all
-
--- a further word behind the others, or the first one
-pub first_made : (count : ℕ) (rest words : List ℕ) → length rest ≡ count - 1 → count ≤ 0 → words ≡ []
-    → take (count + 1) (0 ∷ rest) ≡ words ++ 0 ∷ []
-first_made zero rest words are none empty = rw empty refl
-first_made (suc n) rest words are none empty = absurd (omega arith)
 
 -- a further word behind the others
 pub one_more : (count first : ℕ) (rest now words : List ℕ) → length rest ≡ count - 1 → 0 < count

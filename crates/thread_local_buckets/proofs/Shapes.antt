@@ -5,12 +5,6 @@ use Rattle.thread_local_base.proofs.Names.{None}
 use Rattle.std.proofs.lemmas.List.{set-set, set-get_or, get_or-set_same, map-set, length-map}
 use Rattle.thread_local_buckets.specs.Lent.{shape}
 
-map-get_or : {A B : Type 0} (f : A → B) (xs : List A) (i : ℕ) (d : A)
-    → map f (get_or xs i d ∷ []) ≡ get_or (map f xs) i (f d) ∷ []
-map-get_or f [] i d = refl
-map-get_or f (x ∷ xs) zero d = refl
-map-get_or f (x ∷ xs) (suc i) d = map-get_or f xs i d
-
 row_shape : {A B : Type 0} (f : A → B) (xss : List (List A)) (k : ℕ) → map f (get_or xss k []) ≡ get_or (map (map f) xss) k []
 row_shape f [] k = refl
 row_shape f (xs ∷ xss) zero = refl

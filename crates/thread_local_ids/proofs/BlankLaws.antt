@@ -2,7 +2,7 @@
 use Rattle.std.proofs.Common.{◌≡◌, ℕ, zero, suc, ◌^◌, ◌<◌, List, [], ◌∷◌, length, Option, None, Some, replicate, arith, subst}
 use Rattle.std.specs.Prelude.{◌⊎◌, slice_index_or}
 use mathlib.Core.Logic.{inl, inr}
-use Rattle.thread_local_base.specs.Buckets.{Contents, no_contents, IsTable, row, values}
+use Rattle.thread_local_base.specs.Buckets.{Contents, IsTable, row, values}
 use Rattle.thread_local_base.specs.Place.{bucket_of, id_at}
 use Rattle.thread_local_base.proofs.PlaceLaws.{place-id_at}
 use Rattle.thread_local_base.specs.Rows.{empty_row}
@@ -12,9 +12,6 @@ use Rattle.thread_local_ids.specs.Told.{whole_row}
 module _ (V : Type 0) where
   abbrev none : Option V
   none = None
-
-  abbrev no_slots : List (Option V)
-  no_slots = []
 
   blank_replicate : (n : ℕ) → IsBlank (replicate n none)
   blank_replicate zero = tt
@@ -30,17 +27,6 @@ module _ (V : Type 0) where
   pub blank_whole : (bucket : ℕ) (row : List (Option V)) → IsBlank row → IsBlank (whole_row bucket row)
   blank_whole bucket [] blank = blank_empty bucket
   blank_whole bucket (v ∷ slots) blank = blank
-
-  -- buckets that don't stand have none
-  pub no_rows_blank : (n : ℕ) → AreBlank (replicate n no_slots)
-  no_rows_blank zero = tt
-  no_rows_blank (suc n) = (tt, no_rows_blank n)
-
-  abbrev no_buckets : Contents V
-  no_buckets = no_contents
-
-  pub no_contents_blank : AreBlank no_buckets.rows
-  no_contents_blank = no_rows_blank 63
 
 -- a row has at most the slots of its bucket
 low : (n m i : ℕ) → (n ≡ 0) ⊎ (n ≡ m) → i < n → i < m

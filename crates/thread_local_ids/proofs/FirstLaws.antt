@@ -74,10 +74,6 @@ test_at id a first =
     let off : id ≢ min 58 a = λ e. apart (omega (arith, e, first)) in ne_eqb id (min 58 a) off ∙ sym (ne_eqb id a apart))
     (cases_eq id a)
 
-one_or_none : (t : Bool) → (if t then 1 else 0) ≤ 1
-one_or_none true = omega arith
-one_or_none false = omega arith
-
 -- where it grows, the peak is below 58
 grows_below : (id p : ℕ) → id < 58 → p < 59 → p + (if id == p then 1 else 0) < 59
 grows_below id p first few =

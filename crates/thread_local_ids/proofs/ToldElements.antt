@@ -1,8 +1,7 @@
 -- How what is told of ids is made, told, had twice and compared. Assumes `Logic`.
 use Rattle.std.proofs.Common.{◌≡◌, ℕ, suc, ◌+◌, ◌*◌, ◌/◌, ◌%◌, ◌<◌, ◌≤◌, List, [], ◌∷◌, length, refl, sym, ap, subst, arith}
-use Rattle.std.proofs.Common.{Option, None, Some, IsSome, zero, true, false, ◌≢◌, ◌∙◌, get_or}
+use Rattle.std.proofs.Common.{Option, None, Some, IsSome, zero, true, false, ◌≢◌, get_or}
 use Rattle.std.proofs.lemmas.Bool.{eqb-true, ne_eqb}
-use Rattle.std.proofs.lemmas.Option.{same_Some}
 use Rattle.std.specs.Coded.{coded_option}
 use mathlib.Mathlib.Data.Part.{Part, Dom, not-none-Dom, ◌∈◌}
 use seplogic.Ra.Ura.{Ura}
@@ -59,12 +58,6 @@ first_belongs table = subst (λ (s : Sharing). belongs s table) (sym (first_is t
 pub first_only : (sharing : Option ℕ) (table : ℕ) → is_first sharing table ≡ true → sharing ≡ Some (first_of table)
 first_only None table is = cc
 first_only (Some n) table is = ap Some (eqb-true n (first_of table) is)
-
--- the first sharings of two tables are two
-pub first_apart : (sharing : Option ℕ) (old new : ℕ) → Belongs sharing old → new ≢ old → Some (first_of new) ≢ sharing
-first_apart None old new of apart same = cc
-first_apart (Some n) old new of apart same =
-    apart (subst (λ (s : Sharing). belongs s old) (ap sharing_of (sym (same_Some (first_of new) n same)) ∙ first_is new) of)
 
 module _ {M : Type 1} {𝓤 : Ura M} (𝓛 : Logic 𝓤) where
   open signs 𝓛 use {⟦◌⟧, ◌⊢◌, ◌∗◌}

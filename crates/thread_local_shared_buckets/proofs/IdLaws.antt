@@ -1,13 +1,9 @@
--- An id's place: the id there, and the word that has the flag of its slot.
+-- The word that has the flag of an id's slot, by the id's place.
 use Rattle.std.proofs.Common.{◌≡◌, ◌∙◌, ℕ, ◌/◌, ◌^◌, ap, sym}
 use denote.RattleType.{RattleType}
-use Rattle.thread_local_base.specs.Place.{bucket_of, index_of, id_at}
-use Rattle.thread_local_base.proofs.PlaceLaws.{id_at-place}
+use Rattle.thread_local_base.specs.Place.{bucket_of, index_of}
 use Rattle.thread_local_buckets.specs.Slots.{flag_word_at}
 use Rattle.thread_local_shared_buckets.specs.Claims.{flag_word_of}
-
-pub id_of_place : (id : ℕ) → id_at (bucket_of id) (index_of id) ≡ id
-id_of_place = id_at-place
 
 pub word_there : (R : RattleType) (word id held bucket index : ℕ) → word ≡ flag_word_at R (2 ^ bucket) (index / 64) → id ≡ held
     → bucket ≡ bucket_of held → index ≡ index_of held

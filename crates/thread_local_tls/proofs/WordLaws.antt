@@ -1,7 +1,7 @@
 -- A word that `parse` reads is the number that it spells, and moves are read one after another.
 use Rattle.std.proofs.Common.{◌≡◌, ℕ, ◌^◌, ◌<◌, ◌++◌, true, false, List, [], ◌∷◌, length, nat_lt, refl, ap, sym, ◌∙◌}
 use Rattle.std.proofs.Common.{arith, Result, Ok, Err, Option, Some, None, codes, bytes_eq, option_map, option_and_then}
-use Rattle.std.proofs.Common.{append_assoc, ⊎_elim, lt-ltb, le-ltb}
+use Rattle.std.proofs.Common.{⊎_elim, lt-ltb, le-ltb}
 use Rattle.std.proofs.lemmas.Bool.{and_parts, and_from, and_right, cond-true, cond-false, cases_lt}
 use Rattle.std.proofs.lemmas.Bool.Decides.{nat_tests}
 use Rattle.std.proofs.lemmas.Str.Parse.{IsDigitsTest, numerals_by_value, parse_digits}
@@ -77,11 +77,6 @@ pub moves_of-other : (word : List ℕ) (words : List (List ℕ)) → bytes_eq wo
 unfolding moves_of
 moves_of-other word [] not_take not_give = cond-false _ _ _ not_take
 moves_of-other word (next ∷ words) not_take not_give = cond-false _ _ _ not_take ∙ cond-false _ _ _ not_give
-
-pub moves_then-first : (front : List Move) (move : Move) (moves : Option (List Move))
-    → moves_then front (move_then move moves) ≡ moves_then (front ++ move ∷ []) moves
-moves_then-first front move None = refl
-moves_then-first front move (Some rest) = ap Some (sym (append_assoc front (move ∷ []) rest))
 
 pub moves_of-none : moves_of [] ≡ Some []
 unfolding moves_of
