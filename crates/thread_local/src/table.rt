@@ -115,7 +115,7 @@ impl<T> ThreadLocal<T> {
         ensures sharing { IsSome result.sharing }
         ensures first { IsFirst result.sharing result.table }
         ensures reserved { result.reserved ≡ 0 }
-        ensures room { result.room ≡ 0 }
+        ensures room { result.room ≡ 58 }
         ensures grown { result.grown_by_ids ≡ true }
     {
         ThreadLocal::of(alloc, Buckets::new(alloc), SharedIds::new(alloc))
@@ -153,7 +153,7 @@ impl<T> ThreadLocal<T> {
     /// `is_reserved` says of a `Local` whether its slot is one of them.
     ///
     /// `TooLarge` means that the capacity is 2^63 or more, and comes before memory is asked for.
-    /// `Memory` means out of memory, for ids beyond the first 64 or for a bucket: it asks for the
+    /// `Memory` means out of memory, for ids beyond the first 58 or for a bucket: it asks for the
     /// room for ids first, and then for the buckets, from bucket 0 up. What was obtained before is
     /// freed, though no clause says so. Rust's crate panics where this refuses.
     pub fn with_capacity(alloc: Global, capacity: usize) -> Result<ThreadLocal<T>, CapacityError>
@@ -180,7 +180,7 @@ impl<T> ThreadLocal<T> {
     /// so it may wait, and looks once whether the id's slot holds a value, so that `get` needs no look.
     ///
     /// It asks for memory only where all ids from 58 on are held that there is room for, and not for
-    /// the first 64: `Memory` means out of memory. `Exhausted` means that all 2^63 - 1 ids are held.
+    /// the first 58: `Memory` means out of memory. `Exhausted` means that all 2^63 - 1 ids are held.
     /// Rust's crate finds the running thread by itself.
     #[inline(always)]
     pub fn local<'a, R: Wait>(&'a self, rt: &'a R) -> Result<Local<'a, T, R>, LocalError>
@@ -504,7 +504,7 @@ impl<T: Judge + Send> MadeWith<Global> for ThreadLocal<T> {
         IsSome table.sharing
         × IsFirst table.sharing table.table
         × (table.reserved ≡ 0)
-        × (table.room ≡ 0)
+        × (table.room ≡ 58)
         × (table.grown_by_ids ≡ true) };
 
     /// A table as `new` makes it. Rust has `Default` for it; here the bound shows that the type is

@@ -27,10 +27,8 @@ pub mod Pointers
 pub mod SharedWord
 pub mod Signs
 pub mod Walking
-mod IdBits
-mod Returned
+mod Words
 mod Views
-mod WordList
 pub mod Alike
 pub mod Everywhere
 pub mod Empty

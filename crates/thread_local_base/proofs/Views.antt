@@ -1,13 +1,11 @@
 -- The entries of a manager below the peak: all that contracts see, since every entry from the peak
 -- on is free.
-use Rattle.std.proofs.Common.{◌≡◌, ◌≢◌, ℕ, zero, suc, ◌+◌, ◌*◌, ◌<◌, ◌≤◌, Bool, true, false, List, [], ◌∷◌, length}
-use Rattle.std.proofs.Common.{take, set, ◌++◌, refl, ap, sym, ◌∙◌, arith, ⊎_elim}
-use Rattle.std.proofs.lemmas.List.{get_or-set_same, get_or-set_other, take-append-le}
-use Rattle.std.proofs.lemmas.Bool.{both_ways, cases_eq}
-use Rattle.thread_local_base.proofs.HeldLaws.{least_lower}
+use Rattle.std.proofs.Common.{◌≡◌, ◌≢◌, ℕ, zero, suc, ◌*◌, ◌<◌, ◌≤◌, Bool, true, false, List, [], ◌∷◌, length}
+use Rattle.std.proofs.Common.{take, set, ◌++◌, refl, ap, sym, ◌∙◌, arith}
+use Rattle.std.proofs.lemmas.List.{get_or-set_other, take-append-le}
 use Rattle.thread_local_base.specs.Bits.{bits_of}
 use Rattle.thread_local_base.proofs.WordBits.{length-bits_of, get_or-bits_of, bits_of-append, is_set_in-push_zero}
-use Rattle.thread_local_base.specs.Held.{is_held, least, with_least, HoldsAllBelow}
+use Rattle.thread_local_base.specs.Held.{is_held, least, with_least}
 
 -- no entry from the peak on is held
 abbrev pub IsFreeFrom : ℕ → List Bool → Type 0
@@ -66,12 +64,6 @@ pub IsFreeFrom-set : (entries : List Bool) (peak id : ℕ) (value : Bool) → id
     → IsFreeFrom peak (set entries id value)
 IsFreeFrom-set entries peak id value below above k h = let apart : k ≢ id = omega arith in rw get_or-set_other (above k h)
 
--- a write doesn't change the entries before it
-pub HoldsAllBelow-set : (entries : List Bool) (id n : ℕ) (value : Bool) → n ≤ id
-    → HoldsAllBelow n entries
-    → HoldsAllBelow n (set entries id value)
-HoldsAllBelow-set entries id n value before held k below = let apart : k ≢ id = omega arith in rw get_or-set_other (held k below)
-
 -- appending a word that is 0 changes neither what is held nor a prefix
 pub is_held-push : (words : List ℕ) (id : ℕ) → is_held (bits_of (words ++ 0 ∷ [])) id ≡ is_held (bits_of words) id
 is_held-push words id = get_or-bits_of (words ++ 0 ∷ []) id ∙ is_set_in-push_zero words id ∙ sym (get_or-bits_of words id)
@@ -81,22 +73,3 @@ pub take-push : (words : List ℕ) (peak : ℕ) → peak ≤ length words * 64
 take-push words peak within =
     ap (take peak) (bits_of-append words (0 ∷ []))
     ∙ take-append-le peak (bits_of words) (bits_of (0 ∷ [])) (omega (arith, length-bits_of words))
-
--- once the least free id is held, every id up to it is
-pub HoldsAllBelow-hold : (entries : List Bool) (id : ℕ) → id < length entries → id ≡ least entries
-    → HoldsAllBelow (id + 1) (set entries id true)
-HoldsAllBelow-hold entries id within first k below =
-    ⊎_elim
-    (λ (same : k ≡ id). rw same (get_or-set_same entries id true false within))
-    (λ (apart : k ≢ id). rw (get_or-set_other entries id k true false apart) (least_lower entries k (omega arith)))
-    (cases_eq k id)
-
--- an entry that is free after one becomes held was free before, and is another
-pub was_free : (entries : List Bool) (id k : ℕ) → id < length entries
-    → is_held (set entries id true) k ≡ false
-    → (k ≢ id) × (is_held entries k ≡ false)
-was_free entries id k within free =
-    let apart : k ≢ id = λ same.
-    both_ways (is_held (set entries id true) k) free
-    (rw same (get_or-set_same entries id true false within)) in
-    (apart, rw (get_or-set_other entries id k true false apart) at free)

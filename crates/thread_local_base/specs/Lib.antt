@@ -17,9 +17,7 @@ pub mod Code
 pub mod Bits
 pub mod Fact
 pub mod SharedWord
-pub mod Entries
-pub mod Returned
 pub mod Text
-pub mod WordList
+pub mod Words
 pub mod Judged
 pub mod Chain

@@ -11,14 +11,12 @@ pub mod capacity;
 pub mod cursor;
 mod error;
 pub mod held;
-mod id_bits;
 pub mod judged;
 pub mod manager;
 pub mod owner;
 pub mod place;
 pub mod slots;
 pub mod walk;
-mod words;
 
 pub use judged::{Judge, judge_sync, judge_value, judged_alike, never_refuted};
 pub use manager::{LocalError, ThreadIdManager};

@@ -1,10 +1,9 @@
 //! The manager of a table's ids: it gives out the least id that isn't held, and takes ids back.
-ghost use Rattle.std.specs.Prelude.{◌≡◌, ◌⊎◌, ◌+◌, ◌-◌, ◌^◌, ◌<◌, ◌≤◌, min, [], length, IsTrue, IsOk, OnErr, IfOk};
+ghost use Rattle.std.specs.Prelude.{◌≡◌, ◌+◌, ◌-◌, ◌*◌, ◌^◌, ◌<◌, ◌≤◌, min, [], length, IsTrue, IsOk, OnErr, IfOk};
 ghost use Rattle.std.specs.Prelude.{alloc_error};
-ghost use Rattle.thread_local_base.specs.Held.{is_held, without, Takes, Gives, NeedsMemory, IsExhausted};
+ghost use Rattle.thread_local_base.specs.Bits.{IsNextUnset};
+ghost use Rattle.thread_local_base.specs.Held.{is_held, Takes, Gives, NeedsMemory, IsExhausted};
 
-use crate::id_bits::IdBits;
-use crate::words::Words;
 use std::alloc::{AllocError, Global};
 use std::marker::Model;
 
@@ -26,16 +25,19 @@ pub enum LocalError {
 /// ids have a bit, so that taking them needs no memory. The peak is the greatest number of ids held
 /// at one moment.
 ///
-/// No call waits. The first 64 ids need no memory; for further ones `with_room` and `alloc` take it.
+/// No call waits. `with_room` and `alloc` take memory, 64 bits at a time.
 ///
 /// Unlike in the Rust crate it is public, one for each table, and the memory for an id's bit is
 /// taken with the id, so that its return needs none. In the Rust crate `alloc` returns the bare id,
 /// and there is no `with_room`, `is_held`, `peak` or `clear`.
 #[derive(Drop)]
 pub struct ThreadIdManager {
-    bits: IdBits,
-    // The id that was given back last, whose bit is still set, or `IDS` where there is none.
-    returned: usize,
+    // A bit for each id, 64 to a word, the lowest first. It is set where the id is held.
+    words: Vec<u64>,
+    // No bit from the peak on is set.
+    peak: usize,
+    // Every bit of the words before this one is set.
+    full: usize,
 }
 
 impl Model for ThreadIdManager {
@@ -43,32 +45,28 @@ impl Model for ThreadIdManager {
 
     ghost Value = { Manager };
 
-    ghost use Rattle.thread_local_base.specs.Returned.{manager_of, IsManager};
+    ghost use Rattle.thread_local_base.specs.Words.{manager_of, IsManager};
 
-    ghost view = { manager_of };
+    ghost view = { λ m. manager_of m.words.items m.peak };
 
-    ghost invariant = { IsManager };
+    ghost invariant = { λ m. IsManager m.words.items m.peak m.full };
 }
 
 impl ThreadIdManager {
-    /// A manager with no id held.
+    /// A manager with no id held. It takes no memory.
     pub fn new(alloc: Global) -> ThreadIdManager
         ensures held { result.held ≡ [] }
         ensures room { result.room ≡ 0 }
     {
         ThreadIdManager {
-            bits: IdBits {
-                words: Words::new(alloc),
-                peak: 0,
-                lowest_unset: 0,
-                end: 0,
-            },
-            returned: IDS,
+            words: Vec::new(alloc),
+            peak: 0,
+            full: 0,
         }
     }
 
     /// A manager with no id held, and room for `ids` ids, or for all ids where they are fewer. It
-    /// asks for memory once, and not at all where `ids` is at most 64. `Err` means out of memory.
+    /// asks for memory once. `Err` means out of memory.
     pub fn with_room(alloc: Global, ids: usize) -> Result<ThreadIdManager, AllocError>
         ensures held { IfOk result (λ manager. manager.held ≡ []) }
         ensures room { IfOk result (λ manager. min ids (2 ^ 63 - 1) ≤ manager.room) }
@@ -76,44 +74,36 @@ impl ThreadIdManager {
         ensures room_in_range { IfOk result (λ manager. manager.room ≤ 2 ^ 63 - 1) }
         ensures no_ids { ids ≡ 0 → IsOk result }
     {
+        let mut words = Vec::new(alloc);
+        words.resize(ids.min(IDS).div_ceil(64), 0)?;
         Ok(ThreadIdManager {
-            bits: IdBits {
-                words: Words::with_len(alloc, ids.min(IDS).div_ceil(64))?,
-                peak: 0,
-                lowest_unset: 0,
-                end: 0,
-            },
-            returned: IDS,
+            words,
+            peak: 0,
+            full: 0,
         })
     }
 
     /// Takes the least id that isn't held. It asks for memory only where every id below the peak is
-    /// held and there is no room for one more, and not for the first 64 ids.
+    /// held and there is no room for one more.
     ///
     /// `Memory` means out of memory. `Exhausted` means that all 2^63 - 1 ids are held.
-    #[inline(always)]
     pub fn alloc(&mut self) -> Result<usize, LocalError>
         ensures ok { IfOk result (λ id. Takes self.old self.new id) }
         ensures memory { result ≡ Err (LocalError.Memory alloc_error) → NeedsMemory self.old }
         ensures exhausted { result ≡ Err LocalError.Exhausted → IsExhausted self.old }
         ensures err { OnErr result (self.new ≡ self.old) }
     {
-        let id = self.bits.lowest_unset;
-        if self.returned < id {
-            let id = self.returned;
-            self.returned = IDS;
-            return Ok(id);
+        let id = next_unset(&self.words, self.full);
+        // The last word has a bit past the last id.
+        if id >= IDS {
+            return Err(LocalError::Exhausted);
         }
-        if id / 64 < self.bits.words.len() {
-            // The last word has a bit past the last id.
-            if id >= IDS {
-                return Err(LocalError::Exhausted);
-            }
-            self.bits.set_lowest();
-            return Ok(id);
+        if id / 64 == self.words.len() {
+            self.words.push(0)?;
         }
-        self.bits.words.push_zero()?;
-        self.bits.set_lowest();
+        self.words[id / 64] ^= 1 << (id % 64);
+        self.peak = self.peak.max(id + 1);
+        self.full = id / 64;
         Ok(id)
     }
 
@@ -123,27 +113,23 @@ impl ThreadIdManager {
         ensures peak_in_room { length self.now.held ≤ self.now.room }
         ensures room_in_range { self.now.room ≤ 2 ^ 63 - 1 }
     {
-        self.returned != id && self.bits.words.is_set(id)
+        id / 64 < self.words.len() && (self.words[id / 64] >> (id % 64)) & 1 == 1
     }
 
     /// The peak: the most ids held at one moment since the manager was new or cleared.
     pub fn peak(&self) -> usize
         ensures { result ≡ length self.now.held }
     {
-        self.bits.peak
+        self.peak
     }
 
     /// Takes back an id, which the caller shows to be held.
-    #[inline(always)]
     pub fn free(&mut self, id: usize)
         requires { IsTrue (is_held self.old.held id) }
         ensures { Gives self.old self.new id }
     {
-        let before = self.returned;
-        self.returned = id;
-        if before != IDS {
-            self.bits.clear(before);
-        }
+        self.words[id / 64] ^= 1 << (id % 64);
+        self.full = self.full.min(id / 64);
     }
 
     /// Takes every id back. The peak starts again from 0, and the room stays.
@@ -151,10 +137,23 @@ impl ThreadIdManager {
         ensures held { self.new.held ≡ [] }
         ensures room { self.new.room ≡ self.old.room }
     {
-        self.bits.words.clear();
-        self.bits.peak = 0;
-        self.bits.lowest_unset = 0;
-        self.bits.end = 0;
-        self.returned = IDS;
+        self.words.fill(0);
+        self.peak = 0;
+        self.full = 0;
     }
+}
+
+/// The lowest bit that isn't set, from word `from` on. Past the last word no bit is set.
+fn next_unset(words: &[u64], from: usize) -> usize
+    requires within { from ≤ length words.now }
+    requires few { length words.now ≤ 2 ^ 57 }
+    ensures { IsNextUnset words.now (from * 64) result }
+{
+    for at in from..words.len() {
+        let word = words[at];
+        if word != u64::MAX {
+            return at * 64 + word.trailing_ones() as usize;
+        }
+    }
+    words.len() * 64
 }

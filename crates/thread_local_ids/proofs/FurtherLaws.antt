@@ -134,7 +134,7 @@ peak_after moves id reached high is same =
 
 -- where the manager has no further id, all of a number of ids are held
 pub all_held : (n m : ℕ) (log moves : List IdMove) (old new : Manager) → IsSameBeyond (held_after log) old.held → IsSameBeyond old.held new.held
-    → IsSameBeyond (held_after log) (held_after moves) → HoldsAllBelow 58 (held_after moves) → HoldsAllBelow m new.held → n ≤ m
+    → IsSameBeyond (held_after log) (held_after moves) → HoldsAllBelow 58 (held_after moves) → HoldsAllBelow m new.held → n ≤ max 58 m
     → HoldsAllBelow n (held_after moves)
 all_held n m log moves old new with_old with_new with_moves full all few j below =
     ⊎_elim

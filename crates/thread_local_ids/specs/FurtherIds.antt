@@ -1,5 +1,5 @@
 -- What a contract sees of the further ids, which lie under a lock.
-use Rattle.std.specs.Prelude.{◌≡◌, ℕ, ◌-◌, ◌^◌, ◌<◌, ◌≤◌, false, List, length}
+use Rattle.std.specs.Prelude.{◌≡◌, ℕ, ◌-◌, ◌^◌, ◌<◌, ◌≤◌, max, false, List, length}
 use Rattle.thread_local_base.specs.Held.{Manager}
 use Rattle.thread_local_base.specs.IdMoves.{IdMove, held_after}
 use Rattle.thread_local_ids.specs.FirstIds.{IsSameBeyond}
@@ -18,12 +18,12 @@ abbrev pub further_of : Inside → FurtherIds
 further_of i = record { manager = i.manager; table = i.log.table; moves = i.log.moves; room = i.room.ids }
 
 -- of the further ids the manager holds those that the history leaves held, and there is still room
--- for as many as at the beginning
+-- for as many as at the beginning, of which the first need none of the manager's
 pub record IsFurther (i : Inside) : Type 0 where
   pub filled : IsFilled i.manager.held
   pub half : i.log.whole ≡ false
   pub beyond : IsSameBeyond (held_after i.log.moves) i.manager.held
   pub reached : i.reached ≡ length (held_after i.log.moves) - 58
   pub few : i.reached < 2 ^ 63
-  pub room : i.room.ids ≤ i.manager.room
+  pub room : i.room.ids ≤ max 58 i.manager.room
   pub room_table : i.room.table ≡ i.log.table

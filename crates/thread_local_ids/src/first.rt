@@ -1,7 +1,7 @@
 //! The first 58 ids of a table, as the bits of one word that threads change by atomic steps, each
 //! least id by one compare and exchange. For proofs the word keeps the history of all ids of the table
 //! and their rights. The further ids lie under a lock.
-ghost use Rattle.std.specs.Prelude.{◌≡◌, ◌+◌, ◌*◌, ◌-◌, ◌/◌, ◌%◌, ◌^◌, ◌<◌, ◌≤◌, ◌==◌, ◌&&◌, ℕ, Bool, true, false, List, [], length, if◌then◌else◌};
+ghost use Rattle.std.specs.Prelude.{◌≡◌, ◌+◌, ◌*◌, ◌-◌, ◌/◌, ◌%◌, ◌^◌, ◌<◌, ◌≤◌, ◌==◌, ◌&&◌, ℕ, max, Bool, true, false, List, [], length, if◌then◌else◌};
 ghost use Rattle.std.specs.Prelude.{IfSome, None};
 ghost use base.Stored.{coded_bool};
 ghost use mathlib.Core.List.{IsPrefix};
@@ -114,7 +114,7 @@ impl FirstIds {
         ensures log { (result.1.table ≡ result.0.table) × (result.1.moves ≡ []) × (result.1.whole ≡ false) }
         ensures right { (result.2.0.table ≡ result.0.table) × (result.2.0.id ≡ 2 ^ 63 - 1) }
         ensures page { (result.2.1.table ≡ result.0.table) × (result.2.1.moves ≡ []) }
-        ensures room { (result.2.2.table ≡ result.0.table) × (result.2.2.ids ≡ manager.now.room) }
+        ensures room { (result.2.2.table ≡ result.0.table) × (result.2.2.ids ≡ max 58 manager.now.room) }
         ensures slots { result.2.3.table ≡ result.0.table }
     {
         let (mut rights, slots) = Rights::new();

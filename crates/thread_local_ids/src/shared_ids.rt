@@ -1,5 +1,5 @@
 //! The ids of a table while threads share it.
-ghost use Rattle.std.specs.Prelude.{◌≡◌, ◌+◌, ◌-◌, ◌^◌, ◌<◌, ◌≤◌, ℕ, min, IsOk, IfOk, Err, alloc_error, length, [], true, false};
+ghost use Rattle.std.specs.Prelude.{◌≡◌, ◌+◌, ◌-◌, ◌^◌, ◌<◌, ◌≤◌, ℕ, min, max, IsOk, IfOk, Err, alloc_error, length, [], true, false};
 ghost use mathlib.Core.List.{IsPrefix};
 ghost use Rattle.thread_local_base.specs.IdMoves.{held_after, published_in};
 ghost use Rattle.thread_local_base.specs.Buckets.{values};
@@ -47,17 +47,17 @@ impl Model for SharedIds {
 impl SharedIds {
     /// The ids of a new table, none of them held. For contracts there are beside them the table's own
     /// right, the page from before any id is taken, the room, and the rights to its slots. Whoever has
-    /// the table's own right can show that another table has another name. The first 64 ids need no
-    /// memory.
+    /// the table's own right can show that another table has another name. It takes no memory, nor do
+    /// the first 58 ids.
     pub fn new(alloc: Global) -> (SharedIds, Right, Page, Room, SlotRights)
         ensures new { AreNew result }
-        ensures room { result.3.ids ≡ 0 }
+        ensures room { result.3.ids ≡ 58 }
     {
         SharedIds::of(ThreadIdManager::new(alloc))
     }
 
     /// The ids of a new table as from `new`, with room for `ids` of them, or for every id where that is
-    /// less. It asks for memory once, and not at all where `ids` is at most 64. It refuses where that
+    /// less. It asks for memory once, and not at all where `ids` is at most 58. It refuses where that
     /// memory isn't given.
     pub fn with_room(
         alloc: Global,
@@ -69,14 +69,15 @@ impl SharedIds {
         ensures room_in_range { IfOk result (λ made. made.3.ids ≤ 2 ^ 63 - 1) }
         ensures no_ids { ids ≡ 0 → IsOk result }
     {
-        Ok(SharedIds::of(ThreadIdManager::with_room(alloc, ids)?))
+        let managed = if ids > FIRST_IDS { ids } else { 0 };
+        Ok(SharedIds::of(ThreadIdManager::with_room(alloc, managed)?))
     }
 
     /// The ids of a new table, which the manager gives out from 58 on.
     fn of(manager: ThreadIdManager) -> (SharedIds, Right, Page, Room, SlotRights)
         requires { manager.held ≡ [] }
         ensures new { AreNew result }
-        ensures room { result.3.ids ≡ manager.room }
+        ensures room { result.3.ids ≡ max 58 manager.room }
     {
         let (first, log, (right, page, room, slots)) = FirstIds::begun(&manager);
         let further = Further {
@@ -95,7 +96,7 @@ impl SharedIds {
     /// Takes the least id that isn't held, with its right, and leaves the page of all that was done
     /// so far, where it is refused too. It waits only where all of the first ids are held, or where
     /// other threads take or return ids at the same time. `Memory` means out of memory, where all ids
-    /// from 58 on are held that there is room for; the first 64 need none. `Exhausted` means that
+    /// from 58 on are held that there is room for; the first 58 need none. `Exhausted` means that
     /// all 2^63 - 1 ids are held.
     #[inline]
     pub fn take<R: Wait>(&self, rt: &R, page: &mut Page, room: &Room) -> Result<Taken, LocalError>

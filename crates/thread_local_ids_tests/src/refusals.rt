@@ -1,4 +1,4 @@
-//! Ids that are refused memory: neither the first 64 nor a returned one needs any.
+//! Ids that are refused memory: of 64 the first alone needs any, and a returned one needs none.
 use crate::same::assert_same;
 use std::alloc::Global;
 use std::io::Print;
@@ -149,22 +149,12 @@ fn room_is_made_in_whole_words(rt: HostRuntime) -> Result<(), Fail> {
     Ok(())
 }
 
-/// Takes 64 ids, which need no memory, and one more.
-fn take_65(rt: &(impl Abort + Print), manager: &mut ThreadIdManager) -> Result<usize, LocalError> {
-    take_first(rt, manager, 64)?;
-    take(rt, manager, &[0, 1, 2, 3, 4, 5, 6, 7])
-}
-
 #[test]
-fn the_first_64_ids_need_no_memory(rt: HostRuntime) -> Result<(), Fail> {
+fn the_memory_of_an_id_serves_64(rt: HostRuntime) -> Result<(), Fail> {
     let mut manager = ThreadIdManager::new(rt.alloc());
-    assert_same(&rt, take_65(&rt, &mut manager)?, 64);
-    Ok(())
-}
-
-#[test]
-fn room_for_64_ids_needs_no_memory(rt: HostRuntime) -> Result<(), Fail> {
-    let mut manager = ThreadIdManager::with_room(rt.alloc(), 64)?;
-    assert_same(&rt, take_65(&rt, &mut manager)?, 64);
+    assert_same(&rt, take(&rt, &mut manager, &[])?, 0);
+    for id in 1..64usize {
+        assert_same(&rt, take_at_hand(&mut manager)?, id);
+    }
     Ok(())
 }

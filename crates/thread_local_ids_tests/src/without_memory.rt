@@ -24,11 +24,10 @@ fn count_given(
     Ok(count)
 }
 
-// The first word is the manager's own. Past it there is room for two and for three whole words, and
-// there may be more.
+// There is room for no word, for one, two and three whole words, and there may be more.
 #[test]
 fn room_for_ids_is_made_in_whole_words(rt: HostRuntime) -> Result<(), Fail> {
-    for (room, asked, given) in [(0, 65, 64), (3, 65, 64), (65, 128, 128), (129, 192, 192)] {
+    for (room, asked, given) in [(0, 1, 0), (3, 64, 64), (65, 128, 128), (129, 192, 192)] {
         let mut manager = ThreadIdManager::with_room(rt.alloc(), room)?;
         assert_same(&rt, count_given(&mut manager, rt.alloc(), asked)?, given);
     }

@@ -1,7 +1,7 @@
 //! The right to an id is out, as a `Right` with one holder, or it is in the table's `Rights`. The
 //! same holds of numbers that are no ids, which marks, the table's own right, its history, its room
 //! and its log are to. No type here has bytes, and no call does anything at run time.
-ghost use Rattle.std.specs.Prelude.{◌≡◌, ◌≢◌, ℕ, ◌==◌, ◌^◌, ◌-◌, true, false, List, [], if◌then◌else◌};
+ghost use Rattle.std.specs.Prelude.{◌≡◌, ◌≢◌, ℕ, ◌==◌, ◌^◌, ◌-◌, max, true, false, List, [], if◌then◌else◌};
 ghost use types.Logic.{sem};
 ghost use Rattle.thread_local_ids.specs.Rights.{is_out, right_owns, rights_own, slots_own};
 
@@ -77,11 +77,11 @@ impl Rights {
         }
     }
 
-    /// Notes for how many ids the table's manager has room. The right that becomes the note is one
-    /// to a number that no `usize` is.
+    /// Notes for how many ids the table has room: the first ones need none of the manager's. The right
+    /// that becomes the note is one to a number that no `usize` is.
     pub fn note_room(&mut self, manager: &ThreadIdManager) -> Room
         requires { is_out self.old.out (2 ^ 64) ≡ false }
-        ensures room { (result.table ≡ self.old.table) × (result.ids ≡ manager.now.room) }
+        ensures room { (result.table ≡ self.old.table) × (result.ids ≡ max 58 manager.now.room) }
         ensures table { self.new.table ≡ self.old.table }
         ensures out { (j : ℕ) → is_out self.new.out j ≡ (if 2 ^ 64 == j then true else is_out self.old.out j) }
     {

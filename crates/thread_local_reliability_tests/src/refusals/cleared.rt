@@ -149,8 +149,8 @@ fn a_cleared_table_of_no_capacity_keeps_no_slots(rt: HostRuntime) -> Result<(), 
     Ok(())
 }
 
-/// Whether 65 `Local`s are held at once: one more than there is room for without memory. A refusal
-/// is told.
+/// Whether 65 `Local`s are held at once: more than there is room for without memory. A refusal is
+/// told.
 fn are_65_held<R: Wait + Print>(table: &ThreadLocal<u32>, rt: &R, alloc: Global) -> bool {
     taken(table, rt, alloc, 65).is_some()
 }

@@ -1,81 +1,104 @@
-use Rattle.std.proofs.Common.{arith, refl}
-use Rattle.std.proofs.lemmas.List.{length_push}
-use Rattle.thread_local_base.specs.Entries.{entries_of}
-use Rattle.thread_local_base.proofs.Returned.{takes_returned, takes_another, none_returned, still_held}
-use Rattle.thread_local_base.proofs.IdBits.{seen_least, lowest_within, in_room, room_bounded, exhausted, without_bit, needs_memory}
-use Rattle.thread_local_base.proofs.IdBits.{pushed, takes_pushed}
+use Rattle.std.proofs.Common.{◌≡◌, ◌/◌, ◌%◌, ◌*◌, ◌-◌, ◌^◌, ◌<◌, arith, inl, inr, ap, ◌∙◌, bit_xor, set}
+use Rattle.std.proofs.lemmas.List.{length-set}
+use Rattle.thread_local_base.specs.Bits.{IsNextUnset}
+use Rattle.thread_local_base.specs.Held.{Takes}
+use Rattle.thread_local_base.specs.Words.{manager_of, IsManager}
+use Rattle.thread_local_base.proofs.Words.{exhausted, needs_memory, HasBit, word_at, has_bit, is_taken, is_take, bit_turned}
 use Rattle.thread_local_base.proofs.manager.ThreadIdManager.alloc.Goals as goal
-
-pub returns-then-self-id-clause-ok : goal.returns-then-self-id-clause-ok
-returns-then-self-id-clause-ok c =
-    let m = c.self.inside.bits in let is = c.self.invariant.bits in
-    rw (← c.self.view_is)
-    (takes_returned (entries_of m) c.self.inside.returned (omega (arith, c.if-self-id.true, seen_least m is))
-    (in_room m is) (room_bounded _))
+use Rattle.thread_local_base.proofs.manager.ThreadIdManager.alloc.Goals.{then-id-len+in_ok-push, else-id-len}
 
 pub returns-then-id-ge-IDS-clause-exhausted : goal.returns-then-id-ge-IDS-clause-exhausted
 returns-then-id-ge-IDS-clause-exhausted c = λ _.
-    let m = c.self.inside.bits in let is = c.self.invariant.bits in
-    let none = exhausted m is c.if-id-ge-IDS.true in let peak = none.peak in
-    rw (
-      ← c.self.view_is,
-      none_returned (entries_of m).held c.self.inside.returned (λ id below. none.full id (omega arith))
-          (omega (arith, c.if-self-id.false, seen_least m is)),
-    )
-    none
-
-pub returns-then-id-len-clause-ok : goal.returns-then-id-len-clause-ok
-returns-then-id-len-clause-ok c =
-    let m = c.self.inside.bits in let is = c.self.invariant.bits in
+    let m = c.self.inside in
     rw (← c.self.view_is)
-    (takes_another (entries_of m) (entries_of c.set_lowest.new.self) c.self.inside.returned _ c.self.invariant.returned
-    (omega (arith, c.if-self-id.false, seen_least m is)) c.set_lowest.ensures.takes)
+    (exhausted m.words.items _ _ c.self.invariant _ (rw (← c.deref.ensures.value) c.next_unset-id.ensures) c.if-id-ge-IDS.true)
 
-pub returns-in_err-push_zero-clause-memory : goal.returns-in_err-push_zero-clause-memory
-returns-in_err-push_zero-clause-memory c = λ _.
-    let m = c.self.inside.bits in let is = c.self.invariant.bits in
-    let needs = needs_memory m is (omega (arith, c.if-id-len.false, c.len.ensures)) in
-    rw (
-      ← c.self.view_is,
-      none_returned (entries_of m).held c.self.inside.returned needs.full (omega (arith, c.if-self-id.false, seen_least m is)),
+pub returns-in_err-push-clause-memory : goal.returns-in_err-push-clause-memory
+returns-in_err-push-clause-memory c = λ _.
+    let m = c.self.inside in
+    rw (← c.self.view_is)
+    (needs_memory m.words.items _ _ c.self.invariant c.next_unset-id.result
+    (rw (← c.deref.ensures.value) c.next_unset-id.ensures)
+    (omega (arith, c.if-id-ge-IDS.false)) (omega (arith, c.if-id-len.true, c.len.ensures, m.words.ok.0)))
+
+pub index_mut-requires : goal.index_mut-requires
+index_mut-requires c =
+    let m = c.self.inside in
+    let next : IsNextUnset m.words.items (m.full * 64) c.next_unset-id.result = rw (← c.deref.ensures.value) c.next_unset-id.ensures in
+    let range = c.if-id-ge-IDS.false in
+    let bit : HasBit m.words.items c.next_unset-id.result c.if-id-len.self-inside.words.items =
+    elim c.if-id-len.branch [
+      | then-id-len+in_ok-push w ↦
+          inr (
+            ap (λ m. m.words.items) w.self-inside-is ∙ w.in_ok-push.ensures.items,
+            omega (arith, w.if-id-len.true, c.len.ensures, m.words.ok.0),
+          )
+      | else-id-len w ↦
+          inl (
+            ap (λ m. m.words.items) w.self-inside-is,
+            omega (
+              arith,
+              w.if-id-len.false,
+              c.len.ensures,
+              m.words.ok.0,
+              word_at m.words.items _ _ c.self.invariant _ next (omega (arith, range)),
+            ),
+          )
+    ] in
+    let within = has_bit m.words.items _ _ _ _ c.self.invariant next (omega (arith, range)) bit in
+    omega (arith, within, c.if-id-len.self-inside.words.ok.0)
+
+-- the id's bit is set, in a word that may be new
+taken : (c : goal.After-self-3-1)
+    → IsManager
+    (set c.if-id-len.self-inside.words.items (c.next_unset-id.result / 64)
+    (bit_xor c.index_mut.result.now (1 * 2 ^ (c.next_unset-id.result % 64) % 2 ^ 64)))
+    c.max-self-inside.result (c.next_unset-id.result / 64)
+    × Takes (manager_of c.self.inside.words.items c.self.inside.peak)
+    (manager_of
+    (set c.if-id-len.self-inside.words.items (c.next_unset-id.result / 64)
+    (bit_xor c.index_mut.result.now (1 * 2 ^ (c.next_unset-id.result % 64) % 2 ^ 64)))
+    c.max-self-inside.result)
+    c.next_unset-id.result
+taken c =
+    let m = c.self.inside in
+    let id = c.next_unset-id.result in
+    let more = c.if-id-len.self-inside.words.items in
+    let next : IsNextUnset m.words.items (m.full * 64) c.next_unset-id.result = rw (← c.deref.ensures.value) c.next_unset-id.ensures in
+    let range : c.next_unset-id.result < 2 ^ 63 - 1 = let low = c.if-id-ge-IDS.false in omega (arith, low) in
+    let bit : HasBit m.words.items c.next_unset-id.result c.if-id-len.self-inside.words.items =
+    elim c.if-id-len.branch [
+      | then-id-len+in_ok-push w ↦
+          inr (
+            ap (λ m. m.words.items) w.self-inside-is ∙ w.in_ok-push.ensures.items,
+            omega (arith, w.if-id-len.true, c.len.ensures, m.words.ok.0),
+          )
+      | else-id-len w ↦
+          inl (
+            ap (λ m. m.words.items) w.self-inside-is,
+            omega (
+              arith,
+              w.if-id-len.false,
+              c.len.ensures,
+              m.words.ok.0,
+              word_at m.words.items _ _ c.self.invariant _ next range,
+            ),
+          )
+    ] in
+    let peak : c.if-id-len.self-inside.peak ≡ m.peak =
+    elim c.if-id-len.branch [
+      | then-id-len+in_ok-push w ↦ ap (λ m. m.peak) w.self-inside-is
+      | else-id-len w ↦ ap (λ m. m.peak) w.self-inside-is
+    ] in
+    let within = has_bit m.words.items _ _ _ _ c.self.invariant next range bit in
+    let turned = bit_turned more id c.index_mut.result.now within c.index_mut.ensures.value in
+    rw (c.max-self-inside.ensures, peak) (
+      is_taken m.words.items _ _ _ _ c.self.invariant next range bit _ turned (length-set more _ _),
+      is_take m.words.items _ _ _ _ c.self.invariant next range bit _ turned (length-set more _ _),
     )
-    needs
-
-pub set_lowest-requires-2-clause-are : goal.set_lowest-requires-2-clause-are
-set_lowest-requires-2-clause-are c =
-    let m = c.self.inside.bits in let is = c.self.invariant.bits in
-    pushed m _ is c.in_ok-push_zero.ensures.ok
-    (omega (arith, c.if-id-len.false, c.len.ensures, without_bit m is (omega (arith, c.if-id-len.false, c.len.ensures))))
-    refl refl refl
-
-pub set_lowest-requires-2-clause-room : goal.set_lowest-requires-2-clause-room
-set_lowest-requires-2-clause-room c =
-    let m = c.self.inside.bits in let is = c.self.invariant.bits in
-    rw c.in_ok-push_zero.ensures.ok
-    (omega (
-      arith,
-      length_push m.words 0,
-      lowest_within m is,
-      is.peak,
-      without_bit m is (omega (arith, c.if-id-len.false, c.len.ensures)),
-    ))
 
 pub invariant_of-self-2 : goal.invariant_of-self-2
-invariant_of-self-2 c =
-    let taken = takes_pushed c.self.inside.bits c.self.invariant.bits _ c.set_lowest-2.new.self c.in_ok-push_zero.ensures.ok
-    (omega (arith, c.if-id-len.false, c.len.ensures)) c.set_lowest-2.ensures.takes in
-    record {
-      bits = c.set_lowest-2.ensures.are;
-      returned =
-          still_held (entries_of c.self.inside.bits) (entries_of c.set_lowest-2.new.self) c.self.inside.returned _
-          c.self.invariant.returned taken;
-    }
+invariant_of-self-2 c = (taken c).0
 
 pub returns-clause-ok : goal.returns-clause-ok
-returns-clause-ok c =
-    let m = c.self.inside.bits in let is = c.self.invariant.bits in
-    let taken = takes_pushed c.self.inside.bits c.self.invariant.bits _ c.set_lowest-2.new.self c.in_ok-push_zero.ensures.ok
-    (omega (arith, c.if-id-len.false, c.len.ensures)) c.set_lowest-2.ensures.takes in
-    rw (← c.self.view_is)
-    (takes_another (entries_of m) (entries_of c.set_lowest-2.new.self) c.self.inside.returned _ c.self.invariant.returned
-    (omega (arith, c.if-self-id.false, seen_least m is)) taken)
+returns-clause-ok c = rw (← c.self.view_is) (taken c).1

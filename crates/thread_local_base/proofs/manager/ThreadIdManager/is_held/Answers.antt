@@ -1,13 +1,15 @@
-use Rattle.std.proofs.Common.{◌∙◌, sym, refl}
-use Rattle.std.proofs.lemmas.Bool.{ne_eqb}
-use Rattle.thread_local_base.specs.Entries.{entries_of}
-use Rattle.thread_local_base.proofs.HeldLaws.{is_held-without}
-use Rattle.thread_local_base.proofs.IdBits.{seen_bit}
+use Rattle.std.proofs.Common.{◌∙◌, ◌/◌, ◌%◌, ap, ℕ, arith}
+use Rattle.std.proofs.lemmas.List.{get_or_read}
+use Rattle.thread_local_base.specs.Bits.{is_set}
+use Rattle.thread_local_base.proofs.Word.{is_set-test}
+use Rattle.thread_local_base.proofs.Words.{seen_bit}
 use Rattle.thread_local_base.proofs.manager.ThreadIdManager.is_held.Goals as goal
 
-pub returns-then-self-id-clause-held : goal.returns-then-self-id-clause-held
-returns-then-self-id-clause-held c =
-    let m = c.self.inside.bits in let returned = c.self.inside.returned in let id = c.args.id in
+pub returns-then-id-len-clause-held : goal.returns-then-id-len-clause-held
+returns-then-id-len-clause-held c =
+    let m = c.self.inside in let id = c.args.id in
     rw (← c.self.view_is)
-    (c.is_set.ensures ∙ seen_bit m c.self.invariant.bits id
-    ∙ sym (is_held-without (entries_of m).held returned id ∙ rw (ne_eqb returned id c.if-self-id.true) refl))
+    (is_set-test c.index.result.now (id % 64)
+    ∙ ap (λ (word : ℕ). is_set word (id % 64)) (get_or_read m.words.items (id / 64) c.index.result.now
+    (omega (arith, c.if-id-len.true, c.len.ensures, m.words.ok.0)) c.index.ensures 0)
+    ∙ seen_bit m.words.items m.peak m.full c.self.invariant id)

@@ -1,4 +1,4 @@
-use Rattle.std.proofs.Common.{◌≡◌, ◌≢◌, ◌∙◌, ℕ, ◌-◌, ◌^◌, ◌≤◌, Bool, true, false, if◌then◌else◌}
+use Rattle.std.proofs.Common.{◌≡◌, ◌≢◌, ◌∙◌, ℕ, ◌-◌, ◌^◌, ◌≤◌, max, Bool, true, false, if◌then◌else◌}
 use Rattle.std.proofs.Common.{ap, refl, sym, subst, arith, length, List, ⊎_elim}
 use Rattle.std.proofs.lemmas.Bool.{eq-eqb, ne_eqb, cases_eq}
 use Rattle.std.specs.Prelude.{Err}
@@ -127,7 +127,7 @@ returns-else-not-is_full-2-clause-take c =
     let moves = sym c.into_page.ensures.1 in
     let full = full_holds c.look-word-in-Err.result.0 (held_after before) c.look-word-in-Err.ensures.word
     (sym c.is_full-in-Err.ensures ∙ c.if-not-is_full-2.false) in
-    let all : (n m : ℕ) → HoldsAllBelow m c.alloc.new.manager.held → n ≤ m → HoldsAllBelow n (held_after c.into_page.result.moves) = λ n m held few.
+    let all : (n m : ℕ) → HoldsAllBelow m c.alloc.new.manager.held → n ≤ max 58 m → HoldsAllBelow n (held_after c.into_page.result.moves) = λ n m held few.
     subst (λ (l : List IdMove). HoldsAllBelow n (held_after l)) moves
     (all_held n m c.self.inside.log.moves before c.self.inside.manager c.alloc.new.manager
     c.self.invariant.beyond c.in-Err.ensures.err c.look-word-in-Err.ensures.beyond full held few) in

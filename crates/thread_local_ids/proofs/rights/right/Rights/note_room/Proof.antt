@@ -1,5 +1,5 @@
 -- `note_room` splits off an element, and notes the number there.
-use Rattle.std.proofs.Common.{◌≡◌, ℕ, false, [], ◌∷◌, refl}
+use Rattle.std.proofs.Common.{◌≡◌, ℕ, max, false, [], ◌∷◌, refl}
 use mir.Syntax.{named}
 use mir.Val.{Val, vptr}
 use base.Fml.{ftrue, flft}
@@ -44,7 +44,7 @@ note_room_spec 𝓤 𝓛 𝓜 𝓡 wired =
     (λ κs. (mut_Tells (named 0) κs.0 R, (shr_Tells (named 1) κs.1.0 manager.the_row, tt))) (λ κs qs bounds a g are.
     let r = a.0 in let b = r.ref_ptr.0 in let o = r.ref_ptr.1 in
     let s = r.now in
-    let ids : ℕ = a.1.0.now.room in
+    let ids : ℕ = max 58 a.1.0.now.room in
     let p : Val = vptr a.1.0.ref_ptr.0 a.1.0.ref_ptr.1 in
     let new = record s { out = room_key ∷ s.out } in
     let Free : Type 0 = is_out s.out room_key ≡ false in
