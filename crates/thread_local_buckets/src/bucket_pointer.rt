@@ -163,7 +163,7 @@ impl<T: Drop> BucketPointer<T> {
             let flag_word = flag_word_at::<T>(len, index / 64);
             let flags = self.flags(index / 64, flag_word);
             if flags >> (index % 64) & 1 == 1 {
-                drop(self.take_and_store(index, flag_word, flags & !(1 << (index % 64))));
+                drop(self.take(index, flag_word));
             }
         }
     }
