@@ -43,10 +43,13 @@ of_zeros words count zeros few = record {
   full = λ id below. absurd (omega arith);
 }
 
+-- `new` is the words with one bit turned
+abbrev pub IsTurned : List ℕ → ℕ → List ℕ → Type 0
+IsTurned words bit new = bits_of new ≡ set (bits_of words) bit (not (is_set_in words bit))
+
 -- a bit is turned in its word, which was `old`
 pub bit_turned : (words : List ℕ) (bit old : ℕ) → bit / 64 < length words → old ≡ get_or words (bit / 64) old
-    → bits_of (set words (bit / 64) (bit_xor old (1 * 2 ^ (bit % 64) % 2 ^ 64)))
-    ≡ set (bits_of words) bit (not (is_set_in words bit))
+    → IsTurned words bit (set words (bit / 64) (bit_xor old (1 * 2 ^ (bit % 64) % 2 ^ 64)))
 bit_turned words bit old within read =
     bits_of-set words bit _ _ within
     (rw (← get_or_read words (bit / 64) old within read 0) (turn_bit old (bit % 64) (place_below bit)))
@@ -107,14 +110,11 @@ module _ (words : List ℕ) (peak full : ℕ) (is : IsManager words peak full) w
     word_at range = let within = least_within in let under = is.within in omega (arith, within, under)
 
     -- its bit is set
-    abbrev pub IsSet : List ℕ → Type 0
-    IsSet new = bits_of new ≡ set (bits_of words) id (not (is_set_in words id))
-
-    set_in : (new : List ℕ) → IsSet new → bits_of new ≡ set (bits_of words) id true
+    set_in : (new : List ℕ) → IsTurned words id new → bits_of new ≡ set (bits_of words) id true
     set_in new bits = bits ∙ ap (λ (b : Bool). set (bits_of words) id (not b)) next.unset
 
     -- the manager once it is set, where it has a word
-    pub taken : (new : List ℕ) → IsSet new → length new ≡ length words → id / 64 < length words → id < 2 ^ 63 - 1
+    pub taken : (new : List ℕ) → IsTurned words id new → length new ≡ length words → id / 64 < length words → id < 2 ^ 63 - 1
         → IsManager new (max peak (id + 1)) (id / 64)
     taken new turned many inside range =
         let bits = set_in new turned in let under = is.within in record {
@@ -127,7 +127,7 @@ module _ (words : List ℕ) (peak full : ℕ) (is : IsManager words peak full) w
               ∙ least_lower (bits_of words) k (omega (arith, first_unset)));
         }
 
-    pub taken_held : (new : List ℕ) → IsSet new → id / 64 < length words
+    pub taken_held : (new : List ℕ) → IsTurned words id new → id / 64 < length words
         → (manager_of new (max peak (id + 1))).held ≡ with_least (manager_of words peak).held
     taken_held new turned inside =
         let bits = set_in new turned in
@@ -145,7 +145,7 @@ module _ (words : List ℕ) (peak full : ℕ) (is : IsManager words peak full) w
         (λ same. apart (first_unset ∙ same))))
         (cases_eq id peak)
 
-    pub takes_it : (new : List ℕ) → IsSet new → length new ≡ length words → id / 64 < length words → id < 2 ^ 63 - 1
+    pub takes_it : (new : List ℕ) → IsTurned words id new → length new ≡ length words → id / 64 < length words → id < 2 ^ 63 - 1
         → Takes (manager_of words peak) (manager_of new (max peak (id + 1))) id
     takes_it new turned many inside range =
         let same : (manager_of new (max peak (id + 1))).room ≡ (manager_of words peak).room =
@@ -162,11 +162,11 @@ module _ (words : List ℕ) (peak full : ℕ) (is : IsManager words peak full) w
     pub has_word : id / 64 < length words
     has_word = omega (arith, freed_below, is.within)
 
-    freed_bits : (new : List ℕ) → bits_of new ≡ set (bits_of words) id (not (is_set_in words id))
+    freed_bits : (new : List ℕ) → IsTurned words id new
         → bits_of new ≡ set (bits_of words) id false
     freed_bits new turned = turned ∙ ap (λ (b : Bool). set (bits_of words) id (not b)) (seen_bit id ∙ here)
 
-    pub freed : (new : List ℕ) → bits_of new ≡ set (bits_of words) id (not (is_set_in words id)) → length new ≡ length words
+    pub freed : (new : List ℕ) → IsTurned words id new → length new ≡ length words
         → IsManager new peak (min full (id / 64))
     freed new turned many =
         let bits = freed_bits new turned in record {
@@ -178,7 +178,7 @@ module _ (words : List ℕ) (peak full : ℕ) (is : IsManager words peak full) w
               rw bits (get_or-set_other (bits_of words) id k false false (omega arith) ∙ is.full k (omega arith));
         }
 
-    pub gives_it : (new : List ℕ) → bits_of new ≡ set (bits_of words) id (not (is_set_in words id)) → length new ≡ length words
+    pub gives_it : (new : List ℕ) → IsTurned words id new → length new ≡ length words
         → Gives (manager_of words peak) (manager_of new peak) id
     gives_it new turned many =
         gives _ _ id here
@@ -228,7 +228,7 @@ module _ (words : List ℕ) (peak full id : ℕ) (more : List ℕ) (is : IsManag
   still_held : (manager_of more peak).held ≡ (manager_of words peak).held
   still_held = ⊎_elim (λ same. rw same.0 refl) (λ pushed. rw pushed.0 (take-push words peak is.within)) bit
 
-  module _ (new : List ℕ) (turned : bits_of new ≡ set (bits_of more) id (not (is_set_in more id))) (many : length new ≡ length more) where
+  module _ (new : List ℕ) (turned : IsTurned more id new) (many : length new ≡ length more) where
     pub is_taken : IsManager new (max peak (id + 1)) (id / 64)
     is_taken = taken more peak full are id still_next new turned many has_bit range
 
