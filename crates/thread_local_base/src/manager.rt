@@ -25,7 +25,7 @@ pub enum LocalError {
 /// ids have a bit, so that taking them needs no memory. The peak is the greatest number of ids held
 /// at one moment.
 ///
-/// No call waits. `with_room` and `alloc` take memory, 64 bits at a time.
+/// No call waits. Only `with_room` and `alloc` take memory, in whole words.
 ///
 /// Unlike in the Rust crate it is public, one for each table, and the memory for an id's bit is
 /// taken with the id, so that its return needs none. In the Rust crate `alloc` returns the bare id,
@@ -66,7 +66,7 @@ impl ThreadIdManager {
     }
 
     /// A manager with no id held, and room for `ids` ids, or for all ids where they are fewer. It
-    /// asks for memory once. `Err` means out of memory.
+    /// asks for memory once, and for no id not at all. `Err` means out of memory.
     pub fn with_room(alloc: Global, ids: usize) -> Result<ThreadIdManager, AllocError>
         ensures held { IfOk result (λ manager. manager.held ≡ []) }
         ensures room { IfOk result (λ manager. min ids (2 ^ 63 - 1) ≤ manager.room) }
