@@ -1,4 +1,3 @@
-mod Padding
 pub mod Reserved
 pub mod Counted
 pub mod Filled

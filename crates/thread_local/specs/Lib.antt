@@ -19,3 +19,6 @@ pub use Rattle.thread_local_shared_buckets.specs.Walks
 pub use Rattle.thread_local_shared_buckets.specs.TableView
 pub use Rattle.thread_local_base.specs.Capacity
 pub use Rattle.thread_local_base.specs.Judged
+pub use Rattle.thread_local_base.specs.Parts
+pub use Rattle.thread_local_base.specs.Containing
+pub mod Padding

@@ -3,8 +3,8 @@ ghost use Rattle.std.specs.Prelude.{◌≡◌};
 
 use std::fmt;
 use std::marker::Model;
-use thread_local_base::Judge;
 
+mod judged;
 mod lends;
 
 /// A value with room around it, so that the lines of 64 bytes that it lies on hold no other value
@@ -52,13 +52,6 @@ impl<T> Padded<T> {
             after: _,
         } = self;
         value
-    }
-}
-
-impl<T: Judge> Judge for Padded<T> {
-    /// Shows it by what the value's type shows.
-    fn judge() {
-        T::judge();
     }
 }
 

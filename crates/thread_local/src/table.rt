@@ -27,7 +27,7 @@ use std::marker::{Model, PhantomData};
 use std::sync::Wait;
 use thread_local_base::held::a_history_leaves_ids_held;
 use thread_local_base::{LocalError, Thread};
-pub use thread_local_base::{Judge, judge_sync, judge_value};
+pub use thread_local_base::{Judge, judge_sync};
 pub use thread_local_buckets::CapacityError;
 use thread_local_buckets::{Buckets, EntriesMut, IntoEntries, IntoIter, IterMut};
 use thread_local_ids::left::a_value_left_is_found;

@@ -30,7 +30,3 @@ pub mod Walking
 mod Words
 mod Views
 pub mod Alike
-pub mod Everywhere
-pub mod Empty
-pub mod Parts
-pub mod Containing

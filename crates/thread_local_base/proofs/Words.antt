@@ -18,13 +18,6 @@ use Rattle.thread_local_base.proofs.WordBits.{length-bits_of, get_or-bits_of, bi
 pub room_bounded : (words : List ℕ) (peak : ℕ) → (manager_of words peak).room ≤ 2 ^ 63 - 1
 room_bounded words peak = omega arith
 
--- room for the ids that are asked for, in whole words
-pub room_for : (ids bits count peak : ℕ) (words : List ℕ) → bits ≡ min ids (2 ^ 63 - 1) → count ≡ div_ceil bits 64
-    → words ≡ replicate count 0
-    → (min ids (2 ^ 63 - 1) ≤ (manager_of words peak).room) × ((manager_of words peak).room < min ids (2 ^ 63 - 1) + 64)
-room_for ids bits count peak words fewer counted zeros =
-    let many : length words ≡ count = ap length zeros ∙ length-replicate count 0 in (omega arith, omega arith)
-
 -- as many zeros as there are to be words
 pub zeros : (count before : ℕ) (none items : List ℕ) → none ≡ [] → before ≡ 0
     → items ≡ take count none ++ replicate (count - before) 0

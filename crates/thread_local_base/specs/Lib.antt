@@ -21,3 +21,5 @@ pub mod Text
 pub mod Words
 pub mod Judged
 pub mod Chain
+pub mod Parts
+pub mod Containing

@@ -32,11 +32,6 @@ moved sheet (Keep id offered) = sheet
 moved sheet (Rewrite others) = record sheet { values = λ id. option_map (others id) (sheet.values id) }
 moved sheet Clear = record new_sheet { capacity = sheet.capacity }
 
--- the sheet after a move, or as it was where there was none
-abbrev pub moved_if : {V : Type 0} → Sheet V → Option (Move V) → Sheet V
-moved_if sheet None = sheet
-moved_if sheet (Some move) = moved sheet move
-
 -- what a move requires: an id that is given back is held, one that is published is held and has no
 -- value, and one that is kept has a value
 abbrev pub IsAllowed : {V : Type 0} → Sheet V → Move V → Type 0

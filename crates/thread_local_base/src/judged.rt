@@ -15,28 +15,20 @@ pub fn judge_sync<T: Sync>()
     ensures judged { Judged T.row }
 {}
 
-/// For an impl of `Judge` of a type that threads may share. It shows what `judge` of the impl has to
-/// show, which `judge_sync` does not: the second clause is true only of a type that has a value, and
-/// `value` is one.
-pub fn judge_value<T: Sync>(value: &T)
-    ensures shareable { Shareable T.row }
-    ensures judged { Judged T.row }
-    ensures everywhere { JudgedEverywhere T.row }
-{
-    let _ = value;
-}
-
 /// A type for which the fact can be shown by `T::judge()`. Numbers, texts, times, atomics and cells
 /// have an impl, and so have containers and tuples of types that have one.
 ///
-/// Maps, `Arc` and locks have none: their impl would need to know that threads may share their parts,
-/// and a trait's method isn't told that. Call `judge_sync` for them.
+/// Maps, `Arc`, `ArcStr` and locks have none: a ghost member can't cite std's proofs that threads
+/// may share them. Call `judge_sync` for them.
 pub trait Judge {
-    /// Shows the fact, and shows it for every address of a value, as containers of the type need
-    /// it.
-    fn judge()
+    /// The fact for every address of a value, as containers of the type need it.
+    ghost everywhere: { JudgedEverywhere Self.row };
+
+    /// Shows the fact.
+    final fn judge()
         ensures judged { Judged Self.row }
-        ensures everywhere { JudgedEverywhere Self.row };
+        ensures everywhere { JudgedEverywhere Self.row }
+    {}
 }
 
 /// Shows that no type refutes the fact, so that asking for it excludes none.

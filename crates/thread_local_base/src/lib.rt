@@ -18,6 +18,6 @@ pub mod place;
 pub mod slots;
 pub mod walk;
 
-pub use judged::{Judge, judge_sync, judge_value, judged_alike, never_refuted};
+pub use judged::{Judge, judge_sync, judged_alike, never_refuted};
 pub use manager::{LocalError, ThreadIdManager};
 pub use place::{BUCKETS, Thread, bucket_size};

@@ -1,4 +1,9 @@
 //! Tables of types that judge themselves.
+ghost use Rattle.std.proofs.Common.{rules};
+ghost use Rattle.std.specs.Borrow.{u32};
+ghost use Rattle.thread_local.specs.Containing.{cell, text, vector};
+ghost use Rattle.thread_local.specs.Parts.{structure};
+ghost use Rattle.thread_local_contract_tests.specs.contracts.judged.Entry.{the_type};
 
 use crate::same::assert_same;
 use std::alloc::Global;
@@ -12,7 +17,7 @@ use std::sync::atomic::AtomicU64;
 use std::sync::atomic::Ordering::SeqCst;
 use std::time::Duration;
 use thread_local::ThreadLocal;
-use thread_local_base::{Judge, judge_value};
+use thread_local_base::Judge;
 
 /// Publishes a value in a table. Answers what the table has then.
 fn passed<T: Send + Drop, R: Wait>(table: ThreadLocal<T>, rt: &R, value: T) -> Option<T> {
@@ -49,9 +54,20 @@ struct Point {
 }
 
 impl Judge for Point {
-    fn judge() {
-        judge_value(&Point { across: 0, up: 0 });
-    }
+    ghost everywhere = { Prim.search rules };
+}
+
+/// One that threads may not share, for its cell.
+#[derive(Drop)]
+struct Entry {
+    size: u32,
+    reads: Cell<u32>,
+    name: String,
+    lines: Vec<u32>,
+}
+
+impl Judge for Entry {
+    ghost everywhere = { structure the_type (λ v. tt) (Prim.search rules, (cell u32, (text, (vector u32 (Prim.search rules), tt)))) };
 }
 
 fn plain_values<R: Wait>(
@@ -143,6 +159,21 @@ fn is_unset_cell_kept<R: Wait>(alloc: Global, rt: &R) -> bool {
     kept(alloc, rt, OnceCell::<u8>::new()).is_some_and(|it| it.get().is_none())
 }
 
+fn is_entry_kept<R: Wait>(alloc: Global, rt: &R) -> bool {
+    let Ok(name) = format!(in alloc; "seven") else {
+        return false;
+    };
+    let entry = Entry {
+        size: 2,
+        reads: Cell::new(3),
+        name,
+        lines: Vec::new(alloc),
+    };
+    kept(alloc, rt, entry).is_some_and(|it| {
+        (it.size, it.reads.get(), it.lines.len()) == (2, 3, 0) && it.name.as_str() == "seven"
+    })
+}
+
 fn values_around_others<R: Wait>(
     alloc: Global,
     rt: &R,
@@ -162,6 +193,7 @@ fn values_around_others<R: Wait>(
 
 #[test]
 fn tables_keep_values_of_parts(rt: HostRuntime) {
+    assert!(rt; is_entry_kept(rt.alloc(), &rt));
     assert_same(
         &rt,
         values_of_parts(rt.alloc(), &rt),

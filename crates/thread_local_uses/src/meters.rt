@@ -1,5 +1,9 @@
-//! Meters: a table of a struct of one's own with cells in it. Which of its fields names a thread is
-//! shown in `proofs/meters/MeterJudge/judge/Answers.antt`.
+//! Meters: a table of a struct of one's own with cells in it.
+ghost use Rattle.std.specs.Borrow.{u64};
+ghost use Rattle.thread_local.specs.Containing.{cell};
+ghost use Rattle.thread_local.specs.Parts.{structure};
+ghost use Rattle.thread_local_uses.specs.contracts.meters.Meter.{the_type};
+
 use std::cell::Cell;
 use std::sync::Wait;
 use thread_local::ThreadLocal;
@@ -13,7 +17,7 @@ pub struct Meter {
 }
 
 impl Judge for Meter {
-    fn judge() {}
+    ghost everywhere = { structure the_type (λ v. tt) (cell u64, (cell u64, tt)) };
 }
 
 /// Counts a request for each of `sizes`. False means that the `Local` or its slot was refused.
