@@ -3,11 +3,8 @@
 use Rattle.std.proofs.Common.{◌≡◌, not, ◌&&◌, Option, Bool, true, false, List, [], ◌∷◌, ◌++◌, Some, None, Result, Ok}
 use Rattle.std.proofs.Common.{Err, IsTrue, zero, suc, arith, refl, ap}
 use Rattle.std.specs.Prelude.{Contains}
-use Rattle.thread_local_base.specs.Answers.{View, Call, Get, GetOr, Found, Answered, Refused, Failed, view_after_or}
+use Rattle.thread_local_base.specs.Answers.{View, Call, Get, GetOr, Answered, Refused, Failed, view_after_or}
 use Rattle.thread_local_base.specs.Answers.{answer_or, answer, view_after, answers, view_after_all, Says}
-
-pub get : {V E : Type 0} (view : View V) → Says {E = E} view Get (Found view.value) view
-get view = record { answered = refl; leaves = refl }
 
 -- where the view has a value, that is the answer, and the view stays
 pub held : {V E : Type 0} (view : View V) (v : V) (create : Result V E) (refused : Bool)
@@ -33,12 +30,6 @@ created view v h = record { answered = rw h refl; leaves = rw h refl }
 pub failed : {V E : Type 0} (view : View V) (e : E) → view.value ≡ None
     → Says view (GetOr (Err e) false) (Failed e) (record { value = None; known = true })
 failed view e h = record { answered = rw h refl; leaves = rw h refl }
-
--- where the bucket is known to stand, no memory is asked for
-pub known : {V E : Type 0} (view : View V) (create : Result V E) → view.known ≡ true
-    → (answer view (GetOr create true) ≡ answer view (GetOr create false))
-    × (view_after view (GetOr create true) ≡ view_after view (GetOr create false))
-known view create k = (rw k refl, rw k refl)
 
 -- a further call is answered at the view after the calls before it
 pub answers-push : {V E : Type 0} (view : View V) (calls : List (Call V E)) (call : Call V E)

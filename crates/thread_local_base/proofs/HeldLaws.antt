@@ -124,12 +124,6 @@ least_above held n full =
     (λ above. omega arith)
     (cases_lt (least held) n)
 
--- an id that is taken was granted
-pub takes-granted : (old new : Manager) (id : ℕ) → Takes old new id → IsTrue (is_granted old false)
-takes-granted old new id taken =
-    let low = taken.in_range in
-    rw (ne_eqb (least old.held) (2 ^ 63 - 1) (λ same. omega (arith, taken.least))) refl
-
 -- with memory, a take is refused where all ids are held; without it, also where the room is full
 no_ids : (exhausted : Bool) → (not exhausted && true) ≡ false → exhausted ≡ true
 no_ids true none = refl

@@ -7,7 +7,6 @@ pub mod CapacityLaws
 pub mod SlotsLaws
 pub mod AnswersLaws
 pub mod CursorLaws
-pub mod LearntLaws
 pub mod RowLaws
 pub mod ValueLaws
 pub mod TakingLaws

@@ -1,7 +1,6 @@
 -- What each step of a manager makes of its words.
 use Rattle.std.proofs.Common.{◌≡◌, ℕ, suc, ◌+◌, ◌-◌, ◌*◌, ◌/◌, ◌%◌, ◌^◌, ◌<◌, ◌≤◌, min, max, Bool, true, false, List, []}
 use Rattle.std.proofs.Common.{◌∷◌, ◌++◌, length, take, set, get_or, replicate, bit_xor, ap, sym, ◌∙◌, arith, refl, ⊎_elim, not, IsTrue, ◌⊎◌}
-use Rattle.std.specs.Int.{div_ceil}
 use Rattle.std.proofs.lemmas.Bool.{cases_eq, cases_lt}
 use Rattle.std.proofs.lemmas.List.{length-replicate, length_push, length-take, get_or_read, get_or-set_other}
 use Rattle.std.proofs.Math.Seq.{take-nil, take-set-lt}

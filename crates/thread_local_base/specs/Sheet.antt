@@ -1,6 +1,6 @@
 -- A table as its users see it, and its moves: those of its history (take an id, give one back,
 -- publish a value), keep a value, rewrite values, clear.
-use Rattle.std.specs.Prelude.{◌≡◌, ℕ, List, [], Bool, Option, Some, None, option_map, IsTrue, IsSome, ⊤}
+use Rattle.std.specs.Prelude.{◌≡◌, ℕ, List, [], Bool, Option, None, option_map, IsTrue, IsSome, ⊤}
 use Rattle.thread_local_base.specs.Held.{is_held, with_least, without}
 use Rattle.thread_local_base.specs.IdMoves.{HistoryMove, Take, Give, Publish}
 use Rattle.thread_local_base.specs.Walk.{with_value}

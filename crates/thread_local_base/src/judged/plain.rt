@@ -1,7 +1,6 @@
 //! `Judge` for values without parts: numbers, times, atomics.
 ghost use Rattle.std.specs.Prelude.{pos};
 ghost use Rattle.std.proofs.Common.{inl, lit<, rules};
-ghost use Rattle.thread_local_base.specs.Judged.{JudgedEverywhere};
 ghost use Rattle.thread_local_base.specs.Chain.{chain_keyless};
 
 use crate::judged::Judge;

@@ -1,9 +1,6 @@
 use Rattle.thread_local_base.proofs.HeldLaws as laws
 use Rattle.thread_local_base.proofs.held.takes_are_granted.Goals as goal
 
-pub returns-clause-taken : goal.returns-clause-taken
-returns-clause-taken c = laws.takes-granted
-
 pub returns-clause-memory : goal.returns-clause-memory
 returns-clause-memory c = λ manager within range. (laws.needs-refused manager within, laws.refused-needs manager within range)
 

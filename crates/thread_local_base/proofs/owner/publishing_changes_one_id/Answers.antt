@@ -1,8 +1,5 @@
-use Rattle.thread_local_base.proofs.InsertingLaws.{published_values, published_stands}
+use Rattle.thread_local_base.proofs.InsertingLaws.{published_values}
 use Rattle.thread_local_base.proofs.owner.publishing_changes_one_id.Goals as goal
 
 pub returns-clause-values : goal.returns-clause-values
 returns-clause-values g c = λ contents bucket index v id table low inside. published_values contents bucket table low index v id inside
-
-pub returns-clause-stands : goal.returns-clause-stands
-returns-clause-stands g c = λ contents bucket index v other table low. published_stands contents bucket table low index v other
