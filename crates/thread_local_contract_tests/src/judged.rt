@@ -1,5 +1,5 @@
 //! Tables of types that judge themselves.
-ghost use Rattle.std.proofs.Common.{rules};
+ghost use Rattle.std.proofs.Common.{inl, pos, rules};
 ghost use Rattle.std.specs.Borrow.{u32};
 ghost use Rattle.thread_local.specs.Containing.{cell, text, vector};
 ghost use Rattle.thread_local.specs.Parts.{structure};
@@ -61,13 +61,14 @@ impl Judge for Point {
 #[derive(Drop)]
 struct Entry {
     size: u32,
+    offset: i32,
     reads: Cell<u32>,
     name: String,
     lines: Vec<u32>,
 }
 
 impl Judge for Entry {
-    ghost everywhere = { structure the_type (λ v. tt) (Prim.search rules, (cell u32, (text, (vector u32 (Prim.search rules), tt)))) };
+    ghost everywhere = { structure the_type (λ v. tt) (Prim.search rules, (inl (pos 0, Prim.search rules), (cell u32, (text, (vector u32 (Prim.search rules), tt))))) };
 }
 
 fn plain_values<R: Wait>(
@@ -165,12 +166,14 @@ fn is_entry_kept<R: Wait>(alloc: Global, rt: &R) -> bool {
     };
     let entry = Entry {
         size: 2,
+        offset: -4,
         reads: Cell::new(3),
         name,
         lines: Vec::new(alloc),
     };
     kept(alloc, rt, entry).is_some_and(|it| {
-        (it.size, it.reads.get(), it.lines.len()) == (2, 3, 0) && it.name.as_str() == "seven"
+        (it.size, it.offset, it.reads.get(), it.lines.len()) == (2, -4, 3, 0)
+            && it.name.as_str() == "seven"
     })
 }
 
