@@ -9,8 +9,7 @@ use Rattle.thread_local_base.proofs.RowLaws.{row_whole}
 use Rattle.thread_local_base.specs.Rows.{with_row, with_slot}
 use Rattle.thread_local_buckets.specs.declared.bucket_pointer.BucketPointer.{BucketPointer}
 use Rattle.thread_local_buckets.specs.declared.pointer_array.PointerArray.{PointerArray}
-use Rattle.thread_local_buckets.specs.Pointers.{null_pointer, with_pointer, pointers_with_value, slots_of, contents_of}
-use Rattle.thread_local_buckets.specs.LentValue.{with_slot_value}
+use Rattle.thread_local_buckets.specs.Pointers.{null_pointer, with_pointer, slots_of, contents_of}
 
 module _ {X : Type 0} where
   abbrev as_contents : List (List (Option X)) → Contents X
@@ -80,9 +79,3 @@ module _ {X : Type 0} where
       → ((i : ℕ) (d : BucketPointer X) → i < 63 → (slice_index_or s.pointers i d).slots ≡ [])
       → contents_of s ≡ no_contents
   no_contents_of s long each = ap as_contents (nulls s.pointers 63 long each)
-
-  pub value_changes : (s : PointerArray X) (b i : ℕ) (x : X)
-      → contents_of (pointers_with_value s b i x) ≡ with_slot (contents_of s) b i (Some x)
-  value_changes s b i x =
-      let old : BucketPointer X = slice_index_or s.pointers b null_pointer in
-      slot_changes s b old (with_slot_value old i x) i (Some x) refl refl

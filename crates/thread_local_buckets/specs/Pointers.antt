@@ -1,9 +1,8 @@
--- A table's pointers, their contents, and the pointers once one of them or a value changes.
+-- A table's pointers, their contents, and the pointers once one of them changes.
 use Rattle.std.specs.Prelude.{ℕ, List, Option, [], map, slice_set, slice_index_or}
 use denote.RawPtr.{null_ptr}
 use Rattle.thread_local_base.specs.Buckets.{Contents}
 use Rattle.thread_local_buckets.specs.declared.bucket_pointer.BucketPointer.{BucketPointer}
-use Rattle.thread_local_buckets.specs.LentValue.{with_slot_value}
 use Rattle.thread_local_buckets.specs.declared.pointer_array.PointerArray.{PointerArray}
 
 -- a null pointer
@@ -20,9 +19,3 @@ slots_of pointer = pointer.slots
 -- the contents of the blocks that the pointers point to
 abbrev pub contents_of : {X : Type 0} → PointerArray X → Contents X
 contents_of pointers = record { rows = map slots_of pointers.pointers }
-
--- the pointers with another value in a slot
-abbrev pub pointers_with_value : {X : Type 0} → PointerArray X → ℕ → ℕ → X → PointerArray X
-pointers_with_value pointers bucket index x =
-    with_pointer pointers bucket
-    (with_slot_value (slice_index_or pointers.pointers bucket null_pointer) index x)

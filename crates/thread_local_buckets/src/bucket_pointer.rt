@@ -75,22 +75,10 @@ impl<T> BucketPointer<T> {
         unsafe { *(self.at as *mut u64).add(flag_word) }
     }
 
-    /// Puts a value into an empty slot, and then sets its flag, in the word of this number.
-    #[inline]
-    pub fn publish(&mut self, index: usize, flag_word: usize, value: T)
-        requires in_block { index < length self.old.slots }
-        requires flag_word { flag_word ≡ flag_word_at T.row (length self.old.slots) (index / 64) }
-        requires empty { slot_value self.old.slots index ≡ None }
-        ensures { self.new.slots ≡ slice_set self.old.slots index (Some value) }
-    {
-        let flags = self.flags(index / 64, flag_word);
-        self.publish_and_store(index, flag_word, flags | 1 << (index % 64), value);
-    }
-
     /// Puts a value into an empty slot, and then stores `flags` as the word of this number, which is
     /// the slot's. `flags` are those of the slot's chunk, with this slot's set.
     #[inline]
-    fn publish_and_store(&mut self, index: usize, flag_word: usize, flags: u64, value: T)
+    pub fn publish_and_store(&mut self, index: usize, flag_word: usize, flags: u64, value: T)
         requires in_block { index < length self.old.slots }
         requires flag_word { flag_word ≡ flag_word_at T.row (length self.old.slots) (index / 64) }
         requires empty { slot_value self.old.slots index ≡ None }
@@ -105,30 +93,6 @@ impl<T> BucketPointer<T> {
             (at as *mut T).add(index).write(value);
             (at as *mut u64).add(flag_word).write(flags);
         }
-    }
-
-    /// `publish` where all slots of the block are empty, so that no flags need be read.
-    #[inline]
-    pub fn publish_first(&mut self, index: usize, flag_word: usize, value: T)
-        requires in_block { index < length self.old.slots }
-        requires flag_word { flag_word ≡ flag_word_at T.row (length self.old.slots) (index / 64) }
-        requires empty { (slot : ℕ) → slot_value self.old.slots slot ≡ None }
-        ensures { self.new.slots ≡ slice_set self.old.slots index (Some value) }
-    {
-        self.publish_and_store(index, flag_word, 1 << (index % 64), value);
-    }
-
-    /// Clears the flag of a slot, in the word of this number, and then moves its value out.
-    #[inline]
-    pub fn take(&mut self, index: usize, flag_word: usize) -> T
-        requires in_block { index < length self.old.slots }
-        requires flag_word { flag_word ≡ flag_word_at T.row (length self.old.slots) (index / 64) }
-        requires published { IsSome (slot_value self.old.slots index) }
-        ensures value { slot_value self.old.slots index ≡ Some result }
-        ensures after { self.new.slots ≡ slice_set self.old.slots index None }
-    {
-        let flags = self.flags(index / 64, flag_word);
-        self.take_and_store(index, flag_word, flags & !(1 << (index % 64)))
     }
 
     /// Stores `flags` as the word of this number, which is the slot's, and then moves the slot's
@@ -163,7 +127,7 @@ impl<T: Drop> BucketPointer<T> {
             let flag_word = flag_word_at::<T>(len, index / 64);
             let flags = self.flags(index / 64, flag_word);
             if flags >> (index % 64) & 1 == 1 {
-                drop(self.take(index, flag_word));
+                drop(self.take_and_store(index, flag_word, flags & !(1 << (index % 64))));
             }
         }
     }

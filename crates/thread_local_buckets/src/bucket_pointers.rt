@@ -52,7 +52,9 @@ impl<T> BucketPointers<T> {
         ensures { result ≡ no_contents }
     {
         BucketPointers {
-            pointers: PointerArray::null(),
+            pointers: PointerArray {
+                pointers: Default::default(),
+            },
             alloc,
             announced: AnnouncedBuckets { bits: FIRST_SEVEN },
         }
@@ -66,19 +68,6 @@ impl<T> BucketPointers<T> {
         ensures same { self.new ≡ self.old }
     {
         self.announced.bits
-    }
-
-    /// Publishes a value in the slot of a place, which must be empty.
-    #[inline]
-    pub fn publish(&mut self, thread: Thread, value: T)
-        requires in_bucket { thread.index < length (row self.old thread.bucket) }
-        requires empty { value_in self.old thread.bucket thread.index ≡ None }
-        ensures after { self.new ≡ with_slot self.old thread.bucket thread.index (Some value) }
-    {
-        let flag_word = flag_word_at::<T>(bucket_size(thread.bucket), thread.index / 64);
-        self.pointers
-            .pointer_mut(thread.bucket)
-            .publish(thread.index, flag_word, value);
     }
 
     /// Stores `flags` for a slot's chunk, and then moves the slot's value out. `flags` are the

@@ -7,7 +7,7 @@ ghost use Rattle.thread_local_base.specs.Place.{id_at};
 ghost use Rattle.thread_local_base.specs.Buckets.{row, stands, slots, values, no_contents};
 ghost use Rattle.thread_local_base.specs.Owned.{Owned, IsOwned};
 ghost use Rattle.thread_local_base.specs.Rows.{value_in};
-ghost use Rattle.thread_local_base.specs.Capacity.{binary_digits, reserves_bucket, reserved_slots};
+ghost use Rattle.thread_local_base.specs.Capacity.{reserves_bucket, reserved_slots};
 ghost use Rattle.thread_local_base.specs.Sheet.{moved};
 ghost use Rattle.thread_local_base.specs.Walk.{walk, paired, with_value};
 ghost use Rattle.thread_local_base.specs.Owner.{with_published, cleared_row, sheet_of, publish_or_keep};
@@ -113,7 +113,12 @@ impl<T> Buckets<T> {
         ensures not_too_large { result ≡ Err CapacityError.TooLarge → 2 ^ 63 ≤ capacity }
     {
         CapacityError::check(capacity)?;
-        let first = digits(capacity);
+        // As many as the capacity has binary digits.
+        let first = if capacity == 0 {
+            0
+        } else {
+            capacity.ilog2() as usize + 1
+        };
         let mut pointers = BucketPointers::new(alloc);
         for bucket in 0..first {
             pointers.ensure_bucket(bucket)?;
@@ -332,17 +337,4 @@ impl<T: Drop> IntoIterator for Buckets<T> {
             cursor,
         }
     }
-}
-
-/// How many binary digits a number has: one more than the number of the bucket that its predecessor
-/// lies in.
-fn digits(number: usize) -> usize
-    requires { number < 2 ^ 63 }
-    ensures value { result ≡ binary_digits number }
-    ensures bounded { result ≤ 63 }
-{
-    if number == 0 {
-        return 0;
-    }
-    number.ilog2() as usize + 1
 }

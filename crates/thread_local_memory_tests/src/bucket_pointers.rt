@@ -23,7 +23,7 @@ fn there_and_back<T: Send + Drop>(alloc: Global, first: T, second: T) -> Result<
 {
     let mut pointers = BucketPointers::new(alloc);
     pointers.ensure_bucket(3)?;
-    pointers.publish(place(3, 5), first);
+    pointers.publish_or_drop(place(3, 5), first);
     let value = pointers.get_mut(place(3, 5));
     Ok(replace(value, second))
 }
@@ -39,7 +39,7 @@ fn written_over<T: Send + Drop>(
 {
     let mut pointers = BucketPointers::new(alloc);
     pointers.ensure_bucket(4)?;
-    pointers.publish(place(4, 0), first);
+    pointers.publish_or_drop(place(4, 0), first);
     *pointers.get_mut(place(4, 0)) = second;
     let value = pointers.get_mut(place(4, 0));
     Ok(replace(value, third))
@@ -103,7 +103,7 @@ fn text_written_over(alloc: Global) -> Result<String, AllocError> {
 fn seen_beside(alloc: Global) -> Result<[bool; 4], AllocError> {
     let mut pointers = BucketPointers::new(alloc);
     pointers.ensure_bucket(2)?;
-    pointers.publish(place(2, 3), 1u32);
+    pointers.publish_or_drop(place(2, 3), 1u32);
     Ok([
         pointers.is_published(place(2, 3)),
         pointers.is_published(place(2, 2)),

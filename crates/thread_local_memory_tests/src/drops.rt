@@ -36,11 +36,11 @@ where
     pointers.ensure_bucket(0)?;
     pointers.ensure_bucket(1)?;
     pointers.ensure_bucket(2)?;
-    pointers.publish(place(0, 0), make());
-    pointers.publish(place(1, 0), make());
-    pointers.publish(place(1, 1), make());
-    pointers.publish(place(2, 1), make());
-    pointers.publish(place(2, 3), make());
+    pointers.publish_or_drop(place(0, 0), make());
+    pointers.publish_or_drop(place(1, 0), make());
+    pointers.publish_or_drop(place(1, 1), make());
+    pointers.publish_or_drop(place(2, 1), make());
+    pointers.publish_or_drop(place(2, 3), make());
     if clears {
         pointers.clear(0);
     }

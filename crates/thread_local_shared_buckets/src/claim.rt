@@ -446,7 +446,8 @@ fn filled<T>(block: Block<T, Global>, alloc: &Global, thread: Thread, value: T) 
 {
     let mut pointer = BucketPointer::default();
     pointer.lay(block);
-    pointer.publish_first(thread.index, flag_word_of::<T>(thread), value);
+    let flags = 1 << (thread.index % 64);
+    pointer.publish_and_store(thread.index, flag_word_of::<T>(thread), flags, value);
     pointer.lift(alloc)
 }
 
@@ -467,6 +468,6 @@ pub(crate) fn emptied<T>(
 {
     let mut pointer = BucketPointer::default();
     pointer.lay(block);
-    let value = pointer.take(thread.index, flag_word_of::<T>(thread));
+    let value = pointer.take_and_store(thread.index, flag_word_of::<T>(thread), 0);
     (value, pointer.lift(alloc))
 }

@@ -21,6 +21,8 @@ impl<T> BucketPointers<T> {
             (λ x. with_slot self.old thread.bucket thread.index (Some x))) }
         ensures value { value_in self.old thread.bucket thread.index ≡ Some result.now }
     {
-        self.pointers.get_mut(thread.bucket, thread.index)
+        self.pointers
+            .pointer_mut(thread.bucket)
+            .get_mut(thread.index)
     }
 }

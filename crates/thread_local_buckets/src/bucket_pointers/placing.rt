@@ -5,7 +5,7 @@ ghost use Rattle.thread_local_base.specs.Rows.{value_in, with_slot};
 ghost use Rattle.thread_local_base.specs.Owner.{with_bucket};
 
 use super::BucketPointers;
-use crate::{Block, FlagSource};
+use crate::{Block, FlagSource, flag_word_at};
 use std::alloc::AllocError;
 use thread_local_base::{Thread, bucket_size};
 
@@ -50,8 +50,15 @@ impl<T: Drop> BucketPointers<T> {
         ensures published { value_in self.old thread.bucket thread.index ≡ None
             → self.new ≡ with_slot self.old thread.bucket thread.index (Some value) }
     {
-        if !self.is_published(thread) {
-            self.publish(thread, value);
+        let size = bucket_size(thread.bucket);
+        let chunk = thread.index / 64;
+        let flags = self.flags(thread.bucket, size, chunk);
+        if flags >> (thread.index % 64) & 1 != 1 {
+            let flags = flags | 1 << (thread.index % 64);
+            let flag_word = flag_word_at::<T>(size, chunk);
+            self.pointers
+                .pointer_mut(thread.bucket)
+                .publish_and_store(thread.index, flag_word, flags, value);
         }
     }
 }

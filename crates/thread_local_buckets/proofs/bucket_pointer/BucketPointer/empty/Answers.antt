@@ -1,12 +1,14 @@
 -- The search for these takes a second.
-use Rattle.std.proofs.Common.{◌≡◌, ◌≢◌, ℕ, zero, suc, ◌+◌, ◌/◌, ◌%◌, ◌^◌, ◌<◌, bit_and, false, IsSome, List, [], ◌∷◌, length, slice_set}
+use Rattle.std.proofs.Common.{◌≡◌, ◌≢◌, ℕ, zero, suc, ◌+◌, ◌*◌, w64, ◌/◌, ◌%◌, ◌^◌, ◌<◌, bit_and, false, IsSome, List, [], ◌∷◌, length, slice_set}
 use Rattle.std.proofs.Common.{Option, None, Some, is_some, refl, sym, ap, ◌∙◌, subst, arith, ⊎_elim}
 use Rattle.std.proofs.lemmas.Bool.{cases_eq, eq-eqb, ne_eqb}
 use Rattle.std.proofs.lemmas.List.{get_or-set_same, get_or-set_other, length-set}
 use Rattle.thread_local_buckets.specs.Slots.{slot_value, empty_slots, flag_word_at}
 use Rattle.thread_local_buckets.specs.contracts.bucket_pointer.BucketPointer.flags.{T-row}
 use Rattle.thread_local_buckets.specs.declared.bucket_pointer.BucketPointer.{BucketPointer}
-use Rattle.thread_local_buckets.proofs.ChunkFlags.{flag_read}
+use Rattle.std.specs.Int.{bit_not}
+use Rattle.thread_local_base.proofs.Word.{clear_bit, place_below}
+use Rattle.thread_local_buckets.proofs.ChunkFlags.{HasFlags, flag_read, flags_changed}
 use Rattle.thread_local_buckets.proofs.bucket_pointer.BucketPointer.empty.Goals as goal
 use Rattle.thread_local_buckets.proofs.bucket_pointer.BucketPointer.empty.Goals.{then-flags-index-eq1, else-flags-index-eq1}
 
@@ -67,22 +69,26 @@ pub flags-flags-requires-clause-flag_word : goal.flags-flags-requires-clause-fla
 flags-flags-requires-clause-flag_word g c =
     c.flag_word_at-flag_word.ensures ∙ ap (λ (n : ℕ). flag_word_at (T-row g.row.T) n (c.slots.index / 64)) (sym c.slots.invariant.whole)
 
-pub take-requires : goal.take-requires
-take-requires g c =
+pub take_and_store-requires : goal.take_and_store-requires
+take_and_store-requires g c =
     let slots = c.slots.self.slots in
     let index = c.slots.index in
     let read = c.flags-flags in
     let back = sym read.ensures.same in
     let whole = sym c.slots.invariant.whole in
+    let near : index < length slots = subst (λ (n : ℕ). index < n) whole c.slots-test.true in
     record {
-      in_block = subst (λ (later : BucketPointer g.row.T.Denot). index < length later.slots) back
-          (subst (λ (n : ℕ). index < n) whole c.slots-test.true);
+      in_block = subst (λ (later : BucketPointer g.row.T.Denot). index < length later.slots) back near;
       flag_word = c.flag_word_at-flag_word.ensures
           ∙ ap (λ (n : ℕ). flag_word_at (T-row g.row.T) n (index / 64)) whole
           ∙ ap (λ (later : BucketPointer g.row.T.Denot). flag_word_at (T-row g.row.T) (length later.slots) (index / 64)) back;
       published = subst (λ (later : BucketPointer g.row.T.Denot). IsSome (slot_value later.slots index)) back
           (flag_read slots index read.result read.ensures.value
           ∙ eq-eqb (bit_and (read.result / 2 ^ (index % 64)) 1) 1 c.if-flags-index-eq1.true);
+      flags = subst (λ (later : BucketPointer g.row.T.Denot). HasFlags (slice_set later.slots index None) (index / 64)
+          (bit_and read.result (bit_not w64 (1 * 2 ^ (index % 64) % 2 ^ 64))))
+          back
+          (flags_changed slots index None read.result _ near read.ensures.value (clear_bit read.result (index % 64) (place_below index)));
     }
 
 pub slots-preserved : goal.slots-preserved
@@ -94,7 +100,7 @@ slots-preserved g c =
     elim c.if-flags-index-eq1.branch [
       | then-flags-index-eq1 w ↦
           let is : new ≡ slice_set old index None =
-          ap (λ p. p.slots) w.self-is ∙ w.take.ensures.after ∙ ap (λ p. slice_set p.slots index None) c.flags-flags.ensures.same in
+          ap (λ p. p.slots) w.self-is ∙ w.take_and_store.ensures.after ∙ ap (λ p. slice_set p.slots index None) c.flags-flags.ensures.same in
           let more = emptied old new index c.args.len kept.whole c.slots-test.true kept.empty is in
           record { whole = more.0; empty = more.1 }
       | else-flags-index-eq1 w ↦

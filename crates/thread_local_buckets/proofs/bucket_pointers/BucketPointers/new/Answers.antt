@@ -1,11 +1,16 @@
-use Rattle.std.proofs.Common.{subst, sym}
-use Rattle.thread_local_base.specs.Buckets.{Contents}
-use Rattle.thread_local_buckets.specs.Announced.{Announces}
-use Rattle.thread_local_buckets.proofs.Announcing.{Announces-new}
+use Rattle.std.proofs.Common.{◌≡◌, subst, sym}
+use Rattle.thread_local_base.specs.Buckets.{Contents, no_contents}
+use Rattle.thread_local_base.proofs.FillingLaws.{IsTable-no_contents}
+use Rattle.thread_local_buckets.proofs.Announcing.{IsAnnounced, Announces-new}
+use Rattle.thread_local_buckets.proofs.ContentsOf.{no_contents_of}
 use Rattle.thread_local_buckets.proofs.bucket_pointers.BucketPointers.new.Goals as goal
 
 pub invariant_of-result : goal.invariant_of-result
-invariant_of-result g c = (
-  c.null.ensures.table,
-  subst (λ (z : Contents g.row.T.Denot). Announces 127 z) (sym c.null.ensures.contents) Announces-new,
-)
+invariant_of-result g c =
+    subst (λ (z : Contents g.row.T.Denot). IsAnnounced 127 z)
+    (sym (no_contents_of (record { pointers = c.default.result }) c.default.ensures.long (λ i d near. c.default.ensures.at i d near)))
+    (IsTable-no_contents _, Announces-new)
+
+pub returns : goal.returns
+returns g c =
+    no_contents_of (record { pointers = c.default.result }) c.default.ensures.long (λ i d near. c.default.ensures.at i d near)
