@@ -1,8 +1,6 @@
 -- How many values the flags of a chunk count.
-use Rattle.std.proofs.Common.{◌≡◌, ◌≢◌, ◌⊎◌, inl, inr, ℕ, ◌+◌, ◌-◌, ◌*◌, ◌/◌, ◌%◌, ◌^◌, ◌<◌, ◌≤◌, min, length}
-use Rattle.std.proofs.Common.{zero, suc, [], false, count_ones, is_some, sym, ap, subst, ◌∙◌, arith, ⊎_elim}
-use Rattle.std.proofs.lemmas.Bool.{cases_lt}
-use Rattle.std.proofs.lemmas.Nat.{pow_below, pow-add, zero_from_ones}
+use Rattle.std.proofs.Common.{◌≡◌, ℕ, ◌+◌, ◌-◌, ◌*◌, ◌/◌, ◌^◌, ◌<◌, ◌≤◌, min, length}
+use Rattle.std.proofs.Common.{zero, suc, [], false, count_ones, is_some, sym, ap, subst, ◌∙◌, arith}
 use Rattle.thread_local_base.specs.Bits.{is_set, IsLowestSet, IsWordBut}
 use Rattle.thread_local_base.specs.Place.{id_at}
 use Rattle.thread_local_base.specs.Buckets.{Contents, row, values}
@@ -11,63 +9,44 @@ use Rattle.thread_local_base.specs.Counting.{count_below}
 use Rattle.thread_local_base.specs.Walk.{walk}
 use Rattle.thread_local_base.proofs.TakingLaws.{count_below-absent, count_below-fits, count_below-walk}
 use Rattle.thread_local_buckets.specs.Announced.{AreAhead}
+use Rattle.thread_local_buckets.specs.Counted.{counted_to}
 use Rattle.thread_local_buckets.proofs.Passing.{Takes, takes, none_ahead}
 use Rattle.thread_local_buckets.proofs.CountingLaws.{count_below-chunk}
 
 module _ {V : Type 0} (first now : Contents V) (b k word : ℕ) (same : now ≡ first)
     (whole : length (row first b) ≡ 2 ^ b) (fits : word < 2 ^ 64)
     (flags : (bit : ℕ) → bit < 64 → is_set word bit ≡ is_some (value_in now b (k * 64 + bit))) where
-  -- how many values there were at first before the slot at this index
-  abbrev first_to : ℕ → ℕ
-  first_to i = count_below (values first) (id_at b i)
-
-  chunk_adds : k * 64 ≤ 2 ^ b → first_to (min ((k + 1) * 64) (2 ^ b)) ≡ first_to (k * 64) + count_ones word
-  chunk_adds low =
-      count_below-chunk first b k word whole low
-      (λ bit within. flags bit within ∙ ap (λ w. is_some (value_in w b (k * 64 + bit))) same) fits
+  abbrev to : ℕ → ℕ
+  to = counted_to first b
 
   -- a further chunk adds what its word counts
-  pub chunk_counted : (base count : ℕ) → k < (2 ^ b + 63) / 64
-      → base + count ≡ first_to (min (k * 64) (2 ^ b))
-      → base + (count + count_ones word) ≡ first_to (min ((k + 1) * 64) (2 ^ b))
+  pub chunk_counted : (base count : ℕ) → k < (2 ^ b + 63) / 64 → base + count ≡ to k
+      → base + (count + count_ones word) ≡ to (k + 1)
   chunk_counted base count inside counted =
       let here : min (k * 64) (2 ^ b) ≡ k * 64 = omega arith in
-      let before : base + count ≡ first_to (k * 64) = counted ∙ ap first_to here in
-      let more = chunk_adds (omega arith) in
+      let before : base + count ≡ count_below (values first) (id_at b (k * 64)) =
+      counted ∙ ap (λ (i : ℕ). count_below (values first) (id_at b i)) here in
+      let more =
+      count_below-chunk first b k word whole (omega arith)
+      (λ bit within. flags bit within ∙ ap (λ w. is_some (value_in w b (k * 64 + bit))) same) fits in
       omega (arith, before, more)
 
-  -- a chunk of 64 slots adds what its word counts
-  pub whole_counted : (k + 1) * 64 ≤ 2 ^ b → first_to ((k + 1) * 64) ≡ first_to (k * 64) + count_ones word
-  whole_counted inside =
-      let end : min ((k + 1) * 64) (2 ^ b) ≡ (k + 1) * 64 = omega arith in
-      let more = chunk_adds (omega arith) in
-      let next = ap first_to end in
-      omega (arith, more, next)
-
-  -- a word that is 0 counts nothing
-  pub none_counted : (k + 1) * 64 ≤ 2 ^ b → word ≡ 0 → first_to (k * 64) ≡ first_to ((k + 1) * 64)
+  -- and nothing where that word is 0
+  pub none_counted : k < (2 ^ b + 63) / 64 → word ≡ 0 → to k ≡ to (k + 1)
   unfolding lib.Count.ones
-  none_counted inside unset = let none : count_ones word ≡ 0 = ap count_ones unset in omega (arith, whole_counted inside, none)
+  none_counted inside unset =
+      let none : count_ones word ≡ 0 = ap count_ones unset in
+      omega (arith, none, chunk_counted (to k) 0 inside (omega arith))
 
-  -- and any other counts something
-  pub some_counted : (k + 1) * 64 ≤ 2 ^ b → word ≢ 0 → first_to (k * 64) < first_to ((k + 1) * 64)
-  some_counted inside set =
-      let some : count_ones word ≢ 0 = λ none. set (zero_from_ones word none) in
-      omega (arith, whole_counted inside, some)
-
--- a bucket of 64 slots and more has whole chunks
-whole_chunks : (b : ℕ) → (2 ^ b < 64) ⊎ (2 ^ b % 64 ≡ 0)
-whole_chunks b =
-    ⊎_elim
-    (λ (small : b < 6). inl (pow_below b 6 small))
-    (λ (large : 6 ≤ b).
-    let parts : 2 ^ b ≡ 2 ^ (b - 6) * 64 = (let sum : b ≡ b - 6 + 6 = omega arith in ap (λ i. 2 ^ i) sum ∙ pow-add 2 (b - 6) 6) in
-    inr (omega arith))
-    (cases_lt b 6)
-
--- groups of eight chunks are inside their bucket
-pub groups_inside : (b groups : ℕ) → groups ≤ (2 ^ b + 63) / 64 / 8 → groups * 8 * 64 ≤ 2 ^ b
-groups_inside b groups few = ⊎_elim (λ (small : 2 ^ b < 64). omega arith) (λ (whole : 2 ^ b % 64 ≡ 0). omega arith) (whole_chunks b)
+-- what part of a bucket adds, which is the same for the pointers as they were at first
+pub part_counted : {V : Type 0} (first now : Contents V) (b from to base count more : ℕ) → now ≡ first
+    → counted_to now b from + more ≡ counted_to now b to
+    → base + count ≡ counted_to first b from
+    → base + (count + more) ≡ counted_to first b to
+part_counted first now b from to base count more same told counted =
+    let here : counted_to first b from + more ≡ counted_to first b to =
+    subst (λ (w : Contents _). counted_to w b from + more ≡ counted_to w b to) same told in
+    omega (arith, here, counted)
 
 -- buckets that don't stand add none
 pub absent_counted : {V : Type 0} (c : Contents V) (first n : ℕ)

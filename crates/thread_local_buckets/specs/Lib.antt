@@ -2,6 +2,7 @@ pub mod Announced
 pub mod Pointers
 pub mod LentValue
 pub mod PointerOwns
+pub mod Counted
 pub mod Cursor
 pub mod Slots
 pub mod Retired

@@ -1,11 +1,12 @@
 //! Counting the values of a table by the flags of its slots, 64 at a time.
-ghost use Rattle.std.specs.Prelude.{◌≡◌, ◌≢◌, ◌+◌, ◌*◌, ◌/◌, ◌^◌, ◌<◌, ◌≤◌, min, length};
+ghost use Rattle.std.specs.Prelude.{◌≡◌, ◌+◌, ◌/◌, ◌^◌, ◌<◌, ◌≤◌, length};
 ghost use Rattle.thread_local_base.specs.Place.{id_at};
 ghost use Rattle.thread_local_base.specs.Buckets.{row, values};
 ghost use Rattle.thread_local_base.specs.Walk.{walk};
 ghost use Rattle.thread_local_base.specs.Counting.{count_below};
 ghost use Rattle.thread_local_base.specs.Owner.{emptied};
 ghost use Rattle.thread_local_buckets.specs.Announced.{Announces, AreAhead};
+ghost use Rattle.thread_local_buckets.specs.Counted.{counted_to};
 ghost use Rattle.thread_local_buckets.specs.Cursor.{values_left, IsOwnerWalk};
 
 use super::BucketPointers;
@@ -14,29 +15,6 @@ use crate::{FlagSource, OwnerCursor, RawIter, take_first_bucket};
 use thread_local_base::bucket_size;
 
 impl<T> BucketPointers<T> {
-    /// The flags of eight chunks, from this one on, or-ed together. They are 0 exactly where none of
-    /// the chunks has a value.
-    #[inline]
-    fn any_of_eight(&mut self, bucket: usize, size: usize, chunk: usize) -> u64
-        requires in_table { bucket < 63 }
-        requires size { size ≡ 2 ^ bucket }
-        requires whole { length (row self.old bucket) ≡ 2 ^ bucket }
-        requires inside { (chunk + 8) * 64 ≤ 2 ^ bucket }
-        ensures same { self.new ≡ self.old }
-        ensures none { result ≡ 0
-            → count_below (values self.old) (id_at bucket (chunk * 64))
-            ≡ count_below (values self.old) (id_at bucket ((chunk + 8) * 64)) }
-        ensures some { result ≢ 0
-            → count_below (values self.old) (id_at bucket (chunk * 64))
-            < count_below (values self.old) (id_at bucket ((chunk + 8) * 64)) }
-    {
-        let mut any = 0;
-        for at in 0..8 {
-            any |= self.flags(bucket, size, chunk + at);
-        }
-        any
-    }
-
     /// How many values the chunks `from..to` of a bucket have.
     #[inline]
     fn count_in_chunks(&mut self, bucket: usize, size: usize, from: usize, to: usize) -> usize
@@ -46,8 +24,7 @@ impl<T> BucketPointers<T> {
         requires order { from ≤ to }
         requires inside { to ≤ (2 ^ bucket + 63) / 64 }
         ensures same { self.new ≡ self.old }
-        ensures counted { count_below (values self.old) (id_at bucket (min (from * 64) (2 ^ bucket))) + result
-            ≡ count_below (values self.old) (id_at bucket (min (to * 64) (2 ^ bucket))) }
+        ensures counted { counted_to self.old bucket from + result ≡ counted_to self.old bucket to }
     {
         let mut count = 0;
         for chunk in from..to {
@@ -56,8 +33,28 @@ impl<T> BucketPointers<T> {
         count
     }
 
-    /// How many values the bucket has. The caller passes the bucket's size. Eight words that are
-    /// all 0 are skipped at once.
+    /// How many values eight chunks have, from this one on. They are counted only where not all of
+    /// their words are 0.
+    #[inline]
+    fn count_in_eight(&mut self, bucket: usize, size: usize, chunk: usize) -> usize
+        requires in_table { bucket < 63 }
+        requires size { size ≡ 2 ^ bucket }
+        requires whole { length (row self.old bucket) ≡ 2 ^ bucket }
+        requires inside { chunk + 8 ≤ (2 ^ bucket + 63) / 64 }
+        ensures same { self.new ≡ self.old }
+        ensures counted { counted_to self.old bucket chunk + result ≡ counted_to self.old bucket (chunk + 8) }
+    {
+        let mut any = 0;
+        for at in 0..8 {
+            any |= self.flags(bucket, size, chunk + at);
+        }
+        if any == 0 {
+            return 0;
+        }
+        self.count_in_chunks(bucket, size, chunk, chunk + 8)
+    }
+
+    /// How many values the bucket has. The caller passes the bucket's size.
     fn count_in_bucket(&mut self, bucket: usize, size: usize) -> usize
         requires in_table { bucket < 63 }
         requires whole { length (row self.old bucket) ≡ 2 ^ bucket }
@@ -70,10 +67,7 @@ impl<T> BucketPointers<T> {
         let groups = chunks / 8;
         let mut count = 0;
         for group in 0..groups {
-            let first = group * 8;
-            if self.any_of_eight(bucket, size, first) != 0 {
-                count += self.count_in_chunks(bucket, size, first, first + 8);
-            }
+            count += self.count_in_eight(bucket, size, group * 8);
         }
         count + self.count_in_chunks(bucket, size, groups * 8, chunks)
     }

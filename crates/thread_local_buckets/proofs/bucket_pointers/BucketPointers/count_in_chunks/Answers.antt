@@ -2,8 +2,8 @@ use Rattle.std.proofs.Common.{◌≡◌, ℕ, ◌+◌, ◌*◌, ◌^◌, ◌≤�
 use Rattle.std.proofs.Math.Nat.{two-pow-succ}
 use Rattle.thread_local_base.specs.Buckets.{Contents, row, values}
 use Rattle.thread_local_base.specs.Place.{id_at}
-use Rattle.thread_local_base.specs.Counting.{count_below}
 use Rattle.thread_local_base.proofs.TakingLaws.{count_below-le}
+use Rattle.thread_local_buckets.specs.Counted.{counted_to}
 use Rattle.thread_local_buckets.proofs.Counting.{chunk_counted}
 use Rattle.thread_local_buckets.proofs.bucket_pointers.BucketPointers.count_in_chunks.Goals as goal
 
@@ -23,7 +23,7 @@ overflow_add-count g c =
     let kept = c.loop-chunk.invariant in
     let b : ℕ = c.args.bucket in
     let k : ℕ = c.loop-chunk.chunk in
-    let base : ℕ = count_below (values c.args.self.now) (id_at b (min (c.args.from * 64) (2 ^ b))) in
+    let base : ℕ = counted_to c.args.self.now b c.args.from in
     let counted =
     chunk_counted c.args.self.now c.loop-chunk.self b k c.flags.result kept.same c.requires.whole
     c.flags.type_inv c.flags.ensures.value base c.loop-chunk.count
@@ -37,7 +37,7 @@ pub loop-chunk-preserved : goal.loop-chunk-preserved
 loop-chunk-preserved g c =
     let kept = c.loop-chunk.invariant in
     let b : ℕ = c.args.bucket in
-    let base : ℕ = count_below (values c.args.self.now) (id_at b (min (c.args.from * 64) (2 ^ b))) in
+    let base : ℕ = counted_to c.args.self.now b c.args.from in
     record {
       counted =
           chunk_counted c.args.self.now c.loop-chunk.self b c.loop-chunk.chunk c.flags.result
@@ -52,5 +52,5 @@ returns g c = record {
   counted = let b : ℕ = c.args.bucket in
       let last : c.loop-chunk.chunk ≡ c.args.to =
       omega (arith, c.loop-chunk-test.false, c.loop-chunk.auto.chunk-end, c.requires.order) in
-      c.loop-chunk.invariant.counted ∙ ap (λ (k : ℕ). count_below (values c.args.self.now) (id_at b (min (k * 64) (2 ^ b)))) last;
+      c.loop-chunk.invariant.counted ∙ ap (counted_to c.args.self.now b) last;
 }

@@ -6,6 +6,7 @@ use Rattle.thread_local_base.specs.Walk.{walk}
 use Rattle.thread_local_base.proofs.TakingLaws.{id_at-next, count_below-zero, count_below-absent, count_below-fits}
 use Rattle.thread_local_buckets.proofs.Counting.{counted_at_first, counted_fits, counted_all, IsCounted}
 use Rattle.thread_local_buckets.specs.Announced.{Announces, AreAhead}
+use Rattle.thread_local_buckets.specs.Counted.{counted_to}
 use Rattle.thread_local_buckets.proofs.Passing.{AreAhead-further}
 use Rattle.std.specs.Int.{w64, bit_not}
 use Rattle.thread_local_buckets.proofs.bucket_pointers.BucketPointers.count_values.Goals as goal
@@ -13,7 +14,7 @@ use Rattle.thread_local_buckets.proofs.bucket_pointers.BucketPointers.count_valu
 
 -- the flags of one of the first seven buckets are one word
 one_word : {V : Type 0} (contents : Contents V) (b n : ℕ) → b < 7
-    → count_below (values contents) (id_at b (min (0 * 64) (2 ^ b))) + n ≡ count_below (values contents) (id_at b (min (1 * 64) (2 ^ b)))
+    → counted_to contents b 0 + n ≡ counted_to contents b 1
     → count_below (values contents) (id_at b 0) + n ≡ count_below (values contents) (id_at (b + 1) 0)
 one_word contents b n small counted =
     let count : ℕ → ℕ = λ i. count_below (values contents) i in
