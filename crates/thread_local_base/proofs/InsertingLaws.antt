@@ -1,9 +1,9 @@
 -- The contents after a value is inserted: its bucket stands, and its slot has a value.
 use Rattle.std.proofs.Common.{◌≡◌, ◌≢◌, ℕ, ◌^◌, ◌<◌, inr, Bool, true, false, cond, eqb, length, List, [], Option, Some}
 use Rattle.std.proofs.Common.{None, get_or, set, refl, ap, sym, ◌∙◌, subst, arith, ⊎_elim}
-use Rattle.std.specs.Prelude.{nat_lt, unwrap_or, IsSome, IsTrue}
+use Rattle.std.specs.Prelude.{nat_lt, unwrap_or, IsTrue}
 use Rattle.std.proofs.lemmas.Bool.{cases_eq, cond-true, cond-false, eq-eqb, ne_eqb}
-use Rattle.std.proofs.lemmas.List.{set-set, get_or-set_same}
+use Rattle.std.proofs.lemmas.List.{set-set}
 use mathlib.Core.Path.{fun_ext}
 use Rattle.thread_local_base.specs.Place.{id_at}
 use Rattle.thread_local_base.specs.Buckets.{Contents, row, stands, values, IsTable}
@@ -66,46 +66,6 @@ module _ {V : Type 0} where
         (λ (apart : b ≢ j). sym (cond-false (eqb b j) true (stands c j) (ne_eqb b j apart)))
         (cases_eq b j))
         (λ _. stands-made c b j low)
-
-    -- the contents after inserting, once the value in the slot is written over
-    pub ends : (d e : Contents V) (i : ℕ) (value : V) → d ≡ with_bucket c b
-        → (IsSome (value_in d b i) → e ≡ d)
-        → (value_in d b i ≡ None → e ≡ with_slot d b i (Some value))
-        → (w : V) → with_slot e b i (Some w) ≡ with_published c b i w
-    ends d e i value stood kept published w =
-        let within : b < length d.rows = omega (arith, ap (λ (d : Contents V). length d.rows) stood, rows-with_bucket) in
-        go (value_in d b i) kept published within ∙ ap (λ (d : Contents V). with_slot d b i (Some w)) stood
-      where
-        go : (o : Option V) → (IsSome o → e ≡ d) → (o ≡ None → e ≡ with_slot d b i (Some value))
-            → b < length d.rows
-            → with_slot e b i (Some w) ≡ with_slot d b i (Some w)
-        go (Some x) kept published h = ap (λ (d : Contents V). with_slot d b i (Some w)) (kept refl)
-        go None kept published h =
-            ap (λ (d : Contents V). with_slot d b i (Some w)) (published refl)
-            ∙ with_slot-twice d b i (Some value) (Some w) h
-
-    -- the value in the slot then
-    pub answers : (d e : Contents V) (i : ℕ) (value there : V) → d ≡ with_bucket c b
-        → i < length (row d b) → (IsSome (value_in d b i) → e ≡ d)
-        → (value_in d b i ≡ None → e ≡ with_slot d b i (Some value))
-        → value_in e b i ≡ Some there → there ≡ unwrap_or (value_in c b i) value
-    answers d e i value there stood inside kept published found =
-        let within : b < length d.rows = omega (arith, ap (λ (d : Contents V). length d.rows) stood, rows-with_bucket) in
-        let before : value_in d b i ≡ value_in c b i = ap (λ (d : Contents V). value_in d b i) stood ∙ slot-with_bucket i in
-        go (value_in d b i) refl kept published within ∙ ap (λ (o : Option V). unwrap_or o value) before
-      where
-        go : (o : Option V) → o ≡ value_in d b i → (IsSome o → e ≡ d)
-            → (o ≡ None → e ≡ with_slot d b i (Some value)) → b < length d.rows
-            → there ≡ unwrap_or o value
-        go (Some x) is kept published h =
-            let same : Some there ≡ Some x = sym found ∙ ap (λ (d : Contents V). value_in d b i) (kept refl) ∙ sym is in
-            cc
-        go None is kept published h =
-            let same : Some there ≡ Some value = sym found ∙ ap (λ (d : Contents V). value_in d b i) (published refl)
-            ∙ ap (λ (r : List (Option V)). get_or r i None)
-            (row-with_row-same d b (set (row d b) i (Some value)) h)
-            ∙ get_or-set_same (row d b) i (Some value) None inside in
-            cc
 
     -- the map has the value at the place's id, and is unchanged elsewhere
     pub values-with_published : (i : ℕ) (w : V) → i < 2 ^ b → i < length (row (with_bucket c b) b)
@@ -173,6 +133,21 @@ module _ {V : Type 0} (c : Contents V) (b : ℕ) (t : IsTable c) (low : b < 63) 
       standing_on : (s : Bool) {r : Bool} → IsTrue r → cond s true r ≡ true
       standing_on true h = refl
       standing_on false h = h
+
+  -- a value that is published, or the one there that is kept
+  pub published_or_kept : (d e : Contents V) (i : ℕ) (value : V) → d ≡ with_bucket c b
+      → e ≡ with_slot d b i (Some (unwrap_or (value_in d b i) value))
+      → e ≡ with_published c b i (unwrap_or (value_in c b i) value)
+  published_or_kept d e i value stood is =
+      is
+      ∙ ap (λ (k : Contents V). with_slot k b i (Some (unwrap_or (value_in k b i) value))) stood
+      ∙ ap (λ (o : Option V). with_published c b i (unwrap_or o value)) (slot-with_bucket c b in_table (row-absent c b) i)
+
+  -- and then written over
+  pub written_over : (i : ℕ) (v w : V) → with_slot (with_published c b i v) b i (Some w) ≡ with_published c b i w
+  written_over i v w =
+      with_slot-twice (with_bucket c b) b i (Some v) (Some w)
+      (let rows = rows-with_bucket c b in_table (row-absent c b) in let within = in_table in omega arith)
 
   pub published_moves : (i : ℕ) (value : V) → i < 2 ^ b
       → sheet_of (with_published c b i (unwrap_or (value_in c b i) value))

@@ -1,5 +1,5 @@
 //! What an owner does at the place of an id: make its bucket, look for a value, and publish one.
-ghost use Rattle.std.specs.Prelude.{◌≡◌, ◌<◌, [], true, false, length, Some, None, is_some, IsSome, OnOk, OnErr};
+ghost use Rattle.std.specs.Prelude.{◌≡◌, ◌<◌, [], true, false, length, Some, is_some, unwrap_or, OnOk, OnErr};
 ghost use Rattle.thread_local_base.specs.Buckets.{row, stands, IsTable};
 ghost use Rattle.thread_local_base.specs.Rows.{value_in, with_slot};
 ghost use Rattle.thread_local_base.specs.Owner.{with_bucket};
@@ -46,9 +46,8 @@ impl<T: Drop> BucketPointers<T> {
     /// Publishes the value in the slot of a place if the slot is empty, and else drops the value.
     pub fn publish_or_drop(&mut self, thread: Thread, value: T)
         requires in_bucket { thread.index < length (row self.old thread.bucket) }
-        ensures kept { IsSome (value_in self.old thread.bucket thread.index) → self.new ≡ self.old }
-        ensures published { value_in self.old thread.bucket thread.index ≡ None
-            → self.new ≡ with_slot self.old thread.bucket thread.index (Some value) }
+        ensures { self.new ≡ with_slot self.old thread.bucket thread.index
+            (Some (unwrap_or (value_in self.old thread.bucket thread.index) value)) }
     {
         let size = bucket_size(thread.bucket);
         let chunk = thread.index / 64;

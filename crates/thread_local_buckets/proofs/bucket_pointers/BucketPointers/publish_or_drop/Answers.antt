@@ -1,6 +1,7 @@
-use Rattle.std.proofs.Common.{◌≡◌, ◌∙◌, ◌*◌, ◌/◌, ◌%◌, ◌^◌, ◌<◌, ℕ, bit_and, bit_or, List, Option, None, Some, IsSome, is_some, length, refl, sym, ap, subst}
-use Rattle.std.specs.Prelude.{slice_index_or, slice_set}
-use Rattle.std.proofs.lemmas.Bool.{false≢true, eq-eqb, ne_eqb}
+use Rattle.std.proofs.Common.{◌≡◌, ◌∙◌, ◌*◌, ◌/◌, ◌%◌, ◌^◌, ◌<◌, ℕ, bit_and, bit_or, [], List, Option, None, Some, IsSome, is_some, length, refl, sym, ap, subst}
+use Rattle.std.specs.Prelude.{slice_index_or, slice_set, unwrap_or}
+use Rattle.std.proofs.lemmas.Bool.{eq-eqb, ne_eqb}
+use Rattle.std.proofs.lemmas.List.{set-get_or}
 use Rattle.thread_local_base.specs.Buckets.{Contents, row}
 use Rattle.thread_local_base.specs.Rows.{value_in, with_slot}
 use Rattle.thread_local_base.proofs.TakingLaws.{shows_none}
@@ -12,6 +13,19 @@ use Rattle.thread_local_buckets.proofs.Announcing.{IsAnnounced, IsAnnounced-with
 use Rattle.thread_local_buckets.proofs.ChunkFlags.{HasFlags, flag_read, flags_changed}
 use Rattle.thread_local_buckets.proofs.ContentsOf.{size_of_pointer, slot_changes, row_seen}
 use Rattle.thread_local_buckets.proofs.bucket_pointers.BucketPointers.publish_or_drop.Goals as goal
+
+-- a slot that keeps its value stays as it is
+with_slot-same : {V : Type 0} (c : Contents V) (b i : ℕ) (value : V) → IsSome (value_in c b i)
+    → c ≡ with_slot c b i (Some (unwrap_or (value_in c b i) value))
+with_slot-same {V} c b i value there =
+    let as_contents : List (List (Option V)) → Contents V = λ rows. record { rows = rows } in
+    sym (ap (λ (o : Option V). with_slot c b i o) (kept (value_in c b i) there)
+    ∙ ap (λ (r : List (Option V)). as_contents (slice_set c.rows b r)) (set-get_or (row c b) i None)
+    ∙ ap as_contents (set-get_or c.rows b []))
+  where
+    kept : (o : Option V) → IsSome o → Some (unwrap_or o value) ≡ o
+    kept None some = cc
+    kept (Some x) some = refl
 
 pub publish_and_store-requires : goal.publish_and_store-requires
 publish_and_store-requires g c =
@@ -44,28 +58,25 @@ invariant_of-self g c =
     (IsAnnounced-with_slot c.self.inside.announced.bits (contents_of s) c.args.thread.bucket c.args.thread.index
     (Some c.args.value) c.self.invariant)
 
--- whether the slot had a value, by the bit that was tested
 pub returns-then-flags-thread-ne1 : goal.returns-then-flags-thread-ne1
 returns-then-flags-thread-ne1 g c =
     let b = c.args.thread.bucket in
     let i = c.args.thread.index in
+    let now = c.args.self.now in
     let word = c.flags-flags.result in
-    record {
-      kept = λ some. absurd (false≢true (sym (flag_read (row c.args.self.now b) i word c.flags-flags.ensures.value
-          ∙ ne_eqb (bit_and (word / 2 ^ (i % 64)) 1) 1 c.if-flags-thread-ne1.true) ∙ some));
-      published = λ none.
-          slot_changes c.self.inside.pointers b c.pointer_mut.result.now c.publish_and_store.new.self i (Some c.args.value)
-          c.pointer_mut.ensures.value c.publish_and_store.ensures
-          ∙ ap (λ (z : Contents g.row.T.Denot). with_slot z b i (Some c.args.value)) (c.self.view_is ∙ c.flags-flags.ensures.same);
-    }
+    let none : value_in now b i ≡ None = shows_none (value_in now b i)
+    (flag_read (row now b) i word c.flags-flags.ensures.value ∙ ne_eqb (bit_and (word / 2 ^ (i % 64)) 1) 1 c.if-flags-thread-ne1.true) in
+    slot_changes c.self.inside.pointers b c.pointer_mut.result.now c.publish_and_store.new.self i (Some c.args.value)
+    c.pointer_mut.ensures.value c.publish_and_store.ensures
+    ∙ ap (λ (z : Contents g.row.T.Denot). with_slot z b i (Some c.args.value)) (c.self.view_is ∙ c.flags-flags.ensures.same)
+    ∙ ap (λ (o : Option g.row.T.Denot). with_slot now b i (Some (unwrap_or o c.args.value))) (sym none)
 
 pub returns-else-flags-thread-ne1 : goal.returns-else-flags-thread-ne1
 returns-else-flags-thread-ne1 g c =
     let b = c.args.thread.bucket in
     let i = c.args.thread.index in
     let word = c.flags-flags.result in
-    record {
-      kept = λ some. c.flags-flags.ensures.same;
-      published = λ none. absurd (false≢true (sym (ap is_some none) ∙ flag_read (row c.args.self.now b) i word c.flags-flags.ensures.value
-          ∙ eq-eqb (bit_and (word / 2 ^ (i % 64)) 1) 1 c.if-flags-thread-ne1.false));
-    }
+    c.flags-flags.ensures.same
+    ∙ with_slot-same c.args.self.now b i c.args.value
+    (flag_read (row c.args.self.now b) i word c.flags-flags.ensures.value
+    ∙ eq-eqb (bit_and (word / 2 ^ (i % 64)) 1) 1 c.if-flags-thread-ne1.false)

@@ -20,40 +20,27 @@ map_of o now b i same t low inside w id =
     let P : Owned _ → Type 0 = λ s. values (with_published s.contents b i w) id ≡ with_value (values s.contents) (id_at b i) w id in
     subst P same (published_values o.contents b t low i w id inside)
 
--- what the buckets end as, whatever is written: the slot has what was written
-left_as : {V : Type 0} (o now : Owned V) (d : Contents V) (b i : ℕ) → o ≡ now → d ≡ o.contents → stands o.contents b ≡ true
-    → (w : V) → record { contents = with_slot d b i (Some w); reserved = o.reserved } ≡ owned_with now b i w
-left_as o now d b i same looked stood w =
-    ap (λ (k : Contents _).
-    let s : Owned _ = record { contents = with_slot k b i (Some w); reserved = o.reserved } in
-    s)
-    (looked
-    ∙ sym (cond-true (stands o.contents b) o.contents
-    (with_row o.contents b (empty_row b)) stood))
-    ∙ ap (λ (s : Owned _). owned_with s b i w) same
+-- the contents once a value is written over
+as_published : {V : Type 0} (c d : Contents V) (b i : ℕ) → d ≡ c → stands c b ≡ true
+    → (w : V) → with_slot d b i (Some w) ≡ with_published c b i w
+as_published c d b i looked stood w =
+    ap (λ (k : Contents _). with_slot k b i (Some w)) (looked ∙ sym (cond-true (stands c b) c (with_row c b (empty_row b)) stood))
 
 nothing_at : {V : Type 0} (o now : Owned V) (b i : ℕ) → o ≡ now
     → is_some (value_in o.contents b i) ≡ false
     → value_in now.contents b i ≡ None
 nothing_at o now b i same none = ap (λ (s : Owned _). value_in s.contents b i) (sym same) ∙ shows_none (value_in o.contents b i) none
 
--- whatever is written, the buckets are still an owner's
-owned_still : {V : Type 0} (o : Owned V) (d : Contents V) (b i : ℕ) → IsOwned o → b < 63 → d ≡ o.contents
-    → stands o.contents b ≡ true
-    → (w : V) → IsOwned (record { contents = with_slot d b i (Some w); reserved = o.reserved })
-owned_still {V} o d b i owned low looked stood w =
-    let as_published : with_slot d b i (Some w) ≡ with_published o.contents b i w =
-    ap (λ (k : Contents V). with_slot k b i (Some w))
-    (looked ∙ sym (cond-true (stands o.contents b) o.contents (with_row o.contents b (empty_row b)) stood)) in
-    subst (λ (k : Contents V). IsOwned (record { contents = k; reserved = o.reserved })) (sym as_published)
-    (IsOwned-with_published o.contents b owned.table low o.reserved i w owned)
-
 -- The search for these takes a second.
 pub invariant_of-self-lent : goal.invariant_of-self-lent
-invariant_of-self-lent g c =
-    let first : Owned _ = record { contents = c.self.inside.pointers; reserved = c.self.inside.reserved } in
-    owned_still first c.is_published.new.self c.args.thread.bucket c.args.thread.index c.self.invariant
-    c.args.thread.in_table c.is_published.ensures.same (c.is_published.ensures.stands c.if-is_published.true)
+invariant_of-self-lent g c = λ w.
+    let s = c.self.inside in
+    let b = c.args.thread.bucket in
+    let i = c.args.thread.index in
+    subst (λ (k : Contents g.row.T.Denot). IsOwned (record { contents = k; reserved = s.reserved }))
+    (sym (as_published s.pointers c.is_published.new.self b i c.is_published.ensures.same
+    (c.is_published.ensures.stands c.if-is_published.true) w))
+    (IsOwned-with_published s.pointers b c.self.invariant.table c.args.thread.in_table s.reserved i w c.self.invariant)
 
 pub invariant_of-self : goal.invariant_of-self
 invariant_of-self g c =
@@ -68,8 +55,11 @@ returns-then-is_published g c =
     let t = c.self.invariant.table in
     let first : Owned _ = record { contents = c.self.inside.pointers; reserved = c.self.inside.reserved } in (
       ap (λ (f : _ → _). inl (c.get_mut.result.ghost_name, f))
-          (fun_ext (left_as first c.args.self.now c.is_published.new.self b i c.self.view_is
-          c.is_published.ensures.same (c.is_published.ensures.stands c.if-is_published.true))),
+          (fun_ext (λ w.
+          ap (λ (k : Contents _). let s : Owned _ = record { contents = k; reserved = c.self.inside.reserved } in s)
+          (as_published c.self.inside.pointers c.is_published.new.self b i c.is_published.ensures.same
+          (c.is_published.ensures.stands c.if-is_published.true) w)
+          ∙ ap (λ (s : Owned _). owned_with s b i w) c.self.view_is)),
       record {
         writes_back = tt;
         value =

@@ -1,7 +1,6 @@
-use Rattle.std.proofs.Common.{◌≡◌, ◌<◌, ◌^◌, ℕ, true, cond, eqb, length, Some, None, subst, sym, ap, ◌∙◌, arith, inl}
-use Rattle.std.proofs.Common.{inr, refl, lit<, List, Option, is_some, set, get_or}
-use Rattle.std.specs.Prelude.{unwrap_or, IsSome}
-use Rattle.std.proofs.lemmas.List.{get_or-set_same}
+use Rattle.std.proofs.Common.{◌≡◌, ◌<◌, ◌^◌, ℕ, true, cond, eqb, length, Some, subst, sym, ap, ◌∙◌, inl}
+use Rattle.std.proofs.Common.{inr, refl, lit<, Option, is_some}
+use Rattle.std.specs.Prelude.{unwrap_or}
 use mathlib.Core.Path.{fun_ext}
 use Rattle.thread_local_base.specs.Place.{id_at}
 use Rattle.thread_local_base.specs.Buckets.{Contents, row, stands, IsTable}
@@ -9,9 +8,9 @@ use Rattle.thread_local_base.specs.Owned.{Owned, IsOwned}
 use Rattle.thread_local_base.specs.Rows.{value_in, with_slot}
 use Rattle.thread_local_base.specs.Sheet.{moved}
 use Rattle.thread_local_base.specs.Owner.{with_bucket, with_published, sheet_of, publish_or_keep}
-use Rattle.thread_local_base.proofs.RowLaws.{row-with_row-same, length-row-with_slot}
-use Rattle.thread_local_base.proofs.StandingLaws.{row-absent, whole-with_bucket}
-use Rattle.thread_local_base.proofs.InsertingLaws.{ends, answers, rows-with_bucket, IsOwned-with_published, published_moves, published_stands}
+use Rattle.thread_local_base.proofs.RowLaws.{length-row-with_slot}
+use Rattle.thread_local_base.proofs.StandingLaws.{whole-with_bucket}
+use Rattle.thread_local_base.proofs.InsertingLaws.{published_or_kept, written_over, published_slot, IsOwned-with_published, published_moves, published_stands}
 use Rattle.thread_local_buckets.specs.Inserting.{owned_with}
 use Rattle.thread_local_buckets.proofs.buckets.Buckets.insert.Goals as goal
 
@@ -28,100 +27,54 @@ inserts o now b i value same t low inside =
     let P : Owned _ → Type 0 = λ s. Inserts s.contents b i value in
     subst P same (record { moves = published_moves o.contents b t low i value inside; stand = published_stands o.contents b t low i })
 
--- what the buckets end as, whatever is written: the bucket stands, and its slot has what was
--- written
-left_as : {V : Type 0} (o now : Owned V) (d e : Contents V) (b i : ℕ) (value : V) → o ≡ now
-    → IsTable o.contents → b < 63 → d ≡ with_bucket o.contents b
-    → (IsSome (value_in d b i) → e ≡ d) → (value_in d b i ≡ None → e ≡ with_slot d b i (Some value))
-    → (w : V) → record { contents = with_slot e b i (Some w); reserved = o.reserved } ≡ owned_with now b i w
-left_as o now d e b i value same t low stood kept published w =
-    let within : b < length o.contents.rows = omega (arith, t.buckets) in
-    ap (λ (k : Contents _). let s : Owned _ = record { contents = k; reserved = o.reserved } in s)
-    (ends o.contents b within (row-absent o.contents b) d e i value stood kept published w)
-    ∙ ap (λ (s : Owned _). owned_with s b i w) same
+-- what is so once the value is published, or the one there is kept
+record Inserted {V : Type 0} (c e : Contents V) (b i : ℕ) (value : V) : Type 0 where
+  long : length (row e b) ≡ 2 ^ b
+  slot : value_in e b i ≡ Some (unwrap_or (value_in c b i) value)
+  written : (w : V) → with_slot e b i (Some w) ≡ with_published c b i w
 
--- the bucket has all its slots
-whole : {V : Type 0} (c d : Contents V) (b : ℕ) → IsTable c → b < 63 → d ≡ with_bucket c b
-    → length (row d b) ≡ 2 ^ b
-whole c d b t low stood = ap (λ (k : Contents _). length (row k b)) stood ∙ whole-with_bucket c b t low
-
--- published or kept, the slot has a value
-filled : {V : Type 0} (d e : Contents V) (b i : ℕ) (value : V) → b < length d.rows → i < length (row d b)
-    → (IsSome (value_in d b i) → e ≡ d) → (value_in d b i ≡ None → e ≡ with_slot d b i (Some value))
-    → (i < length (row e b)) × IsSome (value_in e b i)
-filled {V} d e b i value low inside kept published = go (value_in d b i) refl kept published
-  where
-    go : (o : Option V) → o ≡ value_in d b i → (IsSome o → e ≡ d)
-        → (o ≡ None → e ≡ with_slot d b i (Some value))
-        → (i < length (row e b)) × IsSome (value_in e b i)
-    go (Some x) is kept published =
-        let P : Contents V → Type 0 = λ k. (i < length (row k b)) × IsSome (value_in k b i) in
-        subst P (sym (kept refl)) (inside, ap (λ (o : Option V). is_some o) (sym is))
-    go None is kept published =
-        let P : Contents V → Type 0 = λ k. (i < length (row k b)) × IsSome (value_in k b i) in
-        let here : value_in (with_slot d b i (Some value)) b i ≡ Some value =
-        ap (λ (r : List (Option V)). get_or r i None)
-        (row-with_row-same d b (set (row d b) i (Some value)) low)
-        ∙ get_or-set_same (row d b) i (Some value) None inside in
-        subst P (sym (published refl))
-        (subst (λ (n : ℕ). i < n) (sym (length-row-with_slot d b i b (Some value))) inside, ap (λ (o : Option V). is_some o) here)
-
--- the value that is lent: the one in the slot
-answered : {V : Type 0} (o now : Owned V) (d e : Contents V) (b i : ℕ) (value there : V) → o ≡ now
-    → IsTable o.contents → b < 63 → i < 2 ^ b → d ≡ with_bucket o.contents b
-    → (IsSome (value_in d b i) → e ≡ d) → (value_in d b i ≡ None → e ≡ with_slot d b i (Some value))
-    → value_in e b i ≡ Some there
-    → there ≡ unwrap_or (value_in now.contents b i) value
-answered o now d e b i value there same t low inside stood kept published found =
-    let within : b < length o.contents.rows = omega (arith, t.buckets) in
-    let all : length (row d b) ≡ 2 ^ b = whole o.contents d b t low stood in
-    answers o.contents b within (row-absent o.contents b) d e i value there stood (omega arith) kept published found
-    ∙ ap (λ (s : Owned _). unwrap_or (value_in s.contents b i) value) same
-
--- whatever is written, the buckets are still an owner's
-owned_still : {V : Type 0} (o : Owned V) (d e : Contents V) (b i : ℕ) (value : V) → IsOwned o
-    → b < 63 → d ≡ with_bucket o.contents b
-    → (IsSome (value_in d b i) → e ≡ d) → (value_in d b i ≡ None → e ≡ with_slot d b i (Some value))
-    → (w : V) → IsOwned (record { contents = with_slot e b i (Some w); reserved = o.reserved })
-owned_still o d e b i value owned low stood kept published w =
-    let within : b < length o.contents.rows = omega (arith, owned.table.buckets) in
-    let P : Contents _ → Type 0 = λ k. IsOwned (record { contents = k; reserved = o.reserved }) in
-    subst P
-    (sym (ends o.contents b within (row-absent o.contents b) d e i value stood kept published w))
-    (IsOwned-with_published o.contents b owned.table low o.reserved i w owned)
+inserted : {V : Type 0} (c d e : Contents V) (b i : ℕ) (value : V) → IsTable c → b < 63 → i < 2 ^ b → d ≡ with_bucket c b
+    → e ≡ with_slot d b i (Some (unwrap_or (value_in d b i) value))
+    → Inserted c e b i value
+inserted {V} c d e b i value t low inside stood after =
+    let v : V = unwrap_or (value_in c b i) value in
+    let is = published_or_kept c b t low d e i value stood after in
+    record {
+      long = ap (λ (k : Contents V). length (row k b)) is ∙ length-row-with_slot (with_bucket c b) b i b (Some v) ∙ whole-with_bucket c b t low;
+      slot = ap (λ (k : Contents V). value_in k b i) is ∙ published_slot c b t low i v inside;
+      written = λ w. ap (λ (k : Contents V). with_slot k b i (Some w)) is ∙ written_over c b t low i v w;
+    }
 
 -- The search for this and the next takes seconds.
 pub publish_or_drop-requires : goal.publish_or_drop-requires
-publish_or_drop-requires g c = (
-  lit< tt,
-  subst (λ (n : ℕ). c.args.thread.index < n)
-      (sym (whole c.self.inside.pointers c.ensure_bucket.new.self c.args.thread.bucket
-      c.self.invariant.table c.args.thread.in_table c.in-Ok.ensures.ok))
-      c.args.thread.in_bucket,
-)
+publish_or_drop-requires g c =
+    let b = c.args.thread.bucket in (
+      lit< tt,
+      subst (λ (n : ℕ). c.args.thread.index < n)
+          (sym (ap (λ (k : Contents _). length (row k b)) c.in-Ok.ensures.ok
+          ∙ whole-with_bucket c.self.inside.pointers b c.self.invariant.table c.args.thread.in_table))
+          c.args.thread.in_bucket,
+    )
 
 pub get_mut-requires : goal.get_mut-requires
 get_mut-requires g c =
-    let b = c.args.thread.bucket in
-    let low : b < 63 = c.args.thread.in_table in
-    let t = c.self.invariant.table in
-    let stood = c.in-Ok.ensures.ok in
-    let absent = row-absent c.self.inside.pointers b in
-    let rows = rows-with_bucket c.self.inside.pointers b (omega (arith, t.buckets)) absent in
-    let within : b < length c.ensure_bucket.new.self.rows =
-    omega (arith, ap (λ (k : Contents _). length k.rows) stood, rows, t.buckets) in
-    let inside : c.args.thread.index < length (row c.ensure_bucket.new.self b) =
-    subst (λ (n : ℕ). c.args.thread.index < n) (sym (whole c.self.inside.pointers c.ensure_bucket.new.self b t low stood)) c.args.thread.in_bucket in
-    let has = filled c.ensure_bucket.new.self c.publish_or_drop.new.self b c.args.thread.index c.args.value within
-    inside c.publish_or_drop.ensures.kept c.publish_or_drop.ensures.published in
-    (lit< tt, has)
+    let i = c.args.thread.index in
+    let so =
+    inserted c.self.inside.pointers c.ensure_bucket.new.self c.publish_or_drop.new.self c.args.thread.bucket i c.args.value
+    c.self.invariant.table c.args.thread.in_table c.args.thread.in_bucket c.in-Ok.ensures.ok c.publish_or_drop.ensures in
+    (lit< tt, (subst (λ (n : ℕ). i < n) (sym so.long) c.args.thread.in_bucket, ap (λ (o : Option _). is_some o) so.slot))
 
 pub invariant_of-self-lent : goal.invariant_of-self-lent
-invariant_of-self-lent g c =
-    let first : Owned _ = record { contents = c.self.inside.pointers; reserved = c.self.inside.reserved } in
-    owned_still first c.ensure_bucket.new.self c.publish_or_drop.new.self c.args.thread.bucket
-    c.args.thread.index c.args.value c.self.invariant c.args.thread.in_table
-    c.in-Ok.ensures.ok c.publish_or_drop.ensures.kept c.publish_or_drop.ensures.published
+invariant_of-self-lent g c = λ w.
+    let b = c.args.thread.bucket in
+    let i = c.args.thread.index in
+    let low = c.args.thread.in_table in
+    let owned = c.self.invariant in
+    let so =
+    inserted c.self.inside.pointers c.ensure_bucket.new.self c.publish_or_drop.new.self b i c.args.value owned.table low
+    c.args.thread.in_bucket c.in-Ok.ensures.ok c.publish_or_drop.ensures in
+    subst (λ (k : Contents _). IsOwned (record { contents = k; reserved = c.self.inside.reserved })) (sym (so.written w))
+    (IsOwned-with_published c.self.inside.pointers b owned.table low c.self.inside.reserved i w owned)
 
 pub invariant_of-self : goal.invariant_of-self
 invariant_of-self g c =
@@ -137,20 +90,21 @@ returns-in-Ok g c =
     let low : b < 63 = c.args.thread.in_table in
     let inside : i < 2 ^ b = c.args.thread.in_bucket in
     let first : Owned _ = record { contents = c.self.inside.pointers; reserved = c.self.inside.reserved } in
-    let so = inserts first c.args.self.now b i c.args.value c.self.view_is t low inside in (
+    let all = inserts first c.args.self.now b i c.args.value c.self.view_is t low inside in
+    let so =
+    inserted c.self.inside.pointers c.ensure_bucket.new.self c.publish_or_drop.new.self b i c.args.value t low inside
+    c.in-Ok.ensures.ok c.publish_or_drop.ensures in (
       ap (λ (f : _ → _). inl (c.get_mut.result.ghost_name, f))
-          (fun_ext (left_as first c.args.self.now c.ensure_bucket.new.self c.publish_or_drop.new.self b
-          i c.args.value c.self.view_is t low c.in-Ok.ensures.ok c.publish_or_drop.ensures.kept
-          c.publish_or_drop.ensures.published)),
+          (fun_ext (λ w.
+          ap (λ (k : Contents _). let s : Owned _ = record { contents = k; reserved = c.self.inside.reserved } in s) (so.written w)
+          ∙ ap (λ (s : Owned _). owned_with s b i w) c.self.view_is)),
       record {
         writes_back = tt;
         answers =
-            answered first c.args.self.now c.ensure_bucket.new.self c.publish_or_drop.new.self b i
-            c.args.value c.get_mut.result.now c.self.view_is t low inside c.in-Ok.ensures.ok
-            c.publish_or_drop.ensures.kept c.publish_or_drop.ensures.published
-            c.get_mut.ensures.value;
-        would_move = so.moves;
-        would_stand = so.stand;
+            ap (λ (o : Option _). unwrap_or o c.args.value) (sym c.get_mut.ensures.value ∙ so.slot)
+            ∙ ap (λ (s : Owned _). unwrap_or (value_in s.contents b i) c.args.value) c.self.view_is;
+        would_move = all.moves;
+        would_stand = all.stand;
         err = tt;
         refused = tt;
       },
