@@ -3,6 +3,7 @@ pub mod ContentsOf
 pub mod Announcing
 pub mod Passing
 pub mod Clearing
+pub mod Summing
 pub mod Counting
 pub mod PointerSteps
 pub mod LentValue

@@ -7,7 +7,7 @@ pub overflow_add-count : goal.overflow_add-count
 overflow_add-count g c =
     let so = c.buckets.invariant.counted in
     let next =
-    counted_more c.stands.new.self c.args.self.now c.buckets.count c.count_in_bucket-count.result c.buckets.left
+    counted_more c.args.self.now c.stands.new.self c.buckets.count c.count_in_bucket-count.result c.buckets.left
     c.take_first_bucket-bucket.new.left c.take_first_bucket-bucket.result.0 so c.take_first_bucket-bucket.ensures.first
     c.take_first_bucket-bucket.ensures.rest (c.stands.ensures.same ∙ c.buckets.invariant.same)
     c.count_in_bucket-count.ensures.counted in
@@ -18,7 +18,7 @@ pub buckets-preserved-then-stands : goal.buckets-preserved-then-stands
 buckets-preserved-then-stands g c =
     record {
       counted =
-          counted_more c.stands.new.self c.args.self.now c.buckets.count c.count_in_bucket-count.result c.buckets.left
+          counted_more c.args.self.now c.stands.new.self c.buckets.count c.count_in_bucket-count.result c.buckets.left
           c.take_first_bucket-bucket.new.left c.take_first_bucket-bucket.result.0 c.buckets.invariant.counted
           c.take_first_bucket-bucket.ensures.first c.take_first_bucket-bucket.ensures.rest
           (c.stands.ensures.same ∙ c.buckets.invariant.same) c.count_in_bucket-count.ensures.counted;
@@ -35,7 +35,7 @@ returns g c = record {
 -- The search for these takes a second.
 pub buckets-init : goal.buckets-init
 buckets-init g c = record {
-  counted = record { from = 7; low = omega arith; ahead = c.requires.ahead; counted = c.requires.counted };
+  counted = record { from = 7; low = omega arith; ahead = c.requires.ahead; summed = c.requires.counted };
   same = refl;
 }
 
@@ -62,7 +62,7 @@ pub buckets-preserved : goal.buckets-preserved
 buckets-preserved g c =
     record {
       counted =
-          counted_past c.buckets.self c.args.self.now c.buckets.count c.buckets.left c.take_first_bucket-bucket.new.left
+          counted_past c.args.self.now c.buckets.self c.buckets.count c.buckets.left c.take_first_bucket-bucket.new.left
           c.take_first_bucket-bucket.result.0 c.buckets.invariant.counted c.take_first_bucket-bucket.ensures.first
           c.take_first_bucket-bucket.ensures.rest c.buckets.invariant.same (c.stands.ensures.absent c.if-stands.false);
       same = c.stands.ensures.same ∙ c.buckets.invariant.same;

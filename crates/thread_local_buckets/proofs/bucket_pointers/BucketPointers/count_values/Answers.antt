@@ -67,7 +67,7 @@ are_counted c announced count bucket told last counted = record {
   from = 7;
   low = omega arith;
   ahead = AreAhead-further c announced told;
-  counted = counted ∙ ap (λ (b : ℕ). count_below (values c) (id_at b 0)) last;
+  summed = counted ∙ ap (λ (b : ℕ). count_below (values c) (id_at b 0)) last;
 }
 
 pub returns : goal.returns
