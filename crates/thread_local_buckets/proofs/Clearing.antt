@@ -13,6 +13,7 @@ use Rattle.thread_local_base.specs.Owner.{cleared_row}
 use Rattle.thread_local_base.proofs.RowLaws.{row-with_row-same, row-with_row-other, IsTable-with_row, length-empty_row}
 use Rattle.thread_local_base.proofs.StandingLaws.{row-absent}
 use Rattle.thread_local_buckets.specs.Announced.{Announces}
+use Rattle.thread_local_buckets.proofs.Announcing.{IsAnnounced-with_row}
 use Rattle.thread_local_buckets.proofs.Passing.{is_set-highest, unset}
 
 -- a cleared row is empty or whole
@@ -58,6 +59,16 @@ AreCleared-none c word reserved last table told high standing = record {
   before = λ k low. refl;
 }
 
+-- a bucket that is cleared has slots only where one is reserved
+reserved_bucket : (V : Type 0) (reserved b : ℕ) → 0 < length (cleared_row {V = V} reserved b) → id_at b 0 < reserved
+reserved_bucket V reserved b some =
+    ⊎_elim
+    (λ (in_reserve : id_at b 0 < reserved). in_reserve)
+    (λ (free : reserved ≤ id_at b 0).
+    let none = ap length (cond-false (nat_lt (id_at b 0) reserved) (empty_row {V = V} b) [] (le-ltb (id_at b 0) reserved free)) in
+    absurd (omega (arith, some, none)))
+    (cases_lt (id_at b 0) reserved)
+
 -- a further bucket is cleared
 pub AreCleared-more : {V : Type 0} (old now new : Contents V) (reserved b : ℕ)
     → AreCleared old now reserved (b + 1) → b < 63 → new ≡ with_row now b (cleared_row reserved b)
@@ -78,3 +89,20 @@ AreCleared-more {V = V} old now new reserved b h low made =
           let apart : k ≢ b = omega arith in
           row-with_row-other now b k (cleared_row reserved b) apart ∙ h.before k (omega arith);
     })
+
+-- the pointers while they are cleared: the word of announced buckets stays right
+pub record AreClearing {V : Type 0} (old now : Contents V) (word reserved first : ℕ) : Type 0 where
+  pub cleared : AreCleared old now reserved first
+  pub announced : Announces word now
+
+pub AreClearing-more : {V : Type 0} (old now new : Contents V) (word reserved b : ℕ) → AreClearing old now word reserved (b + 1) → b < 63
+    → (id_at b 0 < reserved → stands now b ≡ true)
+    → new ≡ with_row now b (cleared_row reserved b)
+    → AreClearing old new word reserved b
+AreClearing-more {V = V} old now new word reserved b h low standing made = record {
+  cleared = AreCleared-more old now new reserved b h.cleared low made;
+  announced = subst (Announces word) (sym made)
+      (IsAnnounced-with_row word now b (cleared_row reserved b) low (whole V b (nat_lt (id_at b 0) reserved))
+      (λ some. h.announced.standing b low (standing (reserved_bucket V reserved b some)))
+      (h.cleared.table, h.announced)).1;
+}

@@ -143,7 +143,10 @@ impl<T: Drop> BucketPointer<T> {
         }
         let mut retired = RetiredBlock::of(self.lift(alloc), 0);
         'slots: for index in 0..len {
-            retired.drop_next(index, len);
+            let flag_word = flag_word_at::<T>(len, index / 64);
+            if retired.is_next_published(index, flag_word) {
+                drop(retired.move_next(index));
+            }
         }
         retired.deallocate(alloc, len, bytes_of_block::<T>(len));
     }

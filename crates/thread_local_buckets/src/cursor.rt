@@ -154,11 +154,6 @@ impl OwnerCursor {
         }
     }
 
-    /// Writes where the walk is, under the walk's name: the `Debug` of an owner's walks.
-    pub fn write_as<W: fmt::Write>(&self, f: &mut fmt::Formatter<W>, name: &str) -> fmt::Result {
-        write_struct(f, name, "raw", &self.raw())
-    }
-
     /// Reads the next flags that aren't 0, in its bucket or an announced one behind it, where the
     /// values of those read last are all passed. A value must be left.
     #[inline]

@@ -6,8 +6,8 @@ ghost use Rattle.std.specs.Iterator.SizeHint.{IsWithinCount};
 ghost use Rattle.thread_local_buckets.specs.Cursor.{values_left};
 ghost use Rattle.thread_local_base.specs.Owner.{emptied};
 
-use crate::OwnerCursor;
 use crate::buckets::Buckets;
+use crate::{OwnerCursor, write_struct};
 use std::fmt;
 use std::iter::FusedIterator;
 
@@ -82,6 +82,6 @@ impl<T: Drop> FusedIterator for Drain<'_, T> {}
 impl<T: fmt::Debug> fmt::Debug for Drain<'_, T> {
     /// Shows only where the walk is.
     fn fmt<W: fmt::Write>(&self, f: &mut fmt::Formatter<W>) -> fmt::Result {
-        self.cursor.write_as(f, "Drain")
+        write_struct(f, "Drain", "raw", &self.cursor.raw())
     }
 }

@@ -3,10 +3,10 @@ ghost use Rattle.std.specs.Prelude.{◌≡◌, length, Some, IfSome};
 ghost use Rattle.std.specs.Iterator.{YieldsFirst, UpTo, item_count};
 ghost use Rattle.std.specs.Iterator.SizeHint.{IsWithinCount};
 
-use crate::OwnerCursor;
 use crate::buckets::Buckets;
 pub use crate::drain::Drain;
 pub use crate::iter_mut::{EntriesMut, IterMut};
+use crate::{OwnerCursor, write_struct};
 use std::fmt;
 use std::iter::FusedIterator;
 use std::marker::Model;
@@ -75,7 +75,7 @@ impl<T: Drop> FusedIterator for IntoEntries<T> {}
 impl<T: fmt::Debug> fmt::Debug for IntoEntries<T> {
     /// Shows only where the walk is.
     fn fmt<W: fmt::Write>(&self, f: &mut fmt::Formatter<W>) -> fmt::Result {
-        self.cursor.write_as(f, "IntoEntries")
+        write_struct(f, "IntoEntries", "raw", &self.cursor.raw())
     }
 }
 
@@ -146,6 +146,6 @@ impl<T: Drop> FusedIterator for IntoIter<T> {}
 impl<T: fmt::Debug> fmt::Debug for IntoIter<T> {
     /// Shows only where the walk is. The Rust crate shows the table.
     fn fmt<W: fmt::Write>(&self, f: &mut fmt::Formatter<W>) -> fmt::Result {
-        self.cursor.write_as(f, "IntoIter")
+        write_struct(f, "IntoIter", "raw", &self.cursor.raw())
     }
 }

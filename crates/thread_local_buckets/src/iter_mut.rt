@@ -10,9 +10,9 @@ ghost use Rattle.thread_local_buckets.specs.Cursor.{HasRead, MayRead};
 ghost use Rattle.thread_local_buckets.specs.LendingValues.{LendsValues};
 ghost use Rattle.thread_local_buckets.specs.Entered.{IsEntered};
 
-use crate::OwnerCursor;
 use crate::buckets::Buckets;
 use crate::loan::Loan;
+use crate::{OwnerCursor, write_struct};
 use std::fmt;
 use std::iter::FusedIterator;
 use std::marker::Model;
@@ -108,7 +108,7 @@ impl<T> FusedIterator for EntriesMut<'_, T> {}
 impl<T: fmt::Debug> fmt::Debug for EntriesMut<'_, T> {
     /// Shows only where the walk is.
     fn fmt<W: fmt::Write>(&self, f: &mut fmt::Formatter<W>) -> fmt::Result {
-        self.cursor.write_as(f, "EntriesMut")
+        write_struct(f, "EntriesMut", "raw", &self.cursor.raw())
     }
 }
 
@@ -187,6 +187,6 @@ impl<T> FusedIterator for IterMut<'_, T> {}
 impl<T: fmt::Debug> fmt::Debug for IterMut<'_, T> {
     /// Shows only where the walk is.
     fn fmt<W: fmt::Write>(&self, f: &mut fmt::Formatter<W>) -> fmt::Result {
-        self.entries.cursor.write_as(f, "IterMut")
+        write_struct(f, "IterMut", "raw", &self.entries.cursor.raw())
     }
 }

@@ -8,7 +8,7 @@ ghost use prog.Memory.{size};
 ghost use Rattle.thread_local_buckets.specs.Retired.{retired_owns, rest};
 
 use crate::block::Block;
-use crate::chunk::{Chunk, flag_word_at};
+use crate::chunk::Chunk;
 use std::alloc::Allocator;
 use std::marker::{Model, PhantomData};
 use std::mem::align_of;
@@ -51,7 +51,7 @@ impl<T, A: Allocator> RetiredBlock<T, A> {
     /// Whether the next slot has a value, by its flag in the word of this number. A slot without
     /// one becomes room.
     #[inline]
-    fn is_next_published(&mut self, index: usize, flag_word: usize) -> bool
+    pub(crate) fn is_next_published(&mut self, index: usize, flag_word: usize) -> bool
         requires next { (index ≡ self.old.gone) × (0 < length self.old.slots) }
         requires flag_word { flag_word ≡ flag_word_at T.row (self.old.gone + length self.old.slots) (index / 64) }
         ensures value { result ≡ is_some (slot_value self.old.slots 0) }
@@ -67,7 +67,7 @@ impl<T, A: Allocator> RetiredBlock<T, A> {
 
     /// Moves the value out of the next slot, which becomes room.
     #[inline]
-    fn move_next(&mut self, index: usize) -> T
+    pub(crate) fn move_next(&mut self, index: usize) -> T
         requires in_block { (index ≡ self.old.gone) × (0 < length self.old.slots) }
         requires published { IsSome (slot_value self.old.slots 0) }
         ensures value { slot_value self.old.slots 0 ≡ Some result }
@@ -87,23 +87,6 @@ impl<T, A: Allocator> RetiredBlock<T, A> {
         let Self { at, marker: _ } = self;
         unsafe {
             alloc.deallocate(at as *mut u8, bytes, align_of::<Chunk<T>>());
-        }
-    }
-}
-
-impl<T: Drop, A: Allocator> RetiredBlock<T, A> {
-    /// Drops the value of the next slot, if it has one, and makes the slot room. The block has
-    /// `len` slots.
-    #[inline]
-    pub fn drop_next(&mut self, index: usize, len: usize)
-        requires next { (index ≡ self.old.gone) × (0 < length self.old.slots) }
-        requires len { len ≡ self.old.gone + length self.old.slots }
-        ensures { (self.new.heap ≡ self.old.heap)
-            × (self.new.slots ≡ rest self.old.slots)
-            × (self.new.gone ≡ self.old.gone + 1) }
-    {
-        if self.is_next_published(index, flag_word_at::<T>(len, index / 64)) {
-            drop(self.move_next(index));
         }
     }
 }

@@ -2,28 +2,12 @@
 ghost use Rattle.std.specs.Prelude.{◌≡◌, ℕ, ◌<◌, IsTrue};
 ghost use Rattle.thread_local_base.specs.Place.{id_at};
 ghost use Rattle.thread_local_base.specs.Buckets.{row, stands, IsTable};
-ghost use Rattle.thread_local_base.specs.Rows.{with_row};
 ghost use Rattle.thread_local_base.specs.Owner.{cleared_row};
 
 use super::BucketPointers;
 use thread_local_base::bucket_size;
 
 impl<T: Drop> BucketPointers<T> {
-    /// Drops the values of a bucket, and frees it unless it has one of the first `reserved` slots.
-    #[inline]
-    fn clear_bucket(&mut self, bucket: usize, reserved: usize)
-        requires in_table { bucket < 63 }
-        requires standing { id_at bucket 0 < reserved → IsTrue (stands self.old bucket) }
-        ensures { self.new ≡ with_row self.old bucket (cleared_row reserved bucket) }
-    {
-        let size = bucket_size(bucket);
-        if size <= reserved {
-            self.pointers.pointer_mut(bucket).empty(size);
-        } else {
-            self.pointers.pointer_mut(bucket).release(size, &self.alloc);
-        }
-    }
-
     /// Drops every value. A bucket that has one of the first `reserved` slots stays, and every
     /// other is freed. The last bucket comes first, since the heap takes blocks back faster in this
     /// order; it is the last announced one.
@@ -35,7 +19,13 @@ impl<T: Drop> BucketPointers<T> {
     {
         let last = self.announced().ilog2() as usize;
         'buckets: for done in 0..last + 1 {
-            self.clear_bucket(last - done, reserved);
+            let bucket = last - done;
+            let size = bucket_size(bucket);
+            if size <= reserved {
+                self.pointers.pointer_mut(bucket).empty(size);
+            } else {
+                self.pointers.pointer_mut(bucket).release(size, &self.alloc);
+            }
         }
     }
 }

@@ -1,8 +1,11 @@
-use Rattle.std.proofs.Common.{◌≡◌, ◌⊎◌, ◌+◌, ◌<◌, ◌≤◌, ℕ, List, [], ◌∷◌, length, Option, true, false, inl, inr, refl, sym, ap, ◌∙◌, subst, arith}
+use Rattle.std.proofs.Common.{◌≡◌, ◌⊎◌, ◌+◌, ◌/◌, is_some, ◌<◌, ◌≤◌, ℕ, List, [], ◌∷◌, length, Option, true, false, inl, inr, refl, sym, ap, ◌∙◌, subst, arith}
 use Rattle.std.specs.Prelude.{nat_lt}
 use Rattle.std.proofs.lemmas.Bool.{lt-ltb, ltb-true, true≢false}
 use Rattle.thread_local_buckets.specs.Retired.{rest}
+use Rattle.thread_local_buckets.specs.Slots.{slot_value, flag_word_at}
+use Rattle.thread_local_buckets.specs.contracts.bucket_pointer.BucketPointer.release.{T-row}
 use Rattle.thread_local_buckets.proofs.bucket_pointer.BucketPointer.release.Goals as goal
+use Rattle.thread_local_buckets.proofs.bucket_pointer.BucketPointer.release.Goals.{then-is_next_published, else-is_next_published}
 
 no_slots : {X : Type 0} (cs : List X) → false ≡ nat_lt 0 (length cs) → cs ≡ []
 no_slots [] absent = refl
@@ -54,26 +57,48 @@ slots-init g c =
       (let z : (n len : ℕ) → n ≡ len → n + 0 ≡ len = λ n len e. omega (arith, e) in z (length c.of-retired.result.slots) c.args.len still),
     )
 
-pub drop_next-requires-clause-next : goal.drop_next-requires-clause-next
-drop_next-requires-clause-next g c =
+pub is_next_published-requires : goal.is_next_published-requires
+is_next_published-requires g c =
     let kept = c.slots.invariant in
-    let some : (n i len : ℕ) → n + i ≡ len → i < len → 0 < n = λ n i len all near. omega (arith, all, near) in
-    (sym kept.1, some (length c.slots.retired.slots) c.slots.index c.args.len kept.2 c.slots-test.true)
+    let n : ℕ = length c.slots.retired.slots in
+    let some : 0 < n = omega (arith, kept.2, c.slots-test.true) in
+    let whole : c.args.len ≡ c.slots.retired.gone + n = omega (arith, kept.1, kept.2) in
+    record {
+      next = (sym kept.1, some);
+      flag_word = c.flag_word_at-flag_word.ensures ∙ ap (λ (m : ℕ). flag_word_at (T-row g.row.T) m (c.slots.index / 64)) whole;
+    }
 
-pub drop_next-requires-clause-len : goal.drop_next-requires-clause-len
-drop_next-requires-clause-len g c =
-    let kept = c.slots.invariant in
-    let whole : (gone n i len : ℕ) → gone ≡ i → n + i ≡ len → len ≡ gone + n = λ gone n i len is all. omega (arith, is, all) in
-    whole c.slots.retired.gone (length c.slots.retired.slots) c.slots.index c.args.len kept.1 kept.2
+pub move_next-requires : goal.move_next-requires
+move_next-requires g c =
+    let looked = c.if-is_next_published.ensures in
+    record {
+      in_block = (
+        sym c.slots.invariant.1 ∙ sym looked.after.2,
+        subst (λ (cs : List (Option g.row.T.Denot)). 0 < length cs) (sym looked.after.1)
+            (let kept = c.slots.invariant in omega (arith, kept.2, c.slots-test.true)),
+      );
+      published = ap (λ (cs : List (Option g.row.T.Denot)). is_some (slot_value cs 0)) looked.after.1 ∙ sym looked.value;
+    }
 
 pub slots-preserved : goal.slots-preserved
 slots-preserved g c =
     let kept = c.slots.invariant in
-    let after = c.drop_next.ensures in (
-      after.0 ∙ kept.0,
-      after.2 ∙ ap (λ (n : ℕ). n + 1) kept.1,
-      one_less c.slots.retired.slots c.drop_next.new.self.slots c.slots.index c.args.len after.1 kept.2 c.slots-test.true,
-    )
+    let less = one_less c.slots.retired.slots c.if-is_next_published.retired.slots c.slots.index c.args.len in
+    elim c.if-is_next_published.branch [
+      | then-is_next_published w ↦
+          let looked = w.if-is_next_published.ensures.after in
+          let moved = w.move_next.ensures.after in (
+            ap (λ r. r.heap) w.retired-is ∙ moved.0 ∙ looked.0 ∙ kept.0,
+            ap (λ r. r.gone) w.retired-is ∙ moved.2 ∙ ap (λ (n : ℕ). n + 1) (looked.2 ∙ kept.1),
+            less (ap (λ r. r.slots) w.retired-is ∙ moved.1 ∙ ap rest looked.1) kept.2 c.slots-test.true,
+          )
+      | else-is_next_published w ↦
+          let looked = w.if-is_next_published.ensures.after in (
+            ap (λ r. r.heap) w.retired-is ∙ looked.0 ∙ kept.0,
+            ap (λ r. r.gone) w.retired-is ∙ looked.2 ∙ ap (λ (n : ℕ). n + 1) kept.1,
+            less (ap (λ r. r.slots) w.retired-is ∙ looked.1) kept.2 c.slots-test.true,
+          )
+    ]
 
 pub deallocate-requires-clause-left : goal.deallocate-requires-clause-left
 deallocate-requires-clause-left g c =
