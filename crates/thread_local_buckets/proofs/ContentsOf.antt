@@ -1,6 +1,6 @@
 -- The contents of a table's pointers, and how they change with one pointer.
 use Rattle.std.proofs.Common.{◌≡◌, ℕ, zero, suc, ◌^◌, ◌<◌, subst, List, [], ◌∷◌, map, length, replicate, set, refl, sym}
-use Rattle.std.proofs.Common.{ap, ◌∙◌, arith, Option, Some}
+use Rattle.std.proofs.Common.{ap, ◌∙◌, arith, Option}
 use Rattle.std.specs.Prelude.{slice_index_or}
 use Rattle.std.proofs.lemmas.List.{map-set}
 use Rattle.std.proofs.Math.Seq.{map-set_same}

@@ -1,6 +1,6 @@
 -- How many values the flags of a chunk count.
-use Rattle.std.proofs.Common.{◌≡◌, ℕ, ◌+◌, ◌-◌, ◌*◌, ◌/◌, ◌^◌, ◌<◌, ◌≤◌, min, length}
-use Rattle.std.proofs.Common.{zero, suc, [], false, count_ones, is_some, sym, ap, subst, ◌∙◌, arith}
+use Rattle.std.proofs.Common.{◌≡◌, ℕ, ◌+◌, ◌*◌, ◌/◌, ◌^◌, ◌<◌, min, length}
+use Rattle.std.proofs.Common.{[], false, count_ones, is_some, sym, ap, subst, ◌∙◌, arith}
 use Rattle.thread_local_base.specs.Bits.{is_set, IsLowestSet, IsWordBut}
 use Rattle.thread_local_base.specs.Place.{id_at}
 use Rattle.thread_local_base.specs.Buckets.{Contents, row, values}

@@ -1,5 +1,5 @@
 -- A table's pointers, their contents, and the pointers once one of them changes.
-use Rattle.std.specs.Prelude.{ℕ, List, Option, [], map, slice_set, slice_index_or}
+use Rattle.std.specs.Prelude.{ℕ, List, Option, [], map, slice_set}
 use denote.RawPtr.{null_ptr}
 use Rattle.thread_local_base.specs.Buckets.{Contents}
 use Rattle.thread_local_buckets.specs.declared.bucket_pointer.BucketPointer.{BucketPointer}

@@ -5,6 +5,7 @@ ghost use Rattle.thread_local_base.specs.Buckets.{row, stands, no_contents, IsTa
 ghost use Rattle.thread_local_base.specs.Rows.{value_in, with_row, with_slot, empty_row};
 ghost use Rattle.thread_local_buckets.specs.Announced.{Announces};
 ghost use Rattle.thread_local_buckets.specs.Cursor.{AreFlagsAt};
+ghost use Rattle.thread_local_buckets.specs.Slots.{flag_word_at};
 
 use crate::announced::FIRST_SEVEN;
 use crate::pointer_array::PointerArray;
@@ -133,17 +134,16 @@ impl<T> FlagSource for BucketPointers<T> {
 
     /// The flags of a chunk's slots, a bit each. The bits past the last slot are 0.
     #[inline]
-    fn flags(&mut self, bucket: usize, size: usize, chunk: usize) -> u64
+    fn flags(&mut self, bucket: usize, chunk: usize, flag_word: usize) -> u64
         requires in_table { bucket < 63 }
-        requires size { size ≡ 2 ^ bucket }
         requires in_bucket { chunk * 64 < length (row self.old bucket) }
+        requires flag_word { flag_word ≡ flag_word_at T.row (2 ^ bucket) chunk }
         ensures same { self.new ≡ self.old }
         ensures value { (bit : ℕ)
             → bit < 64
             → is_set result bit ≡ is_some (value_in self.old bucket (chunk * 64 + bit)) }
         ensures table { IsTable self.old }
     {
-        let flag_word = flag_word_at::<T>(size, chunk);
         self.pointers.pointer_mut(bucket).flags(chunk, flag_word)
     }
 }

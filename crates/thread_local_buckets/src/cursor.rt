@@ -8,10 +8,11 @@ ghost use Rattle.thread_local_base.specs.Rows.{value_in, with_slot};
 ghost use Rattle.thread_local_base.specs.Walk.{walk, paired};
 ghost use Rattle.thread_local_base.specs.Owner.{NoneBelow};
 ghost use Rattle.thread_local_buckets.specs.Announced.{AreAhead};
+ghost use Rattle.thread_local_buckets.specs.Slots.{flag_word_at};
 ghost use Rattle.thread_local_buckets.specs.Cursor.{behind_next, read_to, slot_at, values_left, AreFlagsAt};
 ghost use Rattle.thread_local_buckets.specs.Cursor.{HasRead, IsAt, IsOwnerWalk, MayRead};
 
-use crate::{take_first, take_first_bucket};
+use crate::{flag_word_at, take_first, take_first_bucket};
 use std::fmt;
 
 /// What a walk reads: which buckets stand, and the flags of their slots, 64 to a word. A flag is
@@ -35,12 +36,12 @@ pub trait FlagSource {
         ensures absent { result ≡ false → row (contents self.old) bucket ≡ [] };
 
     /// The flags of a chunk's slots, which begin with slot `chunk * 64` of the bucket. The bits
-    /// past the last slot are 0. The caller passes the bucket's size.
-    fn flags(&mut self, bucket: usize, size: usize, chunk: usize) -> u64
+    /// past the last slot are 0. The caller passes the number of their word.
+    fn flags(&mut self, bucket: usize, chunk: usize, flag_word: usize) -> u64
         requires in_table { bucket < 63 }
-        requires size { size ≡ 2 ^ bucket }
         requires in_bucket { chunk * 64 < length (row (contents self.old) bucket) }
         requires ahead { given self.old ≤ id_at bucket (chunk * 64) }
+        requires flag_word { flag_word ≡ flag_word_at Self.Value.row (2 ^ bucket) chunk }
         ensures same { self.new ≡ self.old }
         ensures value { (bit : ℕ)
             → bit < 64
@@ -89,7 +90,8 @@ fn flags_in_bucket<P: FlagSource>(source: &mut P, raw: &mut RawIter, chunk: &mut
     }
     *chunk = raw.index / 64;
     'chunks: loop {
-        let flags = source.flags(raw.bucket, raw.bucket_size, *chunk);
+        let flag_word = flag_word_at::<P::Value>(raw.bucket_size, *chunk);
+        let flags = source.flags(raw.bucket, *chunk, flag_word);
         raw.index += 64;
         if flags != 0 || raw.index >= raw.bucket_size {
             return flags;

@@ -10,7 +10,7 @@ ghost use Rattle.thread_local_base.specs.Bits.{is_set};
 ghost use Rattle.thread_local_buckets.specs.Slots.{flag_word_at};
 ghost use Rattle.thread_local_buckets.specs.Lent.{loan_owns};
 
-use crate::{Chunk, FlagSource, flag_word_at};
+use crate::{Chunk, FlagSource};
 use std::marker::{Model, PhantomData};
 
 /// The pointers of an owner's buckets, lent to a walk that writes. It gives the values by ascending
@@ -45,27 +45,6 @@ impl<'a, T> Model for Loan<'a, T> {
 }
 
 impl<'a, T> Loan<'a, T> {
-    /// The flags of a chunk's slots, of which no value has been given yet, by the number of their
-    /// word.
-    #[inline]
-    fn flags_at(&mut self, bucket: usize, chunk: usize, flag_word: usize) -> u64
-        requires in_table { bucket < 63 }
-        requires in_bucket { chunk * 64 < length (row self.old.contents bucket) }
-        requires ahead { self.old.given ≤ id_at bucket (chunk * 64) }
-        requires flag_word { flag_word ≡ flag_word_at T.row (2 ^ bucket) chunk }
-        ensures same { self.new ≡ self.old }
-        ensures value { (bit : ℕ)
-            → bit < 64
-            → is_set result bit ≡ is_some (value_in self.old.contents bucket (chunk * 64 + bit)) }
-        ensures table { IsTable self.old.contents }
-    {
-        let _ = chunk;
-        unsafe {
-            let block = *self.pointers.add(bucket);
-            *(block as *const u64).add(flag_word)
-        }
-    }
-
     /// Enters the chunk whose first slot this is.
     #[inline]
     pub fn enter(&mut self, bucket: usize, first: usize)
@@ -126,18 +105,22 @@ impl<T> FlagSource for Loan<'_, T> {
 
     /// The flags of a chunk's slots, of which no value has been given yet.
     #[inline]
-    fn flags(&mut self, bucket: usize, size: usize, chunk: usize) -> u64
+    fn flags(&mut self, bucket: usize, chunk: usize, flag_word: usize) -> u64
         requires in_table { bucket < 63 }
-        requires size { size ≡ 2 ^ bucket }
         requires in_bucket { chunk * 64 < length (row self.old.contents bucket) }
         requires ahead { self.old.given ≤ id_at bucket (chunk * 64) }
+        requires flag_word { flag_word ≡ flag_word_at T.row (2 ^ bucket) chunk }
         ensures same { self.new ≡ self.old }
         ensures value { (bit : ℕ)
             → bit < 64
             → is_set result bit ≡ is_some (value_in self.old.contents bucket (chunk * 64 + bit)) }
         ensures table { IsTable self.old.contents }
     {
-        self.flags_at(bucket, chunk, flag_word_at::<T>(size, chunk))
+        let _ = chunk;
+        unsafe {
+            let block = *self.pointers.add(bucket);
+            *(block as *const u64).add(flag_word)
+        }
     }
 }
 

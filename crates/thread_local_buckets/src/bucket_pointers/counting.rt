@@ -11,7 +11,7 @@ ghost use Rattle.thread_local_buckets.specs.Cursor.{values_left, IsOwnerWalk};
 
 use super::BucketPointers;
 use crate::announced::FIRST_SEVEN;
-use crate::{FlagSource, OwnerCursor, RawIter, take_first_bucket};
+use crate::{FlagSource, OwnerCursor, RawIter, flag_word_at, take_first_bucket};
 use thread_local_base::bucket_size;
 
 impl<T> BucketPointers<T> {
@@ -28,7 +28,8 @@ impl<T> BucketPointers<T> {
     {
         let mut count = 0;
         for chunk in from..to {
-            count += self.flags(bucket, size, chunk).count_ones() as usize;
+            let flag_word = flag_word_at::<T>(size, chunk);
+            count += self.flags(bucket, chunk, flag_word).count_ones() as usize;
         }
         count
     }
@@ -46,7 +47,8 @@ impl<T> BucketPointers<T> {
     {
         let mut any = 0;
         for at in 0..8 {
-            any |= self.flags(bucket, size, chunk + at);
+            let flag_word = flag_word_at::<T>(size, chunk + at);
+            any |= self.flags(bucket, chunk + at, flag_word);
         }
         if any == 0 {
             return 0;

@@ -36,9 +36,10 @@ impl<T> BucketPointers<T> {
         ensures within { result ≡ true → thread.index < length (row self.old thread.bucket) }
         ensures stands { result ≡ true → stands self.old thread.bucket ≡ true }
     {
-        let size = bucket_size(thread.bucket);
+        let chunk = thread.index / 64;
+        let flag_word = flag_word_at::<T>(bucket_size(thread.bucket), chunk);
         self.stands(thread.bucket)
-            && self.flags(thread.bucket, size, thread.index / 64) >> (thread.index % 64) & 1 == 1
+            && self.flags(thread.bucket, chunk, flag_word) >> (thread.index % 64) & 1 == 1
     }
 }
 
@@ -49,12 +50,11 @@ impl<T: Drop> BucketPointers<T> {
         ensures { self.new ≡ with_slot self.old thread.bucket thread.index
             (Some (unwrap_or (value_in self.old thread.bucket thread.index) value)) }
     {
-        let size = bucket_size(thread.bucket);
         let chunk = thread.index / 64;
-        let flags = self.flags(thread.bucket, size, chunk);
+        let flag_word = flag_word_at::<T>(bucket_size(thread.bucket), chunk);
+        let flags = self.flags(thread.bucket, chunk, flag_word);
         if flags >> (thread.index % 64) & 1 != 1 {
             let flags = flags | 1 << (thread.index % 64);
-            let flag_word = flag_word_at::<T>(size, chunk);
             self.pointers
                 .pointer_mut(thread.bucket)
                 .publish_and_store(thread.index, flag_word, flags, value);

@@ -7,6 +7,8 @@ use Rattle.thread_local_base.specs.Buckets.{Contents, row, values}
 use Rattle.thread_local_base.specs.Owner.{NoneBelow}
 use Rattle.thread_local_base.proofs.TakingLaws.{NoneBelow-absent}
 use Rattle.thread_local_buckets.specs.Cursor.{behind_next, read_to, IsAt}
+use Rattle.thread_local_buckets.specs.Slots.{flag_word_at}
+use Rattle.thread_local_buckets.specs.contracts.chunk.flag_word_at.{T-row}
 use Rattle.thread_local_buckets.specs.declared.cursor.RawIter.{RawIter}
 use Rattle.thread_local_buckets.proofs.FlagLaws.{behind_chunk, none_to_next}
 use Rattle.thread_local_buckets.proofs.cursor.flags_in_bucket.Goals as goal
@@ -66,7 +68,7 @@ flags-flags-requires g c =
     let first : ℕ = c.chunks.chunk * 64 in
     record {
       in_table = kept.at.in_table;
-      size = kept.at.size;
+      flag_word = c.flag_word_at-flag_word.ensures ∙ ap (λ (n : ℕ). flag_word_at (T-row g.row.P-Value) n c.chunks.chunk) kept.at.size;
       in_bucket = subst (λ (l : g.row.P.Denot). first < length (row (g.P.FlagSource.contents l) raw.bucket)) (sym kept.same)
           (omega (arith, kept.whole, kept.inside, kept.chunk));
       ahead = subst (λ (l : g.row.P.Denot). g.P.FlagSource.given l ≤ id_at raw.bucket first) (sym kept.same)

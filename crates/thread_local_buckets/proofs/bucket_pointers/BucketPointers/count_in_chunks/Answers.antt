@@ -4,6 +4,8 @@ use Rattle.thread_local_base.specs.Buckets.{Contents, row, values}
 use Rattle.thread_local_base.specs.Place.{id_at}
 use Rattle.thread_local_base.proofs.TakingLaws.{count_below-le}
 use Rattle.thread_local_buckets.specs.Counted.{counted_to}
+use Rattle.thread_local_buckets.specs.Slots.{flag_word_at}
+use Rattle.thread_local_buckets.specs.contracts.chunk.flag_word_at.{T-row}
 use Rattle.thread_local_buckets.proofs.Counting.{chunk_counted}
 use Rattle.thread_local_buckets.proofs.bucket_pointers.BucketPointers.count_in_chunks.Goals as goal
 
@@ -15,8 +17,16 @@ flags-requires g c =
     let long : length (row c.loop-chunk.self c.args.bucket)
     ≡ length (row c.args.self.now c.args.bucket) =
     ap (λ (w : Contents g.row.T.Denot). length (row w c.args.bucket))
-    c.loop-chunk.invariant.same in
-    (lit< tt, (c.requires.in_table, (c.requires.size, omega (arith, long, c.requires.whole, c.requires.inside, c.loop-chunk-test.true))))
+    c.loop-chunk.invariant.same in (
+      lit< tt,
+      (
+        c.requires.in_table,
+        (
+          omega (arith, long, c.requires.whole, c.requires.inside, c.loop-chunk-test.true),
+          c.flag_word_at-flag_word.ensures ∙ ap (λ (n : ℕ). flag_word_at (T-row g.row.T) n c.loop-chunk.chunk) c.requires.size,
+        ),
+      ),
+    )
 
 pub overflow_add-count : goal.overflow_add-count
 overflow_add-count g c =

@@ -1,7 +1,9 @@
-use Rattle.std.proofs.Common.{◌≡◌, ℕ, ◌+◌, ◌*◌, ◌/◌, ◌^◌, ◌<◌, ◌≤◌, length, bit_or, refl, ap, ◌∙◌, subst, arith, lit<}
+use Rattle.std.proofs.Common.{◌≡◌, ℕ, ◌+◌, ◌^◌, length, bit_or, refl, ap, ◌∙◌, subst, arith, lit<}
 use Rattle.std.proofs.lemmas.Nat.{le_or_l, le_or_r}
 use Rattle.thread_local_base.specs.Buckets.{Contents, row}
 use Rattle.thread_local_buckets.specs.Counted.{counted_to}
+use Rattle.thread_local_buckets.specs.Slots.{flag_word_at}
+use Rattle.thread_local_buckets.specs.contracts.chunk.flag_word_at.{T-row}
 use Rattle.thread_local_buckets.proofs.Counting.{none_counted}
 use Rattle.thread_local_buckets.proofs.bucket_pointers.BucketPointers.count_in_eight.Goals as goal
 
@@ -15,8 +17,16 @@ pub flags-any-requires : goal.flags-any-requires
 flags-any-requires g c =
     let long : length (row c.loop-at.self c.args.bucket)
     ≡ length (row c.args.self.now c.args.bucket) =
-    ap (λ (w : Contents g.row.T.Denot). length (row w c.args.bucket)) c.loop-at.invariant.same in
-    (lit< tt, (c.requires.in_table, (c.requires.size, omega (arith, long, c.requires.whole, c.requires.inside, c.loop-at-test.true))))
+    ap (λ (w : Contents g.row.T.Denot). length (row w c.args.bucket)) c.loop-at.invariant.same in (
+      lit< tt,
+      (
+        c.requires.in_table,
+        (
+          omega (arith, long, c.requires.whole, c.requires.inside, c.loop-at-test.true),
+          c.flag_word_at-flag_word.ensures ∙ ap (λ (n : ℕ). flag_word_at (T-row g.row.T) n (c.args.chunk + c.loop-at.at)) c.requires.size,
+        ),
+      ),
+    )
 
 pub loop-at-preserved : goal.loop-at-preserved
 loop-at-preserved g c =

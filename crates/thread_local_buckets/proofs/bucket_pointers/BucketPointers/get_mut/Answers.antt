@@ -1,9 +1,9 @@
-use Rattle.std.proofs.Common.{◌≡◌, ◌<◌, List, Option, None, length, refl, sym, ap, ◌∙◌, subst, Some}
+use Rattle.std.proofs.Common.{◌<◌, List, Option, None, length, refl, sym, ap, ◌∙◌, subst, Some}
 use Rattle.std.specs.Prelude.{slice_index_or, IsSome}
 use Rattle.thread_local_base.specs.Buckets.{Contents}
 use Rattle.thread_local_base.specs.Rows.{with_slot}
 use Rattle.thread_local_buckets.specs.LentValue.{with_slot_value}
-use Rattle.thread_local_buckets.specs.Pointers.{contents_of, with_pointer}
+use Rattle.thread_local_buckets.specs.Pointers.{contents_of}
 use Rattle.thread_local_buckets.proofs.Announcing.{IsAnnounced, IsAnnounced-with_slot}
 use Rattle.thread_local_buckets.proofs.ContentsOf.{row_seen, slot_changes}
 use Rattle.thread_local_buckets.proofs.bucket_pointers.BucketPointers.get_mut.Goals as goal

@@ -1,5 +1,5 @@
-use Rattle.std.proofs.Common.{◌≡◌, subst, sym}
-use Rattle.thread_local_base.specs.Buckets.{Contents, no_contents}
+use Rattle.std.proofs.Common.{subst, sym}
+use Rattle.thread_local_base.specs.Buckets.{Contents}
 use Rattle.thread_local_base.proofs.FillingLaws.{IsTable-no_contents}
 use Rattle.thread_local_buckets.proofs.Announcing.{IsAnnounced, Announces-new}
 use Rattle.thread_local_buckets.proofs.ContentsOf.{no_contents_of}

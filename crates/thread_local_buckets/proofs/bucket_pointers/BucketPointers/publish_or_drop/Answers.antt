@@ -1,4 +1,4 @@
-use Rattle.std.proofs.Common.{◌≡◌, ◌∙◌, ◌*◌, ◌/◌, ◌%◌, ◌^◌, ◌<◌, ℕ, bit_and, bit_or, [], List, Option, None, Some, IsSome, is_some, length, refl, sym, ap, subst}
+use Rattle.std.proofs.Common.{◌≡◌, ◌∙◌, ◌/◌, ◌%◌, ◌^◌, ◌<◌, ℕ, bit_and, [], List, Option, None, Some, IsSome, length, refl, sym, ap, subst}
 use Rattle.std.specs.Prelude.{slice_index_or, slice_set, unwrap_or}
 use Rattle.std.proofs.lemmas.Bool.{eq-eqb, ne_eqb}
 use Rattle.std.proofs.lemmas.List.{set-get_or}
@@ -41,8 +41,8 @@ publish_and_store-requires g c =
       in_block = near;
       flag_word = c.flag_word_at-flag_word.ensures
           ∙ ap (λ (n : ℕ). flag_word_at (T-row g.row.T) n (i / 64))
-          (size_of_pointer c.self.inside.pointers now b i c.bucket_size-size.result c.pointer_mut.result.now
-          (c.self.view_is ∙ c.flags-flags.ensures.same) c.self.invariant.0 c.pointer_mut.ensures.value c.requires.in_bucket c.bucket_size-size.ensures);
+          (size_of_pointer c.self.inside.pointers now b i c.bucket_size.result c.pointer_mut.result.now
+          (c.self.view_is ∙ c.flags-flags.ensures.same) c.self.invariant.0 c.pointer_mut.ensures.value c.requires.in_bucket c.bucket_size.ensures);
       empty = shows_none (slice_index_or c.pointer_mut.result.now.slots i None)
           (flag_read c.pointer_mut.result.now.slots i word flags ∙ ne_eqb (bit_and (word / 2 ^ (i % 64)) 1) 1 c.if-flags-thread-ne1.true);
       flags = flags_changed c.pointer_mut.result.now.slots i (Some c.args.value) word _ near flags (set_bit word (i % 64) (place_below i));

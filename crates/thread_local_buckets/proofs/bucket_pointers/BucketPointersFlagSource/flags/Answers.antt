@@ -1,4 +1,4 @@
-use Rattle.std.proofs.Common.{◌∙◌, ap, sym, subst, List, Option, None, length, is_some}
+use Rattle.std.proofs.Common.{◌∙◌, refl, ◌^◌, ap, sym, subst, List, Option, None, length, is_some}
 use Rattle.std.specs.Prelude.{◌*◌, ◌+◌, ◌<◌, ℕ, slice_index_or}
 use Rattle.thread_local_base.specs.Buckets.{Contents, IsTable}
 use Rattle.thread_local_buckets.specs.Slots.{flag_word_at}
@@ -8,11 +8,12 @@ use Rattle.thread_local_buckets.proofs.ContentsOf.{size_of_pointer, row_seen, co
 use Rattle.thread_local_buckets.proofs.bucket_pointers.BucketPointersFlagSource.flags.Goals as goal
 
 pub flags-requires-clause-flag_word : goal.flags-requires-clause-flag_word
-flags-requires-clause-flag_word g c = c.flag_word_at-flag_word.ensures
-    ∙ ap (λ (n : ℕ). flag_word_at (T-row g.row.T) n (c.args.chunk))
+flags-requires-clause-flag_word g c =
+    c.requires.flag_word
+    ∙ ap (λ (n : ℕ). flag_word_at (T-row g.row.T) n c.args.chunk)
     (size_of_pointer c.self.inside.pointers c.args.self.now c.args.bucket (c.args.chunk * 64)
-    c.args.size c.pointer_mut.result.now c.self.view_is c.self.invariant.0
-    c.pointer_mut.ensures.value c.requires.in_bucket c.requires.size)
+    (2 ^ c.args.bucket) c.pointer_mut.result.now c.self.view_is c.self.invariant.0
+    c.pointer_mut.ensures.value c.requires.in_bucket refl)
 
 -- The search for these takes seconds.
 pub flags-requires-clause-in_block : goal.flags-requires-clause-in_block

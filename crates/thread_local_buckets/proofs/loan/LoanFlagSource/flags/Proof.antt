@@ -1,4 +1,4 @@
--- `flags_at` reads a bucket's pointer, and the word of a chunk in the block that it points to.
+-- `flags` reads a bucket's pointer, and the word of a chunk in the block that it points to.
 use Rattle.thread_local_base.proofs.Names.{drop, apply∗, sem, split3, is, length, is_some, cell, ◌≤◌, ◌≡◌, ℕ, ◌+◌}
 use Rattle.thread_local_base.proofs.Names.{◌*◌, ◌^◌, ◌<◌, List, [], ◌∷◌, sym, refl, ap, ◌∙◌, subst, arith, w64}
 use Rattle.thread_local_base.proofs.Names.{a_type, named, Val, vint, vptr, inst_fn, full_share, SProp, Fml}
@@ -24,16 +24,16 @@ use Rattle.thread_local_buckets.proofs.Slots.{IsWordOf, IsWordNear, word_is_near
 use Rattle.thread_local_base.proofs.RowLaws.{row_whole}
 use Rattle.thread_local_buckets.specs.Lent.{Lending, Known, lending, framed, frames, flagged, PointsTo}
 use Rattle.thread_local_buckets.specs.contracts.loan.Loan as loan
-use Rattle.thread_local_buckets.specs.contracts.loan.Loan.flags_at.{ended, clauses, Key.name as #self}
+use Rattle.thread_local_buckets.specs.contracts.loan.LoanFlagSource.flags.{ended, clauses, Key.name as #self}
 use Rattle.thread_local_buckets.proofs.LoanFields.{FieldsType, told, loan_val, leads_in}
 use Rattle.thread_local_buckets.proofs.Frames.{pointer, in_row, Frame, frame_out}
 use Rattle.thread_local_buckets.proofs.Reading.{word_out, says_of_left}
-use Rattle.thread_local_buckets.proofs.loan.Loan.flags_at.Statement.{statement}
-use Rattle.thread_local_buckets.proofs.loan.Loan.flags_at.Code as code
+use Rattle.thread_local_buckets.proofs.loan.LoanFlagSource.flags.Statement.{statement}
+use Rattle.thread_local_buckets.proofs.loan.LoanFlagSource.flags.Code as code
 use Rattle.thread_local_base.proofs.Walking.{knows}
 
-pub flags_at_spec : {M : Type 1} → statement M
-flags_at_spec 𝓤 𝓛 𝓜 𝓡 wired X L =
+pub flags_spec : {M : Type 1} → statement M
+flags_spec 𝓤 𝓛 𝓜 𝓡 wired X L =
     let 𝓣 = tables 𝓤 𝓛.H 𝓜 𝓡 𝓡.env in let R : RattleType = param 0 X in let En = ended X in
     let c₀ = clauses X 𝓛 𝓜.mem 𝓡.returns in
     let inst = layouts (a_type ∷ []) (X, tt) in let fn = inst_fn inst code.function in
