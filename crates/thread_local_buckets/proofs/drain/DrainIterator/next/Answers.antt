@@ -27,10 +27,6 @@ returns-then-is_over g c =
     let none = nil_from_length (walk (values c.args.self.now.buckets.now.contents)) (sym c.requires.counted ∙ over) in
     record { steps = ((none, none), (refl, refl), c.requires); goes = record { on = λ _. tt; keeps = tt; rests = λ _. tt } }
 
--- The search for these takes a second.
-pub take_next-value-requires : goal.take_next-value-requires
-take_next-value-requires g c = (lit< tt, (c.requires, c.is_over.ensures.goes_on c.if-is_over.false))
-
 pub invariant_of-self : goal.invariant_of-self
 invariant_of-self g c =
     let taken = c.take_next-value in
