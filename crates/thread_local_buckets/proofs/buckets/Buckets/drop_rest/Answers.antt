@@ -1,9 +1,7 @@
-use Rattle.std.proofs.Common.{◌≡◌, ◌+◌, ◌≤◌, ℕ, ap, sym, ◌∙◌, subst, arith}
+use Rattle.std.proofs.Common.{◌≡◌, ◌+◌, ◌≤◌, ℕ, ap, sym, ◌∙◌, arith}
 use Rattle.thread_local_base.specs.Buckets.{Contents}
-use Rattle.thread_local_base.specs.Owned.{Owned, IsOwned}
-use Rattle.thread_local_base.specs.Owner.{emptied}
-use Rattle.thread_local_buckets.specs.Cursor.{values_left, IsOwnerWalk}
-use Rattle.thread_local_buckets.specs.Emptied.{owned_emptied}
+use Rattle.thread_local_base.specs.Owned.{Owned}
+use Rattle.thread_local_buckets.specs.Cursor.{values_left}
 use Rattle.thread_local_buckets.proofs.buckets.Buckets.drop_rest.Goals as goal
 
 one_more : (counter before after end : ℕ) → counter + before ≡ end → after + 1 ≡ before → counter + 1 + after ≡ end
