@@ -47,11 +47,6 @@ module _ {M : Type 1} {𝓤 : Ura M} (𝓛 : Logic 𝓤) where
   infix 26 ◌⊢◌
   infixr 35 ◌∗◌
   -- ---- the log
-  pub log_begins : (γ : GName) (out : List ℕ) → is_out out log_key ≡ false
-      → ⟦ rights_own γ out ⟧ ⊢ ⟦ log_owns γ true [] ⟧ ∗ ⟦ rights_own γ (log_key ∷ out) ⟧
-  unfolding right_owns log_owns
-  log_begins γ out free = rights_cut 𝓛 γ out log_key (omega arith) free
-
   pub log_halved : (γ : GName) (log : List IdMove) → ⟦ log_owns γ true log ⟧ ⊢ ⟦ log_owns γ false log ⟧ ∗ ⟦ log_owns γ false log ⟧
   unfolding log_owns
   log_halved γ log = halved 𝓛 log_key γ log
@@ -473,23 +468,6 @@ module _ {M : Type 1} {𝓤 : Ura M} (𝓛 : Logic 𝓤) where
       nothing ! $ fpack ! (IsTiedTo n more out' more) (λ _. ftrue) tied' $ move ! (4 ∷ 0 ∷ []) $ fjoin ! $
       move ! (3 ∷ 0 ∷ []) $ fjoin ! $ move ! (2 ∷ 0 ∷ []) $ fjoin ! $ fpack ! Kept (kept_with γ n) (more, (out', more)) $
       frame ! $ done !))))
-
-  -- ---- at the beginning
-  pub begins : (γ : GName) (out : List ℕ) → AreOutOf out [] → AreNotedOut out []
-      → ⟦ history_owns γ [] ⟧ ∗ ⟦ rights_own γ out ⟧ ∗ ⟦ log_owns γ false [] ⟧ ⊢ ⟦ lies_with γ 0 ⟧
-  begins γ out are notes =
-      let tied : IsTiedTo 0 [] out [] = record {
-        word = laws.word_begins;
-        rights = are;
-        notes = notes;
-        beyond = λ id _. refl;
-        peak = refl;
-        early = O.same [];
-      } in
-      qed 𝓛 (‵ (history_owns γ []) ∷ ‵ (rights_own γ out) ∷ ‵ (log_owns γ false []) ∷ []) ∵
-      nothing ! $ use1 𝓛 (‵ (all_noted γ [])) (id⊢ 𝓤 _) $ move ! (1 ∷ 0 ∷ []) $ fjoin ! $
-      nothing ! $ fpack ! (IsTiedTo 0 [] out []) (λ _. ftrue) tied $ move ! (3 ∷ 0 ∷ []) $ fjoin ! $
-      move ! (2 ∷ 0 ∷ []) $ fjoin ! $ move ! (1 ∷ 0 ∷ []) $ fjoin ! $ fpack ! Kept (kept_with γ 0) ([], (out, [])) $ done !
 
   -- ---- the atomic steps
   module _ (γ b o : ℕ) (κ : Lft) (q : Share) where

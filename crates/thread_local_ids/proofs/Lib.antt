@@ -8,6 +8,7 @@ pub mod Logs
 mod Ordered
 pub mod ReturnLaws
 mod Steps
+mod Begun
 mod BothLent
 mod Facts
 pub mod TokenListLaws

@@ -110,13 +110,6 @@ module _ {M : Type 1} {𝓤 : Ura M} (𝓛 : Logic 𝓤) where
       move ! (2 ∷ 0 ∷ []) $ fjoin ! $ fpack ! ℕ (page_as γ moves) δ $ frame ! $
       move ! (1 ∷ 0 ∷ []) $ fjoin ! $ fpack ! ℕ (page_as γ moves) δ $ done !)
 
-  -- whoever has the history has a page of what was done so far
-  pub history_shows : (γ : GName) (moves : List IdMove)
-      → ⟦ history_owns γ moves ⟧ ⊢ ⟦ history_owns γ moves ⟧ ∗ ⟦ page_owns γ moves ⟧
-  history_shows γ moves =
-      qed 𝓛 (‵ (history_owns γ moves) ∷ []) ∵
-      use1 𝓛 (‵ (page_owns γ moves) ⊛ ‵ (history_owns γ moves)) (page_of γ moves) $ split ! $ move ! (1 ∷ 0 ∷ []) $ done !
-
   -- whoever holds an id has the page that ends with its take
   pub tenure_shows : (γ : GName) (before : List IdMove)
       → ⟦ tenure_of γ before ⟧ ⊢ ⟦ tenure_of γ before ⟧ ∗ ⟦ page_owns γ (noted before Take) ⟧

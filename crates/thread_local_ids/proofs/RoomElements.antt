@@ -1,5 +1,5 @@
 -- The room of a table under its name: how it is noted, had twice and compared. Assumes `Logic`.
-use Rattle.std.proofs.Common.{◌≡◌, ℕ, false, List, [], ◌∷◌, refl, sym, ap, ◌∙◌, arith}
+use Rattle.std.proofs.Common.{◌≡◌, ℕ, List, [], ◌∷◌, refl, sym, ap, ◌∙◌}
 use mathlib.Core.List.{IsPrefix}
 use mathlib.Core.Option.{none, some}
 use seplogic.Ra.Ura.{Ura}
@@ -10,8 +10,7 @@ use base.Shift.{Keyless}
 use types.Logic.{Logic, sem}
 use types.Kit.{‵, raw, ◌⊛◌, ◌$◌, ◌∵◌, !, qed, move, drop, split, suffices, settle, use1, done}
 use Rattle.thread_local_base.specs.IdMoves.{IdMove, Take, Give, Publish}
-use Rattle.thread_local_ids.specs.Rights.{is_out, element_at, room_key, room_owns, right_owns, rights_own}
-use Rattle.thread_local_ids.proofs.RightElements.{rights_cut}
+use Rattle.thread_local_ids.specs.Rights.{element_at, room_key, room_owns, right_owns}
 use Rattle.thread_local_ids.proofs.Logs.{O, shows, part_off, part_twice, grown}
 
 first : List IdMove → ℕ
@@ -32,7 +31,7 @@ module _ {M : Type 1} {𝓤 : Ura M} (𝓛 : Logic 𝓤) where
   noting ids = Give ids ∷ []
 
   -- the right to the key of the room becomes the room
-  room_noted : (γ : GName) (ids : ℕ) → ent 𝓤 ⟦ right_owns γ room_key ⟧ (upd 𝓤 ⟦ room_owns γ ids ⟧)
+  pub room_noted : (γ : GName) (ids : ℕ) → ent 𝓤 ⟦ right_owns γ room_key ⟧ (upd 𝓤 ⟦ room_owns γ ids ⟧)
   unfolding right_owns room_owns
   room_noted γ ids =
       let all : Fml = element_at room_key γ (some full_share, noting ids) in
@@ -42,16 +41,6 @@ module _ {M : Type 1} {𝓤 : Ura M} (𝓛 : Logic 𝓤) where
       settle 𝓛 ⟦ part ⟧ (‵ all) $
       use1 𝓛 (‵ part ⊛ ‵ all) (part_off 𝓛 room_key γ (noting ids) (noting ids) (O.same (noting ids))) $
       split ! $ move ! (1 ∷ []) $ drop ! $ suffices ! _ (upd_i 𝓤 ⟦ part ⟧) $ done !
-
-  pub note_room : (γ : GName) (out : List ℕ) (ids : ℕ) → is_out out room_key ≡ false
-      → ent 𝓤 ⟦ rights_own γ out ⟧ (upd 𝓤 (sep 𝓤 ⟦ room_owns γ ids ⟧ ⟦ rights_own γ (room_key ∷ out) ⟧))
-  note_room γ out ids free =
-      let left : Fml = rights_own γ (room_key ∷ out) in
-      let Z : SProp 𝓤 = sep 𝓤 ⟦ room_owns γ ids ⟧ ⟦ left ⟧ in
-      qed 𝓛 (‵ (rights_own γ out) ∷ []) ∵
-      use1 𝓛 (‵ (right_owns γ room_key) ⊛ ‵ left) (rights_cut 𝓛 γ out room_key (omega arith) free) $ split ! $
-      use1 𝓛 (raw (upd 𝓤 ⟦ room_owns γ ids ⟧)) (room_noted γ ids) $
-      settle 𝓛 Z (‵ (room_owns γ ids)) $ suffices ! _ (upd_i 𝓤 Z) $ done !
 
   pub room_twice : (γ : GName) (ids : ℕ)
       → ent 𝓤 ⟦ room_owns γ ids ⟧ (sep 𝓤 ⟦ room_owns γ ids ⟧ ⟦ room_owns γ ids ⟧)

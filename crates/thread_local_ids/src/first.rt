@@ -8,30 +8,26 @@ ghost use mathlib.Core.List.{IsPrefix};
 ghost use Rattle.thread_local_base.specs.Bits.{IsLowestUnset};
 ghost use Rattle.thread_local_base.specs.SharedWord.{word_shares, word_owns};
 ghost use Rattle.thread_local_base.specs.IdMoves.{IdMove, Take, moves_coded, held_after, noted, published_in};
-ghost use Rattle.thread_local_ids.specs.Rights.{is_out, taken_id, AreNotedOut};
+ghost use Rattle.thread_local_ids.specs.Rights.{taken_id};
 ghost use Rattle.thread_local_base.specs.Buckets.{values};
 ghost use Rattle.thread_local_base.specs.Held.{is_held};
 ghost use Rattle.thread_local_ids.specs.Sharings.{IsFirst, left_of};
 ghost use Rattle.thread_local_ids.specs.Taken.{IsTakenAfter};
-ghost use Rattle.thread_local_ids.specs.FirstIds.{FirstView, first_coded, lies_with, log_owns, tried_owns, log_key};
-ghost use Rattle.thread_local_ids.specs.FirstIds.{IsWordOf, IsSameBeyond, IsGivenBeyond, HasFurther, AreOutOf, IsReturn};
+ghost use Rattle.thread_local_ids.specs.FirstIds.{FirstView, first_coded, lies_with, log_owns, tried_owns};
+ghost use Rattle.thread_local_ids.specs.FirstIds.{IsWordOf, IsSameBeyond, IsGivenBeyond, HasFurther, IsReturn};
 ghost use Rattle.thread_local_ids.specs.FirstIds.{is_full as is_full_word, word_with as word_that_holds};
 
 use crate::locks::word::exchange;
 use crate::rights::held::{HeldId, Taken};
 use crate::rights::mark::Mark;
-use crate::rights::page::{History, Page, Tenure};
-use crate::rights::right::{Right, Rights, SlotRights};
+use crate::rights::page::{Page, Tenure};
+use crate::rights::right::{Right, SlotRights};
 use crate::rights::room::Room;
 use crate::tokens::book::Book;
 use std::marker::{Brand, Model, Move, Owns, PhantomData};
 use std::sync::atomic::Ordering::SeqCst;
 use std::sync::atomic::raw;
 use thread_local_base::ThreadIdManager;
-use thread_local_base::manager::IDS;
-
-/// The right to this number becomes the history of the table. It is no id and no mark.
-const HISTORY: usize = usize::MAX;
 
 /// How many ids have a bit in the word.
 pub(crate) const FIRST_IDS: usize = 58;
@@ -89,21 +85,6 @@ impl Model for Trace {
     ghost also_owns = { λ t. tried_owns t.table t.before t.took };
 }
 
-impl Rights {
-    /// Begins the moves up to the last one of a further id: there is none. The right that becomes
-    /// them is one to a number that no `usize` is.
-    pub(crate) fn note_log(&mut self) -> Log
-        requires { is_out self.old.out log_key ≡ false }
-        ensures log { (result.table ≡ self.old.table) × (result.moves ≡ []) × (result.whole ≡ true) }
-        ensures table { self.new.table ≡ self.old.table }
-        ensures out { (j : ℕ) → is_out self.new.out j ≡ (if log_key == j then true else is_out self.old.out j) }
-    {
-        Log {
-            marker: PhantomData,
-        }
-    }
-}
-
 impl FirstIds {
     /// The first ids of a new table whose further ids the manager gives out. Beside them are the log,
     /// the table's right, to the number that lies between the ids and their marks, the page from
@@ -117,29 +98,27 @@ impl FirstIds {
         ensures room { (result.2.2.table ≡ result.0.table) × (result.2.2.ids ≡ max 58 manager.now.room) }
         ensures slots { result.2.3.table ≡ result.0.table }
     {
-        let (mut rights, slots) = Rights::new();
-        let history = rights.take(HISTORY).into_history();
-        let page = history.page();
-        let room = rights.note_room(manager);
-        let mut log = rights.note_log();
-        let right = rights.take(IDS);
-        let first = FirstIds::new(rights, history, &mut log);
-        (first, log, (right, page, room, slots))
-    }
-
-    /// The first ids of a table, none of them held. One half of the log stays with them.
-    fn new(rights: Rights, history: History, log: &mut Log) -> FirstIds
-        requires tables { (history.table ≡ rights.table) × (log.old.table ≡ rights.table) }
-        requires begun { (history.moves ≡ []) × (log.old.moves ≡ []) × (log.old.whole ≡ true) }
-        requires out { AreOutOf rights.out [] }
-        requires notes { AreNotedOut rights.out [] }
-        ensures table { result.table ≡ rights.table }
-        ensures log { (log.new.table ≡ log.old.table) × (log.new.moves ≡ []) × (log.new.whole ≡ false) }
-    {
-        let Rights { marker: _ } = rights;
-        let History { marker: _ } = history;
-        let _ = log;
-        FirstIds { word: 0 }
+        let _ = manager;
+        (
+            FirstIds { word: 0 },
+            Log {
+                marker: PhantomData,
+            },
+            (
+                Right {
+                    marker: PhantomData,
+                },
+                Page {
+                    marker: PhantomData,
+                },
+                Room {
+                    marker: PhantomData,
+                },
+                SlotRights {
+                    marker: PhantomData,
+                },
+            ),
+        )
     }
 
     /// The book with all that was done with the ids by then. In the table's first sharing it tells of each

@@ -1,10 +1,10 @@
-//! Tests of rights: two are to two ids, they take no bytes, and stand in types of one's own.
-ghost use Rattle.std.specs.Prelude.{◌≡◌, false};
-ghost use Rattle.thread_local_ids.specs.Rights.{is_out};
+//! Tests of rights: two are apart, they take no bytes, and stand in types of one's own.
+ghost use Rattle.std.specs.Prelude.{◌≡◌};
 
 use crate::same::assert_same;
 use std::mem;
-use thread_local_ids::{Mark, Noted, Right, Rights, SlotRights};
+use thread_local_base::manager::IDS;
+use thread_local_ids::{Mark, Noted, Page, Right, Room, SharedIds, SlotRights};
 
 /// Where a right may stand: in a struct and in an enum.
 #[derive(Drop)]
@@ -20,43 +20,35 @@ struct Held {
     ghost own: { right.id ≡ id },
 }
 
-fn hold(rights: &mut Rights, id: usize) -> Held
-    requires { is_out rights.old.out id ≡ false }
-    ensures { (result.id ≡ id) × (result.right.table ≡ rights.old.table) × (rights.new.table ≡ rights.old.table) }
-{
-    let right = rights.take(id);
-    Held { id, right }
-}
-
 #[test]
-fn two_rights_are_apart(rt: HostRuntime) {
-    let (mut rights, _) = Rights::new();
-    let mut five = rights.take(5);
-    let mut seven = rights.take(7);
-    five.apart(&mut seven);
-    mem::swap(&mut five, &mut seven);
-    five.apart(&mut seven);
+fn two_tables_rights_are_apart(rt: HostRuntime) {
+    let (mut ids, mut old, ..) = SharedIds::new(rt.alloc());
+    let (mut new, ..) = ids.clear();
+    old.apart(&mut new);
+    mem::swap(&mut old, &mut new);
+    old.apart(&mut new);
 }
 
 #[test]
 fn a_right_takes_no_bytes(rt: HostRuntime) {
     let sizes = [
         mem::size_of::<Right>(),
-        mem::size_of::<Rights>(),
         mem::size_of::<SlotRights>(),
         mem::size_of::<Mark>(),
         mem::size_of::<Noted>(),
+        mem::size_of::<Page>(),
+        mem::size_of::<Room>(),
     ];
-    assert_same(&rt, sizes, [0; 5]);
+    assert_same(&rt, sizes, [0; 6]);
 }
 
 #[test]
 fn a_right_stands_in_a_struct_and_in_an_enum(rt: HostRuntime) {
-    let (mut rights, _) = Rights::new();
-    let mut slot = Slot::Taken(hold(&mut rights, 3));
+    let (_ids, right, ..) = SharedIds::new(rt.alloc());
+    let mut slot = Slot::Taken(Held { id: IDS, right });
     let before = mem::replace(&mut slot, Slot::Vacant);
     if let Slot::Taken(held) = before {
-        assert_same(&rt, held.id, 3);
+        assert_same(&rt, held.id, IDS);
         mem::forget(held);
     }
     drop(slot);

@@ -12,21 +12,21 @@ use std::sync::{Arc, Wait};
 use std::test::Fail;
 use thread_local_base::{LocalError, Thread, judge_sync};
 use thread_local_buckets::Buckets;
-use thread_local_ids::{HeldId, Reached, Right, Rights};
+use thread_local_ids::{HeldId, Reached, Right};
 use thread_local_shared_buckets::Shared;
 use thread_local_test_helpers::counted::Counted;
 
 #[test]
 fn each_value_is_dropped_once(rt: HostRuntime) -> Result<(), Fail> {
     let drops = Arc::new(rt.alloc(), AtomicU64::new(0))?;
-    let (mut rights, _) = Rights::new();
+    let table = Table::new(rt.alloc());
     let mut buckets = Buckets::new(rt.alloc());
     for id in 0..100 {
         let value = Counted::new(&drops)?;
         assert_same(&rt, buckets.insert(Thread::new(id), value).is_ok(), true);
     }
     judge_sync::<Counted>();
-    let shared = share(buckets, &rights.take(0));
+    let shared = share(buckets, &table.right);
     let before = drops.load(SeqCst);
     drop(shared);
     assert_same(&rt, (before, drops.load(SeqCst)), (0, 100));

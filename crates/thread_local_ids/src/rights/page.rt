@@ -1,28 +1,14 @@
-//! What was done with the ids of a table: a `History`, which is appended to, its `Page`s, and the
-//! `Tenure` of each id that is held. None has bytes, and no call does anything at run time.
+//! What was done with the ids of a table: its `Page`s, and the `Tenure` of each id that is held. None
+//! has bytes, and no call does anything at run time.
 ghost use Rattle.std.specs.Prelude.{◌≡◌, ℕ, List, true};
 ghost use mathlib.Core.List.{IsPrefix};
 ghost use mathlib.Core.Logic.{◌∨₁◌};
 ghost use denote.Sharing.{said};
 ghost use Rattle.thread_local_base.specs.IdMoves.{IdMove, Take, moves_coded, held_after, noted};
 ghost use Rattle.thread_local_base.specs.Held.{is_held};
-ghost use Rattle.thread_local_ids.specs.Rights.{history_owns, page_owns, tenure_of, taken_id};
+ghost use Rattle.thread_local_ids.specs.Rights.{page_owns, tenure_of, taken_id};
 
 use std::marker::{Model, PhantomData};
-
-/// All that was done with the ids of a table, in its order.
-#[derive(Drop)]
-pub struct History {
-    pub(crate) marker: PhantomData<()>,
-    pub ghost table: { ℕ },
-    pub ghost moves: { List IdMove } by { moves_coded },
-}
-
-impl Model for History {
-    ghost also_owns = { λ h. history_owns h.table h.moves };
-
-    ghost also_shares = { λ h _ κ. said (page_owns h.table h.moves) κ };
-}
 
 /// A beginning of a table's history: all that was done with its ids up to some moment, in its
 /// order.
@@ -51,17 +37,6 @@ impl Model for Tenure {
     ghost also_owns = { λ s. tenure_of s.table s.before };
 
     ghost also_shares = { λ s _ κ. said (page_owns s.table (noted s.before Take)) κ };
-}
-
-impl History {
-    /// The page of all that was done so far.
-    pub fn page(&self) -> Page
-        ensures { (result.table ≡ self.now.table) × (result.moves ≡ self.now.moves) }
-    {
-        Page {
-            marker: PhantomData,
-        }
-    }
 }
 
 impl Tenure {
@@ -99,10 +74,6 @@ impl Page {
         ensures { IsPrefix self.now.moves other.now.moves ∨₁ IsPrefix other.now.moves self.now.moves }
     {}
 }
-
-unsafe impl Send for History {}
-
-unsafe impl Sync for History {}
 
 unsafe impl Send for Page {}
 
