@@ -31,7 +31,7 @@ pub use thread_local_base::{Judge, judge_sync};
 pub use thread_local_buckets::CapacityError;
 use thread_local_buckets::{Buckets, EntriesMut, IntoEntries, IntoIter, IterMut};
 use thread_local_ids::left::a_value_left_is_found;
-use thread_local_ids::{Right, Room, SharedIds, SlotRights};
+use thread_local_ids::{Right, SharedIds, SlotRights};
 pub use thread_local_ids::{Book, Page, Token, Told};
 use thread_local_shared_buckets::{Entries, Iter, Shared, Tokens};
 
@@ -76,7 +76,6 @@ pub struct ThreadLocal<T> {
     pub(crate) ids: SharedIds,
     table_right: Right,
     first: Page,
-    room: Room,
     pub(crate) alloc: Global,
 }
 
@@ -89,18 +88,16 @@ impl<T> Model for ThreadLocal<T> {
 
     ghost coded = { thread_local_view_coded };
 
-    ghost view = { λ table. thread_local_view table.buckets table.room.ids };
+    ghost view = { λ table. thread_local_view table.buckets table.first.room };
 
-    // The ids are those of the table whose buckets these are, and so are the table's
-    // right, its room, and the first page, which tells of no move. The sharing isn't the first of
-    // another table.
+    // The ids are those of the table whose buckets these are, and so are the table's right and the
+    // first page, which tells of no move. The sharing isn't the first of another table.
     ghost invariant = { λ table.
         (table.ids.table ≡ table.buckets.table)
         × (table.table_right.table ≡ table.buckets.table)
         × (table.table_right.id ≡ 2 ^ 63 - 1)
         × (table.first.table ≡ table.buckets.table)
         × (table.first.moves ≡ [])
-        × (table.room.table ≡ table.buckets.table)
         × Belongs table.buckets.sharing table.buckets.table };
 }
 
@@ -125,7 +122,7 @@ impl<T> ThreadLocal<T> {
     fn of(
         alloc: Global,
         buckets: Buckets<T>,
-        made: (SharedIds, Right, Page, Room, SlotRights),
+        made: (SharedIds, Right, Page, SlotRights),
     ) -> ThreadLocal<T>
         requires judged { Judged T.row }
         requires empty { (id : ℕ) → values buckets.contents id ≡ None }
@@ -133,17 +130,16 @@ impl<T> ThreadLocal<T> {
         ensures sharing { IsSome result.sharing }
         ensures first { IsFirst result.sharing result.table }
         ensures reserved { result.reserved ≡ buckets.reserved }
-        ensures room { result.room ≡ made.3.ids }
+        ensures room { result.room ≡ made.2.room }
         ensures grown { result.grown_by_ids ≡ only_reserved buckets }
     {
-        let (ids, table_right, first, room, slots) = made;
+        let (ids, table_right, first, slots) = made;
         let (pointers, reserved) = buckets.into_parts();
         ThreadLocal {
             buckets: Shared::first(pointers, reserved, &table_right, slots),
             ids,
             table_right,
             first,
-            room,
             alloc,
         }
     }
@@ -244,7 +240,9 @@ impl<T> ThreadLocal<T> {
     {
         // That what a page says of the id is still said.
         a_value_left_is_found::<T>();
-        let (held, right, tenure) = self.ids.take(rt, page, &self.room)?;
+        // That the page says the room of this table.
+        self.first.in_line(page);
+        let (held, right, tenure) = self.ids.take(rt, page)?;
         let seat = Seat {
             table: self,
             claim: self.buckets.claim(held, right, tenure.reached()),
@@ -344,7 +342,6 @@ impl<T> ThreadLocal<T> {
             ids,
             table_right: _,
             first: _,
-            room: _,
             alloc: _,
         } = self;
         let (pointers, reserved, book) = buckets.into_parts();
@@ -375,7 +372,6 @@ impl<T> ThreadLocal<T> {
             ids,
             table_right: _,
             first: _,
-            room: _,
             alloc: _,
         } = self;
         let (pointers, reserved, book) = buckets.into_parts();
@@ -410,12 +406,11 @@ impl<T> ThreadLocal<T> {
         ensures reserved { self.new.reserved ≡ self.old.reserved }
         ensures grown { self.new.grown_by_ids ≡ true }
     {
-        let (mut right, first, room, slots) = self.ids.clear();
+        let (mut right, first, slots) = self.ids.clear();
         self.table_right.apart(&mut right);
         self.buckets.clear(&right, slots);
         self.table_right = right;
         self.first = first;
-        self.room = room;
     }
 }
 
@@ -428,7 +423,6 @@ impl<T: Drop> Drop for ThreadLocal<T> {
             ids,
             table_right: _,
             first: _,
-            room: _,
             alloc: _,
         } = self;
         drop(buckets);

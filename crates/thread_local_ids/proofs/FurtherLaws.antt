@@ -74,15 +74,15 @@ taken_early table early later taken is =
     (O.trans early taken.2.before (noted taken.2.before Take) is.since (Take ∷ [], refl))
 
 -- what a take says, by the clauses of `SharedIds::take`
-pub take_tells : (table room : ℕ) (early later : Page) (result : Result Taken LocalError) → IsTake table room early later result
+pub take_tells : (table : ℕ) (early later : Page) (result : Result Taken LocalError) → IsTake table early later result
     → IfOk result (λ taken. IsTakenAfter table early.moves later.moves taken)
     × IsPrefix early.moves later.moves
-    × (result ≡ Err (LocalError.Memory alloc_error) → HoldsAllBelow room (held_after later.moves))
+    × (result ≡ Err (LocalError.Memory alloc_error) → HoldsAllBelow early.room (held_after later.moves))
     × (result ≡ Err LocalError.Exhausted → HoldsAllBelow (2 ^ 63 - 1) (held_after later.moves))
 unfolding error_of
-take_tells table room early later (Ok taken) is =
+take_tells table early later (Ok taken) is =
     (is, taken_early table early.moves later.moves taken is, λ no. cc, λ no. cc)
-take_tells table room early later (Err error) is =
+take_tells table early later (Err error) is =
     (tt, is.since, λ same. is.memory (ap (error_of error) same), λ same. is.exhausted (ap (error_of error) same))
 
 -- what the manager takes next is the least id, where all of the first ids are held

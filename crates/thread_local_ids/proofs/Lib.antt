@@ -1,5 +1,4 @@
 mod Calls
-pub mod RoomElements
 mod Fields
 mod Guards
 mod Handed

@@ -24,30 +24,35 @@ use Rattle.thread_local_ids.specs.Returns.{gives, counting, Count, count_of, cou
 use Rattle.thread_local_base.proofs.IdMoveLaws.{held_apart}
 use Rattle.thread_local_ids.proofs.ReturnLaws.{gives_apart, taken, page_off, page_again, not_given}
 use Rattle.thread_local_ids.proofs.ReturnLaws.{given as given_count}
-use Rattle.thread_local_ids.specs.Rights.{Element, moves_key, moves_own, right_owns, kept, history_as, page_as, held_as}
-use Rattle.thread_local_ids.specs.Rights.{history_owns, page_owns, held_owns, taken_id, tenure_of}
+use Rattle.thread_local_ids.specs.Rights.{Element, moves_key, moves_own, right_owns, Head, kept, history_as, page_as, held_as}
+use Rattle.thread_local_ids.specs.Rights.{history_owns, page_with, page_owns, held_owns, taken_id, tenure_of}
 use Rattle.thread_local_base.proofs.Signs.{signs}
 
-first : List IdMove → ℕ
-first [] = 0
-first (Take ∷ moves) = 0
-first (Give δ ∷ moves) = δ
-first (Publish id value ∷ moves) = 0
+number : IdMove → ℕ
+number Take = 0
+number (Give n) = n
+number (Publish id value) = 0
+
+first : List IdMove → Head
+first [] = (0, 0)
+first (a ∷ []) = (0, 0)
+first (a ∷ (b ∷ moves)) = (number a, number b)
 
 rest : List IdMove → List IdMove
 rest [] = []
-rest (move ∷ moves) = moves
+rest (a ∷ []) = []
+rest (a ∷ (b ∷ moves)) = moves
 
 -- behind their first entries
-behind : (δ ε : ℕ) (a b : List IdMove) → IsPrefix (kept δ a) (kept ε b) → IsPrefix a b
+behind : (δ ε : Head) (a b : List IdMove) → IsPrefix (kept δ a) (kept ε b) → IsPrefix a b
 unfolding rest
 behind δ ε a b h = (h.0, ap rest h.1)
 
-same_first : (δ ε : ℕ) (a b c : List IdMove) → IsPrefix (kept δ a) c → IsPrefix (kept ε b) c → δ ≡ ε
-unfolding first
+same_first : (δ ε : Head) (a b c : List IdMove) → IsPrefix (kept δ a) c → IsPrefix (kept ε b) c → δ ≡ ε
+unfolding first number
 same_first δ ε a b c h k = ap first (h.1 ∙ sym k.1)
 
-line : (δ ε : ℕ) (a b c : List IdMove) → IsPrefix (kept δ a) c → IsPrefix (kept ε b) c → IsPrefix a b ∨₁ IsPrefix b a
+line : (δ ε : Head) (a b c : List IdMove) → IsPrefix (kept δ a) c → IsPrefix (kept ε b) c → IsPrefix a b ∨₁ IsPrefix b a
 unfolding rest
 line δ ε a b c h k = prefixes_in_line a b (rest c) (h.0, ap rest h.1) (k.0, ap rest k.1)
 
@@ -67,48 +72,68 @@ module _ {M : Type 1} {𝓤 : Ura M} (𝓛 : Logic 𝓤) where
 
   infix 26 ◌⊢◌
   infixr 35 ◌∗◌
-  abbrev whole : ℕ → List IdMove → Element
+  abbrev whole : Head → List IdMove → Element
   whole δ moves = (some full_share, kept δ moves)
 
-  abbrev part : ℕ → List IdMove → Element
+  abbrev part : Head → List IdMove → Element
   part δ moves = (none, kept δ moves)
 
   abbrev own : ℕ → Element → Fml
   own γ a = moves_own γ a
 
+  -- whoever has the history has a page of what was done so far
+  shown : (γ : GName) (moves : List IdMove) (δ : Head)
+      → ⟦ history_as γ moves δ ⟧ ⊢ ⟦ page_with γ moves δ.1 ⟧ ∗ ⟦ history_as γ moves δ ⟧
+  unfolding page_with
+  shown γ moves δ =
+      qed 𝓛 (‵ (history_as γ moves δ) ∷ []) ∵ fsplit ! $
+      use1 𝓛 (‵ (own γ (part δ moves)) ⊛ ‵ (own γ (whole δ moves))) (part_off 𝓛 moves_key γ (kept δ moves) (kept δ moves) (O.same (kept δ moves))) $
+      split ! $ move ! (2 ∷ []) $
+      use1 𝓛 (‵ (counts_page δ.0 moves) ⊛ ‵ (counts_own δ.0 moves)) (page_off 𝓛 δ.0 moves) $ split ! $
+      move ! (2 ∷ 0 ∷ []) $ fjoin ! $ fpack ! ℕ (λ d. page_as γ moves (d, δ.1)) δ.0 $ frame ! $
+      move ! (1 ∷ 0 ∷ []) $ fjoin ! $ done !
+
   -- nothing was done yet where the right to the key of the moves was not used
-  pub begins : (γ : GName) → ⟦ right_owns γ moves_key ⟧ ⊢ upd 𝓤 ⟦ history_owns γ [] ⟧
+  pub begins : (γ : GName) (room : ℕ) → ⟦ right_owns γ moves_key ⟧ ⊢ upd 𝓤 (⟦ page_with γ [] room ⟧ ∗ ⟦ history_owns γ [] ⟧)
   unfolding right_owns history_owns
-  begins γ =
-      let Z : SProp 𝓤 = ⟦ history_owns γ [] ⟧ in
+  begins γ room =
+      let Z : SProp 𝓤 = ⟦ page_with γ [] room ⟧ ∗ ⟦ history_owns γ [] ⟧ in
       qed 𝓛 (‵ (moves_own γ (some full_share, [])) ∷ []) ∵
-      use0 𝓛 (raw (upd 𝓤 (ex 𝓤 (λ (δ : GName). ⟦ counts_own δ [] ⟧)))) (own_new 𝓛 (keyed counting) (counts [])) $
-      settle 𝓛 Z (kit.some (λ (δ : GName). ‵ (counts_own δ []))) $ pick ! (λ δ. move ! (1 ∷ []) $
+      use0 𝓛 (raw (upd 𝓤 (ex 𝓤 (λ (d : GName). ⟦ counts_own d [] ⟧)))) (own_new 𝓛 (keyed counting) (counts [])) $
+      settle 𝓛 Z (kit.some (λ (d : GName). ‵ (counts_own d []))) $ pick ! (λ d. move ! (1 ∷ []) $
+      let δ : Head = (d, room) in
       use1 𝓛 (raw (upd 𝓤 ⟦ moves_own γ (whole δ []) ⟧)) (grown 𝓛 moves_key γ [] (kept δ []) (kept δ [], refl)) $
-      settle 𝓛 Z (‵ (moves_own γ (whole δ []))) $ fjoin ! $ fpack ! ℕ (history_as γ []) δ $ suffices ! _ (upd_i 𝓤 Z) $ done !)
+      settle 𝓛 Z (‵ (moves_own γ (whole δ []))) $ fjoin ! $
+      use1 𝓛 (‵ (page_with γ [] room) ⊛ ‵ (history_as γ [] δ)) (shown γ [] δ) $ split ! $ move ! (1 ∷ []) $
+      fpack ! Head (history_as γ []) δ $ move ! (1 ∷ 0 ∷ []) $ suffices ! _ (upd_i 𝓤 Z) $ done !)
 
   -- a page of what was done so far
   pub page_of : (γ : GName) (moves : List IdMove)
       → ⟦ history_owns γ moves ⟧ ⊢ ⟦ page_owns γ moves ⟧ ∗ ⟦ history_owns γ moves ⟧
-  unfolding history_owns page_owns
+  unfolding history_owns
   page_of γ moves =
-      qed 𝓛 (‵ (history_owns γ moves) ∷ []) ∵ fpick ! (λ δ. fsplit ! $
-      use1 𝓛 (‵ (own γ (part δ moves)) ⊛ ‵ (own γ (whole δ moves))) (part_off 𝓛 moves_key γ (kept δ moves) (kept δ moves) (O.same (kept δ moves))) $
+      qed 𝓛 (‵ (history_owns γ moves) ∷ []) ∵ fpick ! (λ δ.
+      use1 𝓛 (‵ (page_with γ moves δ.1) ⊛ ‵ (history_as γ moves δ)) (shown γ moves δ) $ split ! $
+      fpack ! ℕ (page_with γ moves) δ.1 $ frame ! $ fpack ! Head (history_as γ moves) δ $ done !)
+
+  pub page_with_twice : (γ : GName) (moves : List IdMove) (room : ℕ)
+      → ⟦ page_with γ moves room ⟧ ⊢ ⟦ page_with γ moves room ⟧ ∗ ⟦ page_with γ moves room ⟧
+  unfolding page_with
+  page_with_twice γ moves room =
+      let at : ℕ → Fml = λ d. page_as γ moves (d, room) in
+      qed 𝓛 (‵ (page_with γ moves room) ∷ []) ∵ fpick ! (λ d. fsplit ! $
+      let δ : Head = (d, room) in
+      use1 𝓛 (‵ (own γ (part δ moves)) ⊛ ‵ (own γ (part δ moves))) (part_twice 𝓛 moves_key γ (kept δ moves)) $
       split ! $ move ! (2 ∷ []) $
-      use1 𝓛 (‵ (counts_page δ moves) ⊛ ‵ (counts_own δ moves)) (page_off 𝓛 δ moves) $ split ! $
-      move ! (2 ∷ 0 ∷ []) $ fjoin ! $ fpack ! ℕ (page_as γ moves) δ $ frame ! $
-      move ! (1 ∷ 0 ∷ []) $ fjoin ! $ fpack ! ℕ (history_as γ moves) δ $ done !)
+      use1 𝓛 (‵ (counts_page d moves) ⊛ ‵ (counts_page d moves)) (page_again 𝓛 d moves) $ split ! $
+      move ! (2 ∷ 0 ∷ []) $ fjoin ! $ fpack ! ℕ at d $ frame ! $ move ! (1 ∷ 0 ∷ []) $ fjoin ! $ fpack ! ℕ at d $ done !)
 
   pub page_twice : (γ : GName) (moves : List IdMove)
       → ⟦ page_owns γ moves ⟧ ⊢ ⟦ page_owns γ moves ⟧ ∗ ⟦ page_owns γ moves ⟧
-  unfolding page_owns
   page_twice γ moves =
-      qed 𝓛 (‵ (page_owns γ moves) ∷ []) ∵ fpick ! (λ δ. fsplit ! $
-      use1 𝓛 (‵ (own γ (part δ moves)) ⊛ ‵ (own γ (part δ moves))) (part_twice 𝓛 moves_key γ (kept δ moves)) $
-      split ! $ move ! (2 ∷ []) $
-      use1 𝓛 (‵ (counts_page δ moves) ⊛ ‵ (counts_page δ moves)) (page_again 𝓛 δ moves) $ split ! $
-      move ! (2 ∷ 0 ∷ []) $ fjoin ! $ fpack ! ℕ (page_as γ moves) δ $ frame ! $
-      move ! (1 ∷ 0 ∷ []) $ fjoin ! $ fpack ! ℕ (page_as γ moves) δ $ done !)
+      qed 𝓛 (‵ (page_owns γ moves) ∷ []) ∵ fpick ! (λ room.
+      use1 𝓛 (‵ (page_with γ moves room) ⊛ ‵ (page_with γ moves room)) (page_with_twice γ moves room) $ split ! $
+      fpack ! ℕ (page_with γ moves) room $ frame ! $ fpack ! ℕ (page_with γ moves) room $ done !)
 
   -- whoever holds an id has the page that ends with its take
   pub tenure_shows : (γ : GName) (before : List IdMove)
@@ -122,29 +147,44 @@ module _ {M : Type 1} {𝓤 : Ura M} (𝓛 : Logic 𝓤) where
   pub page_is_early : (γ : GName) (moves seen : List IdMove)
       → ⟦ history_owns γ moves ⟧ ∗ ⟦ page_owns γ seen ⟧
       ⊢ guard 𝓤 (IsPrefix seen moves) (⟦ history_owns γ moves ⟧ ∗ ⟦ page_owns γ seen ⟧)
-  unfolding history_owns page_owns
+  unfolding history_owns page_with
   page_is_early γ moves seen =
-      qed 𝓛 (‵ (history_owns γ moves) ∷ ‵ (page_owns γ seen) ∷ []) ∵ fpick ! (λ δ. fsplit ! $ move ! (2 ∷ []) $ fpick ! (λ δ'. fsplit ! $
+      qed 𝓛 (‵ (history_owns γ moves) ∷ ‵ (page_owns γ seen) ∷ []) ∵ fpick ! (λ δ. fsplit ! $ move ! (2 ∷ []) $
+      fpick ! (λ room. fpick ! (λ d. fsplit ! $
+      let ε : Head = (d, room) in
       -- [the page's moves; its counts; the history's moves; its counts]
       move ! (2 ∷ 0 ∷ []) $
-      use2 𝓛 (given (IsPrefix seen moves) (‵ (own γ (whole δ moves)) ⊛ ‵ (own γ (part δ' seen))))
-      (shows 𝓛 moves_key γ (whole δ moves) (part δ' seen) (IsPrefix seen moves)
-      (λ d. behind δ' δ seen moves (O.trans (kept δ' seen) d.0.1 (kept δ moves) d.1.1.0.1 (d.1.1.1.0 tt)))) $
-      learn ! (λ so. split ! $ move ! (0 ∷ 3 ∷ []) $ fjoin ! $ fpack ! ℕ (history_as γ moves) δ $
-      move ! (1 ∷ 2 ∷ []) $ fjoin ! $ fpack ! ℕ (page_as γ seen) δ' $ move ! (1 ∷ 0 ∷ []) $ check ! so $ done !)))
+      use2 𝓛 (given (IsPrefix seen moves) (‵ (own γ (whole δ moves)) ⊛ ‵ (own γ (part ε seen))))
+      (shows 𝓛 moves_key γ (whole δ moves) (part ε seen) (IsPrefix seen moves)
+      (λ k. behind ε δ seen moves (O.trans (kept ε seen) k.0.1 (kept δ moves) k.1.1.0.1 (k.1.1.1.0 tt)))) $
+      learn ! (λ so. split ! $ move ! (0 ∷ 3 ∷ []) $ fjoin ! $ fpack ! Head (history_as γ moves) δ $
+      move ! (1 ∷ 2 ∷ []) $ fjoin ! $ fpack ! ℕ (λ c. page_as γ seen (c, room)) d $ fpack ! ℕ (page_with γ seen) room $
+      move ! (1 ∷ 0 ∷ []) $ check ! so $ done !))))
 
-  -- of two pages one extends the other
+  -- of two pages one extends the other, and both say one room
+  pub in_line_with : (γ : GName) (a b : List IdMove) (m n : ℕ)
+      → ⟦ page_with γ a m ⟧ ∗ ⟦ page_with γ b n ⟧
+      ⊢ guard 𝓤 (Line a b × (m ≡ n)) (⟦ page_with γ a m ⟧ ∗ ⟦ page_with γ b n ⟧)
+  unfolding page_with
+  in_line_with γ a b m n =
+      qed 𝓛 (‵ (page_with γ a m) ∷ ‵ (page_with γ b n) ∷ []) ∵ fpick ! (λ c. fsplit ! $ move ! (2 ∷ []) $ fpick ! (λ d. fsplit ! $
+      let δ : Head = (c, m) in
+      let ε : Head = (d, n) in
+      move ! (2 ∷ 0 ∷ []) $
+      use2 𝓛 (given (Line a b × (m ≡ n)) (‵ (own γ (part δ a)) ⊛ ‵ (own γ (part ε b))))
+      (shows 𝓛 moves_key γ (part δ a) (part ε b) (Line a b × (m ≡ n))
+      (λ k. (line δ ε a b k.0.1 k.1.1.0.0 k.1.1.0.1, ap (λ (h : Head). h.1) (same_first δ ε a b k.0.1 k.1.1.0.0 k.1.1.0.1)))) $
+      learn ! (λ so. split ! $ move ! (0 ∷ 3 ∷ []) $ fjoin ! $ fpack ! ℕ (λ e. page_as γ a (e, m)) c $
+      move ! (1 ∷ 2 ∷ []) $ fjoin ! $ fpack ! ℕ (λ e. page_as γ b (e, n)) d $ move ! (1 ∷ 0 ∷ []) $ check ! so $ done !)))
+
   pub in_line : (γ : GName) (a b : List IdMove)
       → ⟦ page_owns γ a ⟧ ∗ ⟦ page_owns γ b ⟧
       ⊢ guard 𝓤 (Line a b) (⟦ page_owns γ a ⟧ ∗ ⟦ page_owns γ b ⟧)
-  unfolding page_owns
   in_line γ a b =
-      qed 𝓛 (‵ (page_owns γ a) ∷ ‵ (page_owns γ b) ∷ []) ∵ fpick ! (λ δ. fsplit ! $ move ! (2 ∷ []) $ fpick ! (λ δ'. fsplit ! $
-      move ! (2 ∷ 0 ∷ []) $
-      use2 𝓛 (given (Line a b) (‵ (own γ (part δ a)) ⊛ ‵ (own γ (part δ' b))))
-      (shows 𝓛 moves_key γ (part δ a) (part δ' b) (Line a b) (λ d. line δ δ' a b d.0.1 d.1.1.0.0 d.1.1.0.1)) $
-      learn ! (λ so. split ! $ move ! (0 ∷ 3 ∷ []) $ fjoin ! $ fpack ! ℕ (page_as γ a) δ $
-      move ! (1 ∷ 2 ∷ []) $ fjoin ! $ fpack ! ℕ (page_as γ b) δ' $ move ! (1 ∷ 0 ∷ []) $ check ! so $ done !)))
+      qed 𝓛 (‵ (page_owns γ a) ∷ ‵ (page_owns γ b) ∷ []) ∵ fpick ! (λ m. move ! (1 ∷ []) $ fpick ! (λ n. move ! (1 ∷ 0 ∷ []) $
+      use2 𝓛 (given (Line a b × (m ≡ n)) (‵ (page_with γ a m) ⊛ ‵ (page_with γ b n))) (in_line_with γ a b m n) $
+      learn ! (λ so. split ! $ fpack ! ℕ (page_with γ a) m $ move ! (1 ∷ []) $ fpack ! ℕ (page_with γ b) n $ move ! (1 ∷ 0 ∷ []) $
+      check ! so.0 $ done !)))
 
   note_held : (γ : GName) (moves : List IdMove)
       → ⟦ history_owns γ moves ⟧
@@ -159,9 +199,9 @@ module _ {M : Type 1} {𝓤 : Ura M} (𝓛 : Logic 𝓤) where
       use1 𝓛 (raw (upd 𝓤 ⟦ own γ (whole δ more) ⟧)) (grown 𝓛 moves_key γ (kept δ moves) (kept δ more) (Take ∷ [], refl)) $
       settle 𝓛 Z (‵ (own γ (whole δ more))) $
       use1 𝓛 (‵ (own γ (part δ [])) ⊛ ‵ (own γ (whole δ more))) (part_off 𝓛 moves_key γ (kept δ more) (kept δ []) (more, refl)) $ split ! $
-      move ! (2 ∷ []) $ use1 𝓛 (‵ (tenure_owns δ id n) ⊛ ‵ (counts_own δ more)) (taken 𝓛 δ moves id refl) $ split ! $
+      move ! (2 ∷ []) $ use1 𝓛 (‵ (tenure_owns δ.0 id n) ⊛ ‵ (counts_own δ.0 more)) (taken 𝓛 δ.0 moves id refl) $ split ! $
       -- [the count; the history's counts; the first entry; the moves]
-      move ! (2 ∷ 0 ∷ []) $ fjoin ! $ fpack ! ℕ (held_as γ id n) δ $ move ! (2 ∷ 1 ∷ []) $ fjoin ! $ fpack ! ℕ (history_as γ more) δ $
+      move ! (2 ∷ 0 ∷ []) $ fjoin ! $ fpack ! Head (held_as γ id n) δ $ move ! (2 ∷ 1 ∷ []) $ fjoin ! $ fpack ! Head (history_as γ more) δ $
       move ! (1 ∷ 0 ∷ []) $ suffices ! _ (upd_i 𝓤 Z) $ done !)
 
   -- the least id is taken
@@ -190,10 +230,10 @@ module _ {M : Type 1} {𝓤 : Ura M} (𝓛 : Logic 𝓤) where
       (shows 𝓛 moves_key γ (whole δ moves) (part δ' []) (δ' ≡ δ) (λ d. same_first δ' δ [] moves d.0.1 d.1.1.0.1 d.1.1.0.0)) $
       learn ! (λ same. split ! $ move ! (1 ∷ []) $ drop ! $
       -- [the history's moves; the count; its counts]
-      move ! (1 ∷ []) $ rewrite ! 0 (λ (d : ℕ). ‵ (tenure_owns d id n)) same refl $ move ! (0 ∷ 2 ∷ []) $
-      use2 𝓛 (raw (upd 𝓤 ⟦ counts_own δ more ⟧)) (given_count 𝓛 δ moves id n held few) $ settle 𝓛 Z (‵ (counts_own δ more)) $ move ! (1 ∷ []) $
+      move ! (1 ∷ []) $ rewrite ! 0 (λ (d : Head). ‵ (tenure_owns d.0 id n)) same refl $ move ! (0 ∷ 2 ∷ []) $
+      use2 𝓛 (raw (upd 𝓤 ⟦ counts_own δ.0 more ⟧)) (given_count 𝓛 δ.0 moves id n held few) $ settle 𝓛 Z (‵ (counts_own δ.0 more)) $ move ! (1 ∷ []) $
       use1 𝓛 (raw (upd 𝓤 ⟦ own γ (whole δ more) ⟧)) (grown 𝓛 moves_key γ (kept δ moves) (kept δ more) (Give id ∷ [], refl)) $
-      settle 𝓛 Z (‵ (own γ (whole δ more))) $ fjoin ! $ fpack ! ℕ (history_as γ more) δ $ suffices ! _ (upd_i 𝓤 Z) $ done !)))
+      settle 𝓛 Z (‵ (own γ (whole δ more))) $ fjoin ! $ fpack ! Head (history_as γ more) δ $ suffices ! _ (upd_i 𝓤 Z) $ done !)))
 
   -- the same, with the page that ends with it
   pub note_give : (γ : GName) (moves before : List IdMove) (id : ℕ) → id ≡ taken_id before → is_held (held_after moves) id ≡ true
@@ -232,42 +272,48 @@ module _ {M : Type 1} {𝓤 : Ura M} (𝓛 : Logic 𝓤) where
       qed 𝓛 (‵ (history_owns γ moves) ∷ []) ∵ fpick ! (λ δ. fsplit ! $
       use1 𝓛 (raw (upd 𝓤 ⟦ own γ (whole δ more) ⟧)) (grown 𝓛 moves_key γ (kept δ moves) (kept δ more) (Publish id g ∷ [], refl)) $
       settle 𝓛 Z (‵ (own γ (whole δ more))) $ move ! (1 ∷ []) $
-      rewrite ! 0 (λ (c : ℕ → Option Count). ‵ (fown (keyed counting) δ c)) (same_counts moves id g) refl $
-      move ! (1 ∷ 0 ∷ []) $ fjoin ! $ fpack ! ℕ (history_as γ more) δ $ suffices ! _ (upd_i 𝓤 Z) $ done !)
+      rewrite ! 0 (λ (c : ℕ → Option Count). ‵ (fown (keyed counting) δ.0 c)) (same_counts moves id g) refl $
+      move ! (1 ∷ 0 ∷ []) $ fjoin ! $ fpack ! Head (history_as γ more) δ $ suffices ! _ (upd_i 𝓤 Z) $ done !)
 
   -- while an id is held, no page says that it was given back since
   pub tenure_held : (γ : GName) (before later : List IdMove)
       → ⟦ tenure_of γ before ⟧ ∗ ⟦ page_owns γ later ⟧
       ⊢ guard 𝓤 (gives later (taken_id before) ≤ gives before (taken_id before)) (⟦ tenure_of γ before ⟧ ∗ ⟦ page_owns γ later ⟧)
-  unfolding page_owns held_owns
+  unfolding page_with held_owns
   tenure_held γ before later =
       let id : ℕ = taken_id before in
       let n : ℕ = gives before id in
       let Few : Type 0 = gives later id ≤ n in
       qed 𝓛 (‵ (tenure_of γ before) ∷ ‵ (page_owns γ later) ∷ []) ∵ fsplit ! $ move ! (1 ∷ []) $
-      fpick ! (λ δ. fsplit ! $ move ! (3 ∷ []) $ fpick ! (λ δ'. fsplit ! $
-      -- [the page's moves; its counts; the first entry; the count; the own page]
+      fpick ! (λ δ. fsplit ! $ move ! (3 ∷ []) $ fpick ! (λ room. fpick ! (λ d. fsplit ! $
+      let ε : Head = (d, room) in
+      -- [the page's moves; its counts; the first entries; the count; the own page]
       move ! (2 ∷ 0 ∷ []) $
-      use2 𝓛 (given (δ' ≡ δ) (‵ (own γ (part δ [])) ⊛ ‵ (own γ (part δ' later))))
-      (shows 𝓛 moves_key γ (part δ []) (part δ' later) (δ' ≡ δ) (λ d. same_first δ' δ later [] d.0.1 d.1.1.0.1 d.1.1.0.0)) $
+      use2 𝓛 (given (δ ≡ ε) (‵ (own γ (part δ [])) ⊛ ‵ (own γ (part ε later))))
+      (shows 𝓛 moves_key γ (part δ []) (part ε later) (δ ≡ ε) (λ k. same_first δ ε [] later k.0.1 k.1.1.0.0 k.1.1.0.1)) $
       learn ! (λ same. split ! $
-      -- [the first entry; the page's moves; its counts; the count; the own page]
-      move ! (2 ∷ []) $ rewrite ! 0 (λ (d : ℕ). ‵ (counts_page d later)) same refl $ move ! (3 ∷ 0 ∷ []) $
-      use2 𝓛 (given Few (‵ (tenure_owns δ id n) ⊛ ‵ (counts_page δ later))) (not_given 𝓛 δ id n later) $
+      -- [the first entries; the page's moves; its counts; the count; the own page]
+      move ! (3 ∷ []) $ rewrite ! 0 (λ (h : Head). ‵ (tenure_owns h.0 id n)) same refl $ move ! (0 ∷ 3 ∷ []) $
+      use2 𝓛 (given Few (‵ (tenure_owns d id n) ⊛ ‵ (counts_page d later))) (not_given 𝓛 d id n later) $
       learn ! (λ few. split ! $
-      -- [the count; the page's counts; the first entry; the page's moves; the own page]
-      move ! (3 ∷ []) $ rewrite ! 0 (λ (d : ℕ). ‵ (own γ (part d later))) same refl $
-      move ! (0 ∷ 2 ∷ []) $ fjoin ! $ fpack ! ℕ (page_as γ later) δ $
-      -- [the page; the count; the first entry; the own page]
-      move ! (2 ∷ 1 ∷ []) $ fjoin ! $ fpack ! ℕ (held_as γ id n) δ $ move ! (2 ∷ 0 ∷ []) $ fjoin ! $ check ! few $ done !))))
+      -- [the count; the page's counts; the first entries; the page's moves; the own page]
+      move ! (2 ∷ []) $ rewrite ! 0 (λ (h : Head). ‵ (own γ (part h []))) same refl $
+      move ! (0 ∷ 1 ∷ []) $ fjoin ! $ fpack ! Head (held_as γ id n) ε $
+      -- [what is held; the page's counts; its moves; the own page]
+      move ! (2 ∷ 1 ∷ []) $ fjoin ! $ fpack ! ℕ (λ c. page_as γ later (c, room)) d $ fpack ! ℕ (page_with γ later) room $
+      -- [the page; what is held; the own page]
+      move ! (2 ∷ 1 ∷ []) $ fjoin ! $ check ! few $ done !)))))
 
 pub history_keyless : (γ : GName) (moves : List IdMove) → Keyless (history_owns γ moves)
 unfolding history_owns
 history_keyless γ moves = λ δ. (tt, tt)
 
+pub page_with_keyless : (γ : GName) (moves : List IdMove) (room : ℕ) → Keyless (page_with γ moves room)
+unfolding page_with
+page_with_keyless γ moves room = λ d. (tt, tt)
+
 pub page_keyless : (γ : GName) (moves : List IdMove) → Keyless (page_owns γ moves)
-unfolding page_owns
-page_keyless γ moves = λ δ. (tt, tt)
+page_keyless γ moves = λ room. page_with_keyless γ moves room
 
 pub held_keyless : (γ : GName) (id n : ℕ) → Keyless (held_owns γ id n)
 unfolding held_owns

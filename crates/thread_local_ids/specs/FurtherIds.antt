@@ -6,16 +6,14 @@ use Rattle.thread_local_ids.specs.FirstIds.{IsSameBeyond}
 use Rattle.thread_local_ids.specs.Filled.{IsFilled}
 use Rattle.thread_local_ids.specs.declared.further.Further.TheInside.{Inside}
 
--- the manager, the name of the table, the moves up to the last one of a further id, and for how many
--- ids there was room when the table was made or cleared
+-- the manager, the name of the table, and the moves up to the last one of a further id
 pub record FurtherIds : Type 0 where
   pub manager : Manager
   pub table : ℕ
   pub moves : List IdMove
-  pub room : ℕ
 
 abbrev pub further_of : Inside → FurtherIds
-further_of i = record { manager = i.manager; table = i.log.table; moves = i.log.moves; room = i.room.ids }
+further_of i = record { manager = i.manager; table = i.log.table; moves = i.log.moves }
 
 -- of the further ids the manager holds those that the history leaves held, and there is still room
 -- for as many as at the beginning, of which the first need none of the manager's
@@ -25,5 +23,5 @@ pub record IsFurther (i : Inside) : Type 0 where
   pub beyond : IsSameBeyond (held_after i.log.moves) i.manager.held
   pub reached : i.reached ≡ length (held_after i.log.moves) - 58
   pub few : i.reached < 2 ^ 63
-  pub room : i.room.ids ≤ max 58 i.manager.room
-  pub room_table : i.room.table ≡ i.log.table
+  pub room : i.start.room ≤ max 58 i.manager.room
+  pub start : i.start.table ≡ i.log.table

@@ -73,38 +73,38 @@ moves_key = 2 ^ 64 - 1
 abbrev pub moves_own : ℕ → Element → Fml
 moves_own table a = element_at moves_key table a
 
--- The moves as they are kept. The first entry names what the table has of its ids' counts.
-abbrev pub kept : ℕ → List IdMove → List IdMove
-kept δ moves = Give δ ∷ moves
+-- what the moves begin with as they are kept: a name for what the table has of its ids' counts, and
+-- for how many ids there was room
+abbrev pub Head : Type 0
+Head = ℕ × ℕ
 
-abbrev pub history_as : ℕ → List IdMove → ℕ → Fml
-history_as table moves δ = fsep (moves_own table (some full_share, kept δ moves)) (counts_own δ moves)
+abbrev pub kept : Head → List IdMove → List IdMove
+kept h moves = Give h.0 ∷ Give h.1 ∷ moves
 
-abbrev pub page_as : ℕ → List IdMove → ℕ → Fml
-page_as table moves δ = fsep (moves_own table (none, kept δ moves)) (counts_page δ moves)
+abbrev pub history_as : ℕ → List IdMove → Head → Fml
+history_as table moves h = fsep (moves_own table (some full_share, kept h moves)) (counts_own h.0 moves)
 
-abbrev pub held_as : ℕ → ℕ → ℕ → ℕ → Fml
-held_as table id n δ = fsep (moves_own table (none, kept δ [])) (tenure_owns δ id n)
+abbrev pub page_as : ℕ → List IdMove → Head → Fml
+page_as table moves h = fsep (moves_own table (none, kept h moves)) (counts_page h.0 moves)
 
--- the key of the room, which no `usize` is
-abbrev pub room_key : ℕ
-room_key = 2 ^ 64
-
--- a table began with room for so many ids
-unfoldable pub room_owns : ℕ → ℕ → Fml
-room_owns table ids = element_at room_key table (none, Give ids ∷ [])
+abbrev pub held_as : ℕ → ℕ → ℕ → Head → Fml
+held_as table id n h = fsep (moves_own table (none, kept h [])) (tenure_owns h.0 id n)
 
 -- these are all moves of a table, and whoever has this appends to them
 unfoldable pub history_owns : ℕ → List IdMove → Fml
-history_owns table moves = fex ℕ (history_as table moves)
+history_owns table moves = fex Head (history_as table moves)
+
+-- these were all moves of a table once, which began with room for so many ids
+unfoldable pub page_with : ℕ → List IdMove → ℕ → Fml
+page_with table moves room = fex ℕ (λ δ. page_as table moves (δ, room))
 
 -- these were all moves of a table once
-unfoldable pub page_owns : ℕ → List IdMove → Fml
-page_owns table moves = fex ℕ (page_as table moves)
+abbrev pub page_owns : ℕ → List IdMove → Fml
+page_owns table moves = fex ℕ (page_with table moves)
 
 -- an id is held, which was given back n times before
 unfoldable pub held_owns : ℕ → ℕ → ℕ → Fml
-held_owns table id n = fex ℕ (held_as table id n)
+held_owns table id n = fex Head (held_as table id n)
 
 -- the least id was taken after these moves, and is held
 abbrev pub taken_id : List IdMove → ℕ

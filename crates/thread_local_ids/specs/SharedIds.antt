@@ -5,7 +5,6 @@ use Rattle.thread_local_ids.specs.declared.shared_ids.SharedIds.TheInside.{Insid
 use Rattle.thread_local_ids.specs.declared.rights.right.Right.{Right}
 use Rattle.thread_local_ids.specs.declared.rights.right.SlotRights.{SlotRights}
 use Rattle.thread_local_ids.specs.declared.rights.page.Page.{Page}
-use Rattle.thread_local_ids.specs.declared.rights.room.Room.{Room}
 
 -- the name of the table
 pub record SharedView : Type 0 where
@@ -17,10 +16,9 @@ shared_coded = code_by ℕ coded_ℕ (λ ids. ids.table) (λ table. record { tab
 abbrev pub shared_of : Inside → SharedView
 shared_of i = record { table = i.first.table }
 
--- the ids of a new table, with the table's own right, the page from before any id is taken, for how many
--- ids there is room, and the rights to its slots
-pub record AreNew (made : SharedView × Right × Page × Room × SlotRights) : Type 0 where
+-- the ids of a new table, with the table's own right, the page from before any id is taken, and the
+-- rights to its slots
+pub record AreNew (made : SharedView × Right × Page × SlotRights) : Type 0 where
   pub right : (made.1.table ≡ made.0.table) × (made.1.id ≡ 2 ^ 63 - 1)
   pub page : (made.2.table ≡ made.0.table) × (made.2.moves ≡ [])
-  pub room : made.3.table ≡ made.0.table
-  pub slots : made.4.table ≡ made.0.table
+  pub slots : made.3.table ≡ made.0.table

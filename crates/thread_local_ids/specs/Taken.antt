@@ -32,17 +32,17 @@ pub record IsTakenAfter (table : ℕ) (early later : List IdMove) (taken : Taken
 
 -- no id was taken: after the moves of `later`, which extend those of `early`, all ids are held that
 -- there is room for, or all that there are
-pub record IsRefusedAfter (room : ℕ) (early later : Page) (error : LocalError) : Type 0 where
+pub record IsRefusedAfter (early later : Page) (error : LocalError) : Type 0 where
   pub since : IsPrefix early.moves later.moves
-  pub memory : error ≡ LocalError.Memory alloc_error → HoldsAllBelow room (held_after later.moves)
+  pub memory : error ≡ LocalError.Memory alloc_error → HoldsAllBelow early.room (held_after later.moves)
   pub exhausted : error ≡ LocalError.Exhausted → HoldsAllBelow (2 ^ 63 - 1) (held_after later.moves)
 
 -- what a take answers that goes on under the lock
-abbrev pub IsTake : (table room : ℕ) (early later : Page) → Result Taken LocalError → Type 0
-IsTake table room early later (Ok taken) = IsTakenAfter table early.moves later.moves taken
-IsTake table room early later (Err error) = IsRefusedAfter room early later error
+abbrev pub IsTake : (table : ℕ) (early later : Page) → Result Taken LocalError → Type 0
+IsTake table early later (Ok taken) = IsTakenAfter table early.moves later.moves taken
+IsTake table early later (Err error) = IsRefusedAfter early later error
 
 -- what one try under the lock answers: where it answers nothing, it leaves the page as it is
-abbrev pub IsTry : (table room : ℕ) (early later : Page) → Option (Result Taken LocalError) → Type 0
-IsTry table room early later None = later ≡ early
-IsTry table room early later (Some tried) = IsTake table room early later tried
+abbrev pub IsTry : (table : ℕ) (early later : Page) → Option (Result Taken LocalError) → Type 0
+IsTry table early later None = later ≡ early
+IsTry table early later (Some tried) = IsTake table early later tried

@@ -22,7 +22,6 @@ use crate::rights::held::{HeldId, Taken};
 use crate::rights::mark::Mark;
 use crate::rights::page::{Page, Tenure};
 use crate::rights::right::{Right, SlotRights};
-use crate::rights::room::Room;
 use crate::tokens::book::Book;
 use std::marker::{Brand, Model, Move, Owns, PhantomData};
 use std::sync::atomic::Ordering::SeqCst;
@@ -88,15 +87,13 @@ impl Model for Trace {
 impl FirstIds {
     /// The first ids of a new table whose further ids the manager gives out. Beside them are the log,
     /// the table's right, to the number that lies between the ids and their marks, the page from
-    /// before any id is taken, the room, and the rights to its slots.
-    pub(crate) fn begun(
-        manager: &ThreadIdManager,
-    ) -> (FirstIds, Log, (Right, Page, Room, SlotRights))
+    /// before any id is taken, and the rights to its slots.
+    pub(crate) fn begun(manager: &ThreadIdManager) -> (FirstIds, Log, (Right, Page, SlotRights))
         ensures log { (result.1.table ≡ result.0.table) × (result.1.moves ≡ []) × (result.1.whole ≡ false) }
         ensures right { (result.2.0.table ≡ result.0.table) × (result.2.0.id ≡ 2 ^ 63 - 1) }
         ensures page { (result.2.1.table ≡ result.0.table) × (result.2.1.moves ≡ []) }
-        ensures room { (result.2.2.table ≡ result.0.table) × (result.2.2.ids ≡ max 58 manager.now.room) }
-        ensures slots { result.2.3.table ≡ result.0.table }
+        ensures room { result.2.1.room ≡ max 58 manager.now.room }
+        ensures slots { result.2.2.table ≡ result.0.table }
     {
         let _ = manager;
         (
@@ -109,9 +106,6 @@ impl FirstIds {
                     marker: PhantomData,
                 },
                 Page {
-                    marker: PhantomData,
-                },
-                Room {
                     marker: PhantomData,
                 },
                 SlotRights {

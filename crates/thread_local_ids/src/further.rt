@@ -12,19 +12,17 @@ use crate::locks::lock::Fits;
 use crate::rights::held::{HeldId, Taken};
 use crate::rights::page::{Page, Tenure};
 use crate::rights::right::{Right, SlotRights};
-use crate::rights::room::Room;
 use std::marker::Model;
 use thread_local_base::{LocalError, ThreadIdManager};
 
 /// Gives out the further ids. Its manager has all ids of the table: the first ones count as held
 /// there once a further id is asked for.
 ///
-/// Contracts see the manager, the table's name, the moves up to the last one of a further id, and for
-/// how many ids there was room when the table was made or cleared.
+/// Contracts see the manager, the table's name, and the moves up to the last one of a further id.
 pub(crate) struct Further {
     pub(crate) manager: ThreadIdManager,
     pub(crate) log: Log,
-    pub(crate) room: Room,
+    pub(crate) start: Page,
     // By how much the peak of the table exceeds the first ids. The manager's may be greater.
     pub(crate) reached: usize,
 }
@@ -57,13 +55,12 @@ impl Further {
         &mut self,
         first: &FirstIds,
         page: &mut Page,
-        room: &Room,
     ) -> Option<Result<Taken, LocalError>>
-        requires { (first.now.table ≡ self.old.table) × (page.old.table ≡ self.old.table) × (room.now.table ≡ self.old.table) }
-        ensures take { IsTry first.now.table room.now.ids page.old page.new result }
+        requires { (first.now.table ≡ self.old.table) × (page.old.table ≡ self.old.table) }
+        ensures take { IsTry first.now.table page.old page.new result }
         ensures table { (self.new.table ≡ self.old.table) × (page.new.table ≡ page.old.table) }
     {
-        self.room.agrees(room);
+        self.start.in_line(page);
         match alloc(&mut self.manager) {
             Ok(id) => {
                 let (word, trace) = first.look(&mut self.log, page, true);
@@ -120,22 +117,21 @@ impl Further {
     /// Takes every id back, also the first ones, and counts the peak anew. The room stays. The rights
     /// and the history are fresh ones, under another table's name, with that table's own right and
     /// the rights to its slots.
-    pub(crate) fn clear(&mut self, first: &mut FirstIds) -> (Right, Page, Room, SlotRights)
+    pub(crate) fn clear(&mut self, first: &mut FirstIds) -> (Right, Page, SlotRights)
         ensures table { (self.new.table ≡ result.0.table) × (first.new.table ≡ result.0.table) }
         ensures right { result.0.id ≡ 2 ^ 63 - 1 }
         ensures page { (result.1.table ≡ result.0.table) × (result.1.moves ≡ []) }
-        ensures room { result.2.table ≡ result.0.table }
-        ensures slots { result.3.table ≡ result.0.table }
+        ensures slots { result.2.table ≡ result.0.table }
         ensures moves { self.new.moves ≡ [] }
         ensures held { self.new.manager.held ≡ [] }
     {
         self.manager.clear();
-        let (begun, log, (right, page, room, slots)) = FirstIds::begun(&self.manager);
+        let (begun, log, (right, page, slots)) = FirstIds::begun(&self.manager);
         *first = begun;
         self.log = log;
-        self.room = room.again();
+        self.start = page.again();
         self.reached = 0;
-        (right, page, room, slots)
+        (right, page, slots)
     }
 }
 

@@ -17,7 +17,6 @@ pub use rights::mark::{Mark, Noted};
 pub use rights::page::{Page, Tenure};
 pub use rights::reached::Reached;
 pub use rights::right::{Right, SlotRights};
-pub use rights::room::Room;
 pub use shared_ids::SharedIds;
 pub use tokens::book::Book;
 pub use tokens::token::Token;

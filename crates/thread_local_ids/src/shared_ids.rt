@@ -16,7 +16,6 @@ use crate::rights::held::{HeldId, Taken};
 use crate::rights::page::{Page, Tenure};
 use crate::rights::reached::Reached;
 use crate::rights::right::{Right, SlotRights};
-use crate::rights::room::Room;
 use crate::tokens::book::Book;
 use std::alloc::{AllocError, Global};
 use std::marker::Model;
@@ -46,12 +45,12 @@ impl Model for SharedIds {
 
 impl SharedIds {
     /// The ids of a new table, none of them held. For contracts there are beside them the table's own
-    /// right, the page from before any id is taken, the room, and the rights to its slots. Whoever has
-    /// the table's own right can show that another table has another name. It takes no memory, nor do
-    /// the first 58 ids.
-    pub fn new(alloc: Global) -> (SharedIds, Right, Page, Room, SlotRights)
+    /// right, the page from before any id is taken, and the rights to its slots. Whoever has the
+    /// table's own right can show that another table has another name. It takes no memory, nor do the
+    /// first 58 ids.
+    pub fn new(alloc: Global) -> (SharedIds, Right, Page, SlotRights)
         ensures new { AreNew result }
-        ensures room { result.3.ids ≡ 58 }
+        ensures room { result.2.room ≡ 58 }
     {
         SharedIds::of(ThreadIdManager::new(alloc))
     }
@@ -62,11 +61,11 @@ impl SharedIds {
     pub fn with_room(
         alloc: Global,
         ids: usize,
-    ) -> Result<(SharedIds, Right, Page, Room, SlotRights), AllocError>
+    ) -> Result<(SharedIds, Right, Page, SlotRights), AllocError>
         ensures new { IfOk result AreNew }
-        ensures room { IfOk result (λ made. min ids (2 ^ 63 - 1) ≤ made.3.ids) }
-        ensures few { IfOk result (λ made. made.3.ids < min ids (2 ^ 63 - 1) + 64) }
-        ensures room_in_range { IfOk result (λ made. made.3.ids ≤ 2 ^ 63 - 1) }
+        ensures room { IfOk result (λ made. min ids (2 ^ 63 - 1) ≤ made.2.room) }
+        ensures few { IfOk result (λ made. made.2.room < min ids (2 ^ 63 - 1) + 64) }
+        ensures room_in_range { IfOk result (λ made. made.2.room ≤ 2 ^ 63 - 1) }
         ensures no_ids { ids ≡ 0 → IsOk result }
     {
         let managed = if ids > FIRST_IDS { ids } else { 0 };
@@ -74,23 +73,23 @@ impl SharedIds {
     }
 
     /// The ids of a new table, which the manager gives out from 58 on.
-    fn of(manager: ThreadIdManager) -> (SharedIds, Right, Page, Room, SlotRights)
+    fn of(manager: ThreadIdManager) -> (SharedIds, Right, Page, SlotRights)
         requires { manager.held ≡ [] }
         ensures new { AreNew result }
-        ensures room { result.3.ids ≡ max 58 manager.room }
+        ensures room { result.2.room ≡ max 58 manager.room }
     {
-        let (first, log, (right, page, room, slots)) = FirstIds::begun(&manager);
+        let (first, log, (right, page, slots)) = FirstIds::begun(&manager);
         let further = Further {
             manager,
             log,
-            room: room.again(),
+            start: page.again(),
             reached: 0,
         };
         let ids = SharedIds {
             first,
             further: Lock::new(further),
         };
-        (ids, right, page, room, slots)
+        (ids, right, page, slots)
     }
 
     /// Takes the least id that isn't held, with its right, and leaves the page of all that was done
@@ -99,37 +98,32 @@ impl SharedIds {
     /// from 58 on are held that there is room for; the first 58 need none. `Exhausted` means that
     /// all 2^63 - 1 ids are held.
     #[inline]
-    pub fn take<R: Wait>(&self, rt: &R, page: &mut Page, room: &Room) -> Result<Taken, LocalError>
-        requires { (page.old.table ≡ self.now.table) × (room.now.table ≡ self.now.table) }
+    pub fn take<R: Wait>(&self, rt: &R, page: &mut Page) -> Result<Taken, LocalError>
+        requires { page.old.table ≡ self.now.table }
         ensures taken { IfOk result (λ taken. IsTakenAfter self.now.table page.old.moves page.new.moves taken) }
         ensures early { IsPrefix page.old.moves page.new.moves }
         ensures table { page.new.table ≡ page.old.table }
         ensures memory { result ≡ Err (LocalError.Memory alloc_error)
-            → HoldsAllBelow room.now.ids (held_after page.new.moves) }
+            → HoldsAllBelow page.old.room (held_after page.new.moves) }
         ensures exhausted { result ≡ Err LocalError.Exhausted
             → HoldsAllBelow (2 ^ 63 - 1) (held_after page.new.moves) }
     {
         if let Some(taken) = self.first.take(page) {
             return Ok(taken);
         }
-        self.take_further(rt, page, room)
+        self.take_further(rt, page)
     }
 
     /// Takes the least id, where no first id could be taken a moment ago.
     #[cold]
     #[inline(never)]
-    fn take_further<R: Wait>(
-        &self,
-        rt: &R,
-        page: &mut Page,
-        room: &Room,
-    ) -> Result<Taken, LocalError>
-        requires { (page.old.table ≡ self.now.table) × (room.now.table ≡ self.now.table) }
-        ensures take { IsTake self.now.table room.now.ids page.old page.new result }
+    fn take_further<R: Wait>(&self, rt: &R, page: &mut Page) -> Result<Taken, LocalError>
+        requires { page.old.table ≡ self.now.table }
+        ensures take { IsTake self.now.table page.old page.new result }
         ensures table { page.new.table ≡ page.old.table }
     {
         for _ in rt.forever() {
-            let tried = self.further.lock(rt).take(&self.first, page, room);
+            let tried = self.further.lock(rt).take(&self.first, page);
             if let Some(tried) = tried {
                 return tried;
             }
@@ -208,7 +202,7 @@ impl SharedIds {
         let Further {
             manager,
             log: _,
-            room: _,
+            start: _,
             reached: _,
         } = further.into_inner();
         drop(manager);
@@ -217,13 +211,12 @@ impl SharedIds {
 
     /// Takes every id back, those of forgotten holders too, and counts the peak anew. The room stays.
     /// For contracts the ids are those of another table from then on: it answers that table's right,
-    /// its page from before any id is taken, its room, and the rights to its slots. Whoever has the
-    /// right of the table before shows that the two have two names.
-    pub fn clear(&mut self) -> (Right, Page, Room, SlotRights)
+    /// its page from before any id is taken, and the rights to its slots. Whoever has the right of the
+    /// table before shows that the two have two names.
+    pub fn clear(&mut self) -> (Right, Page, SlotRights)
         ensures right { (self.new.table ≡ result.0.table) × (result.0.id ≡ 2 ^ 63 - 1) }
         ensures page { (result.1.table ≡ self.new.table) × (result.1.moves ≡ []) }
-        ensures room { result.2.table ≡ self.new.table }
-        ensures slots { result.3.table ≡ self.new.table }
+        ensures slots { result.2.table ≡ self.new.table }
     {
         self.further.get_mut().clear(&mut self.first)
     }

@@ -11,7 +11,7 @@ use std::alloc::Global;
 use std::sync::Wait;
 use std::test::Fail;
 use thread_local_base::{LocalError, ThreadIdManager};
-use thread_local_ids::{HeldId, Noted, Page, Room, SharedIds, Taken};
+use thread_local_ids::{HeldId, Noted, Page, SharedIds, Taken};
 
 /// The six ids of three takes, the returns of 1 and of 0, and three takes more, where nobody else
 /// takes any.
@@ -38,18 +38,13 @@ fn the_least_ids_come_again(rt: HostRuntime) -> Result<(), Fail> {
 }
 
 /// Two ids of one table are two, whatever other threads do, and the second was taken after the first.
-fn take_two<R: Wait>(
-    ids: &SharedIds,
-    rt: &R,
-    page: &mut Page,
-    room: &Room,
-) -> Result<(Taken, Taken), LocalError>
-    requires { (page.old.table ≡ ids.now.table) × (room.now.table ≡ ids.now.table) }
+fn take_two<R: Wait>(ids: &SharedIds, rt: &R, page: &mut Page) -> Result<(Taken, Taken), LocalError>
+    requires { page.old.table ≡ ids.now.table }
     ensures differ { IfOk result (λ two. two.0.0.id ≢ two.1.0.id) }
     ensures in_turn { IfOk result (λ two. IsPrefix (noted two.0.2.before Take) two.1.2.before) }
 {
-    let mut first = ids.take(rt, page, room)?;
-    let mut second = ids.take(rt, page, room)?;
+    let mut first = ids.take(rt, page)?;
+    let mut second = ids.take(rt, page)?;
     first.1.apart(&mut second.1);
     Ok((first, second))
 }
@@ -57,7 +52,7 @@ fn take_two<R: Wait>(
 #[test]
 fn an_id_is_held_once(rt: HostRuntime) -> Result<(), Fail> {
     let table = Table::new(rt.alloc());
-    let (first, second) = take_two(&table.ids, &rt, &mut table.start.again(), &table.room)?;
+    let (first, second) = take_two(&table.ids, &rt, &mut table.start.again())?;
     assert_same(&rt, (first.0.id, second.0.id), (0, 1));
     Ok(())
 }
@@ -100,10 +95,8 @@ fn give_and_take<R: Wait>(
     ids: &SharedIds,
     rt: &R,
     given: Taken,
-    room: &Room,
 ) -> Result<(Page, Taken), LocalError>
     requires held { IsHeldIn ids.now.table given }
-    requires room { room.now.table ≡ ids.now.table }
     ensures history { IfOk result (λ both. published_in both.0.moves given.0.id ≡ given.0.mark.left) }
     ensures value { IfOk result (λ both.
         both.1.0.id ≡ given.0.id → IsSome given.0.mark.left → both.1.0.mark.left ≡ given.0.mark.left) }
@@ -113,7 +106,7 @@ fn give_and_take<R: Wait>(
         → both.1.0.mark.left ≡ given.0.mark.left) }
 {
     let page = ids.give(rt, given.0, given.1, given.2);
-    let again = ids.take(rt, &mut page.again(), room)?;
+    let again = ids.take(rt, &mut page.again())?;
     Ok((page, again))
 }
 
@@ -126,7 +119,7 @@ fn a_note_comes_back_with_its_id(rt: HostRuntime) -> Result<(), Fail> {
             assert_same(&rt, table.take_for_ever(&rt)?, held);
         }
         let given = table.take(&rt)?;
-        let (_, again) = give_and_take(&table.ids, &rt, given, &table.room)?;
+        let (_, again) = give_and_take(&table.ids, &rt, given)?;
         assert_same(&rt, again.0.id, id);
     }
     Ok(())

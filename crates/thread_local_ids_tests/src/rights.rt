@@ -4,7 +4,7 @@ ghost use Rattle.std.specs.Prelude.{◌≡◌};
 use crate::same::assert_same;
 use std::mem;
 use thread_local_base::manager::IDS;
-use thread_local_ids::{Mark, Noted, Page, Right, Room, SharedIds, SlotRights};
+use thread_local_ids::{Mark, Noted, Page, Right, SharedIds, SlotRights};
 
 /// Where a right may stand: in a struct and in an enum.
 #[derive(Drop)]
@@ -37,9 +37,8 @@ fn a_right_takes_no_bytes(rt: HostRuntime) {
         mem::size_of::<Mark>(),
         mem::size_of::<Noted>(),
         mem::size_of::<Page>(),
-        mem::size_of::<Room>(),
     ];
-    assert_same(&rt, sizes, [0; 6]);
+    assert_same(&rt, sizes, [0; 5]);
 }
 
 #[test]

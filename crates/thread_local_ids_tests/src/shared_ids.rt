@@ -13,15 +13,14 @@ use std::test::Fail;
 use std::thread;
 use std::thread::Threads;
 use thread_local_base::LocalError;
-use thread_local_ids::{Page, Right, Room, SharedIds, SlotRights, Taken};
+use thread_local_ids::{Page, Right, SharedIds, SlotRights, Taken};
 
-/// The ids of a table, with its first page and its room.
+/// The ids of a table, with its first page.
 #[derive(Drop)]
 pub struct Table {
     pub ids: SharedIds,
     pub start: Page,
-    pub room: Room,
-    ghost of_one: { (start.table ≡ ids.table) × (room.table ≡ ids.table) },
+    ghost of_one: { start.table ≡ ids.table },
     ghost at_first: { start.moves ≡ [] } by { Coded-set moves_coded start.moves [] },
 }
 
@@ -37,11 +36,11 @@ impl Table {
     }
 
     /// The table of new ids.
-    fn of(made: (SharedIds, Right, Page, Room, SlotRights)) -> Table
+    fn of(made: (SharedIds, Right, Page, SlotRights)) -> Table
         requires { AreNew made }
     {
-        let (ids, _, start, room, _) = made;
-        Table { ids, start, room }
+        let (ids, _, start, _) = made;
+        Table { ids, start }
     }
 
     /// Takes an id.
@@ -49,7 +48,7 @@ impl Table {
         ensures { IfOk result (λ taken. IsHeldIn self.now.ids.table taken) }
     {
         let mut page = self.start.again();
-        self.ids.take(rt, &mut page, &self.room)
+        self.ids.take(rt, &mut page)
     }
 
     /// Takes an id, and never gives it back.
@@ -66,13 +65,9 @@ impl Table {
 
     /// The table once every id was taken back.
     fn cleared(self) -> Table {
-        let Self {
-            mut ids,
-            start: _,
-            room: _,
-        } = self;
-        let (_, start, room, _) = ids.clear();
-        Table { ids, start, room }
+        let Self { mut ids, start: _ } = self;
+        let (_, start, _) = ids.clear();
+        Table { ids, start }
     }
 
     /// Gives an id back, and answers it.

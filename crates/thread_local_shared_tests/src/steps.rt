@@ -10,18 +10,17 @@ use std::sync::Wait;
 use thread_local_base::{LocalError, Thread, bucket_size};
 use thread_local_buckets::{Buckets, flag_word_at};
 use thread_local_ids::{
-    Book, HeldId, Page, Reached, Right, Room, SharedIds, SlotRights, Taken, Tenure, TokenList,
+    Book, HeldId, Page, Reached, Right, SharedIds, SlotRights, Taken, Tenure, TokenList,
 };
 use thread_local_shared_buckets::{Claim, Shared};
 
-/// The ids of a table, with the table's right, its first page and its room.
+/// The ids of a table, with the table's right and its first page.
 #[derive(Drop)]
 pub struct Table {
     pub ids: SharedIds,
     pub right: Right,
     start: Page,
-    room: Room,
-    ghost of_one: { (right.table ≡ ids.table) × (start.table ≡ ids.table) × (room.table ≡ ids.table) },
+    ghost of_one: { (right.table ≡ ids.table) × (start.table ≡ ids.table) },
 }
 
 impl Table {
@@ -34,13 +33,8 @@ impl Table {
     pub fn with_slots(alloc: Global) -> (Table, SlotRights)
         ensures { result.1.table ≡ result.0.ids.table }
     {
-        let (ids, right, start, room, slots) = SharedIds::new(alloc);
-        let table = Table {
-            ids,
-            right,
-            start,
-            room,
-        };
+        let (ids, right, start, slots) = SharedIds::new(alloc);
+        let table = Table { ids, right, start };
         (table, slots)
     }
 
@@ -52,15 +46,9 @@ impl Table {
             mut ids,
             right: _,
             start: _,
-            room: _,
         } = self;
-        let (right, start, room, slots) = ids.clear();
-        let table = Table {
-            ids,
-            right,
-            start,
-            room,
-        };
+        let (right, start, slots) = ids.clear();
+        let table = Table { ids, right, start };
         (table, slots)
     }
 
@@ -72,7 +60,6 @@ impl Table {
             ids,
             right: _,
             start: _,
-            room: _,
         } = self;
         ids
     }
@@ -81,7 +68,7 @@ impl Table {
     pub fn take<R: Wait>(&self, rt: &R) -> Result<Taken, LocalError>
         ensures { IfOk result (λ taken. IsHeldIn self.now.ids.table taken) }
     {
-        self.ids.take(rt, &mut self.start.again(), &self.room)
+        self.ids.take(rt, &mut self.start.again())
     }
 
     /// The same without its tenure, but with what that says of the ids up to its own.

@@ -6,23 +6,25 @@ ghost use mathlib.Core.Logic.{◌∨₁◌};
 ghost use denote.Sharing.{said};
 ghost use Rattle.thread_local_base.specs.IdMoves.{IdMove, Take, moves_coded, held_after, noted};
 ghost use Rattle.thread_local_base.specs.Held.{is_held};
-ghost use Rattle.thread_local_ids.specs.Rights.{page_owns, tenure_of, taken_id};
+ghost use Rattle.thread_local_ids.specs.Rights.{page_owns, page_with, tenure_of, taken_id};
 
 use std::marker::{Model, PhantomData};
 
 /// A beginning of a table's history: all that was done with its ids up to some moment, in its
-/// order.
+/// order. Each page of the table says for how many ids there was room when it was made or cleared,
+/// and there is since.
 #[derive(Drop)]
 pub struct Page {
     pub(crate) marker: PhantomData<()>,
     pub ghost table: { ℕ },
     pub ghost moves: { List IdMove } by { moves_coded },
+    pub ghost room: { ℕ },
 }
 
 impl Model for Page {
-    ghost also_owns = { λ p. page_owns p.table p.moves };
+    ghost also_owns = { λ p. page_with p.table p.moves p.room };
 
-    ghost also_shares = { λ p _ κ. said (page_owns p.table p.moves) κ };
+    ghost also_shares = { λ p _ κ. said (page_with p.table p.moves p.room) κ };
 }
 
 /// The least id was taken after these moves, and it is held since, by whoever has this.
@@ -61,17 +63,19 @@ impl Tenure {
 impl Page {
     /// The same once more.
     pub fn again(&self) -> Page
-        ensures { (result.table ≡ self.now.table) × (result.moves ≡ self.now.moves) }
+        ensures page { (result.table ≡ self.now.table) × (result.moves ≡ self.now.moves) }
+        ensures room { result.room ≡ self.now.room }
     {
         Page {
             marker: PhantomData,
         }
     }
 
-    /// Shows that of two pages of one table one extends the other.
+    /// Shows that of two pages of one table one extends the other, and that both say one room.
     pub fn in_line(&self, other: &Page)
         requires { self.now.table ≡ other.now.table }
-        ensures { IsPrefix self.now.moves other.now.moves ∨₁ IsPrefix other.now.moves self.now.moves }
+        ensures room { self.now.room ≡ other.now.room }
+        ensures line { IsPrefix self.now.moves other.now.moves ∨₁ IsPrefix other.now.moves self.now.moves }
     {}
 }
 

@@ -1,6 +1,6 @@
 //! The right to an id is out, as a `Right` with one holder, or it lies with the table's ids. The same
-//! holds of numbers that are no ids, which marks, the table's own right, its history, its room and its
-//! log are to. No type here has bytes, and no call does anything at run time.
+//! holds of numbers that are no ids, which marks, the table's own right, its history and its log are
+//! to. No type here has bytes, and no call does anything at run time.
 ghost use Rattle.std.specs.Prelude.{◌≡◌, ◌≢◌, ℕ};
 ghost use types.Logic.{sem};
 ghost use Rattle.thread_local_ids.specs.Rights.{right_owns, slots_own};

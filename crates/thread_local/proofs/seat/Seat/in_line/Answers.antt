@@ -11,4 +11,4 @@ Line a b = IsPrefix a b ∨₁ IsPrefix b a
 pub returns : goal.returns
 returns g c =
     subst (λ (b : List IdMove). Line (noted c.args.self.now.before Take) b) c.page-2.ensures.1
-    (subst (λ (a : List IdMove). Line a c.page-2.result.moves) c.page.ensures.1 c.in_line.ensures)
+    (subst (λ (a : List IdMove). Line a c.page-2.result.moves) c.page.ensures.1 c.in_line.ensures.line)

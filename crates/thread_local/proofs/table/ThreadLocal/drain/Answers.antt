@@ -30,7 +30,7 @@ returns g c = (
     sym c.drain.ensures.same_reference,
     λ w.
         let leaves = c.drain.ensures.leaves in
-        ap (λ (s : TableView). thread_local_view s c.self.inside.room.ids)
+        ap (λ (s : TableView). thread_local_view s c.self.inside.first.room)
         (same_lent c.self.inside.buckets c.owner.result.now (drain_leaves c.drain.result) w
         (sym (ap (λ (o : Owned g.row.T.Denot). o.reserved) leaves))
         (λ bucket. sym (ap (λ (o : Owned g.row.T.Denot). stands o.contents bucket) leaves ∙ c.drain.ensures.would_stand bucket)))

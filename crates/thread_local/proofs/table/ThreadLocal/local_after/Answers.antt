@@ -12,7 +12,7 @@ use Rattle.thread_local.proofs.table.ThreadLocal.local_after.Goals as goal
 pub invariant_of-seat : goal.invariant_of-seat
 invariant_of-seat g c =
     let made = c.claim in
-    makes_local c.self.inside.buckets c.self.inside.room.ids made.result c.self.view_is c.self.invariant.0
+    makes_local c.self.inside.buckets c.self.inside.first.room made.result c.self.view_is c.self.invariant.0
     c.in_ok-held.ensures.taken.held made.ensures.same_slot made.ensures.learnt made.ensures.reserved
 
 pub returns-clause-least : goal.returns-clause-least

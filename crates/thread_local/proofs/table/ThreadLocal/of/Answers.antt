@@ -29,7 +29,6 @@ invariant_of-result g c =
       ids.right.1,
       ids.page.0 ∙ sym ids.right.0 ∙ table,
       ids.page.1,
-      ids.room ∙ sym ids.right.0 ∙ table,
       subst (λ (s : Option ℕ). Belongs s c.first.result.table) (sym c.first.ensures.sharing) (first_belongs c.first.result.table),
     )
 

@@ -26,7 +26,6 @@ use Rattle.thread_local_base.specs.contracts.manager.ThreadIdManager as manager
 use Rattle.thread_local_ids.specs.contracts.rights.right.Right as right
 use Rattle.thread_local_ids.specs.contracts.rights.right.SlotRights as slots
 use Rattle.thread_local_ids.specs.contracts.rights.page.Page as page
-use Rattle.thread_local_ids.specs.contracts.rights.room.Room as room
 use Rattle.thread_local_ids.specs.contracts.first.Log as log
 use Rattle.thread_local_ids.specs.contracts.first.FirstIds as words
 use Rattle.thread_local_ids.specs.contracts.first.FirstIds.TheInside as inside
@@ -44,20 +43,19 @@ begun_spec 𝓤 𝓛 𝓜 𝓡 wired =
     let Lg : RattleType = log.the_row in
     let Ri : RattleType = right.the_row in
     let Pa : RattleType = page.the_row in
-    let Ro : RattleType = room.the_row in
     let Sl : RattleType = slots.the_row in
-    let Four : RattleType = Tuple (Ri ∷ Pa ∷ Ro ∷ Sl ∷ []) in
+    let Three : RattleType = Tuple (Ri ∷ Pa ∷ Sl ∷ []) in
     let self = RefOf (0 ∷ []) tt (plain (λ _. manager.the_row)) (λ _. tt) in
     let hs : Stays ended.signature.params ended.kept = (stay_dropped self yes, tt) in
     proved 𝓛 ended hs c 𝓜 𝓡 (Goes-dropped 𝓛 1 self yes (λ κs x f. refl), tt) #self fn
     (code.unfolded 𝓤 𝓛.H 𝓜 𝓡 wired)
     (λ κs. (shr_vals, tt)) (λ κs. (shr_Tells (named 0) κs.0 manager.the_row, tt)) (λ κs qs bounds a gh are.
-    let ids : ℕ = max 58 a.0.now.room in
+    let room : ℕ = max 58 a.0.now.room in
     let y : (walk_of 𝓛 ended hs c).Ghost = ((κs, qs, bounds, a, (vptr a.0.ref_ptr.0 a.0.ref_ptr.1 ∷ [], tt)), gh) in
     let v : Val = vstruct (vcons (vint w64 0) vnil) in
-    let four : Val = vstruct (vcons token (vcons token (vcons token (vcons token vnil)))) in
-    let three : Val = vstruct (vcons v (vcons token (vcons four vnil))) in
-    let Begun = λ (γ : ℕ). sem 𝓛 (begun 𝓛 ids γ) in
+    let shown : Val = vstruct (vcons token (vcons token (vcons token vnil))) in
+    let all : Val = vstruct (vcons v (vcons token (vcons shown vnil))) in
+    let Begun = λ (γ : ℕ). sem 𝓛 (begun 𝓛 room γ) in
     qed 𝓛 ((raw (alive 𝓛 ended.signature κs qs) ⊛ ‵ (owns (types_at ended.signature.params κs) a y.0.4))
     ∷ raw ((c κs a).requires gh) ∷ []) ∵
     keep ! (0 ∷ []) $ split ! $ keep ! (0 ∷ []) $
@@ -67,15 +65,13 @@ begun_spec 𝓤 𝓛 𝓜 𝓡 wired =
     sets ! (agg ! (no_more !)) refl (tt, tt) $ sets ! (agg ! (and_then ! (get ! refl) (no_more !))) refl (tt, (tt, tt)) $
     sets ! (agg ! (no_more !)) refl (tt, tt) $ sets ! (agg ! (and_then ! (get ! refl) (no_more !))) refl (tt, (tt, tt)) $
     sets ! (agg ! (no_more !)) refl (tt, tt) $ sets ! (agg ! (and_then ! (get ! refl) (no_more !))) refl (tt, (tt, tt)) $
-    sets ! (agg ! (no_more !)) refl (tt, tt) $ sets ! (agg ! (and_then ! (get ! refl) (no_more !))) refl (tt, (tt, tt)) $
-    sets ! (agg ! (and_then ! (get ! refl) (and_then ! (get ! refl) (and_then ! (get ! refl) (and_then ! (get ! refl) (no_more !)))))) refl
-    (tt, ((tt, tt), ((tt, tt), ((tt, tt), ((tt, tt), tt))))) $
     sets ! (agg ! (and_then ! (get ! refl) (and_then ! (get ! refl) (and_then ! (get ! refl) (no_more !))))) refl
-    (tt, ((record { fits = lit< tt }, tt), ((tt, tt), (((tt, tt), ((tt, tt), ((tt, tt), ((tt, tt), tt)))), tt)))) $
-    use0 𝓛 (later (some (λ (γ : ℕ). ‵ (begun 𝓛 ids γ)))) (via 𝓤 _ (begins 𝓛 ids) (basic 𝓛 (ex 𝓤 Begun))) $ await ! tt $ pick ! (λ γ.
+    (tt, ((tt, tt), ((tt, tt), ((tt, tt), tt)))) $
+    sets ! (agg ! (and_then ! (get ! refl) (and_then ! (get ! refl) (and_then ! (get ! refl) (no_more !))))) refl
+    (tt, ((record { fits = lit< tt }, tt), ((tt, tt), (((tt, tt), ((tt, tt), ((tt, tt), tt))), tt)))) $
+    use0 𝓛 (later (some (λ (γ : ℕ). ‵ (begun 𝓛 room γ)))) (via 𝓤 _ (begins 𝓛 room) (basic 𝓛 (ex 𝓤 Begun))) $ await ! tt $ pick ! (λ γ.
     let r : Ri.Denot = record { marker = record {}; table = γ; id = table_key } in
-    let p : Pa.Denot = record { marker = record {}; table = γ; moves = [] } in
-    let o : Ro.Denot = record { marker = record {}; table = γ; ids = ids } in
+    let p : Pa.Denot = record { marker = record {}; table = γ; moves = []; room = room } in
     let s : Sl.Denot = record { marker = record {}; table = γ } in
     let g : Lg.Denot = record { marker = record {}; table = γ; moves = []; whole = false } in
     fsplit ! $ nothing ! $ flt_i ! 0 (2 ^ 64) (lit< tt) $ feq_i ! _ (vint w64 0 ∷ []) _ refl $ fjoin ! $ fjoin ! $
@@ -87,24 +83,23 @@ begun_spec 𝓤 𝓛 𝓜 𝓡 wired =
     move ! (1 ∷ []) $ fsplit ! $ use0 𝓛 (‵ ((Mark (log.the_type).name).own_val (tt, tt) (token ∷ []))) (made (log.the_type).name 𝓛) $ fjoin ! $
     move ! (1 ∷ []) $ fsplit ! $ use0 𝓛 (‵ ((Mark (right.the_type).name).own_val (tt, tt) (token ∷ []))) (made (right.the_type).name 𝓛) $ fjoin ! $
     move ! (1 ∷ []) $ fsplit ! $ use0 𝓛 (‵ ((Mark (page.the_type).name).own_val (tt, tt) (token ∷ []))) (made (page.the_type).name 𝓛) $ fjoin ! $
-    move ! (1 ∷ []) $ fsplit ! $ use0 𝓛 (‵ ((Mark (room.the_type).name).own_val (tt, tt) (token ∷ []))) (made (room.the_type).name 𝓛) $ fjoin ! $
     move ! (1 ∷ []) $ use0 𝓛 (‵ ((Mark (slots.the_type).name).own_val (tt, tt) (token ∷ []))) (made (slots.the_type).name 𝓛) $ fjoin ! $
-    -- [the rights to the slots; the room; the page; the right; the log; the word; the token]
-    nothing ! $ move ! (1 ∷ 0 ∷ []) $ fjoin ! $ move ! (1 ∷ 0 ∷ []) $ fjoin ! $ move ! (1 ∷ 0 ∷ []) $ fjoin ! $ move ! (1 ∷ 0 ∷ []) $ fjoin ! $
-    feq_i ! (List Val) (four ∷ []) (four ∷ []) refl $ fjoin ! $
-    fpack ! (Valss (Ri ∷ Pa ∷ Ro ∷ Sl ∷ []))
-    (within (record { name = []; args = []; types = []; fields = Ri ∷ Pa ∷ Ro ∷ Sl ∷ [] }) (r, (p, (o, (s, tt)))) (four ∷ []))
-    (token ∷ [], (token ∷ [], (token ∷ [], (token ∷ [], tt)))) $
+    -- [the rights to the slots; the page; the right; the log; the word; the token]
     nothing ! $ move ! (1 ∷ 0 ∷ []) $ fjoin ! $ move ! (1 ∷ 0 ∷ []) $ fjoin ! $ move ! (1 ∷ 0 ∷ []) $ fjoin ! $
-    feq_i ! (List Val) (three ∷ []) (three ∷ []) refl $ fjoin ! $
-    fpack ! (Valss (Fi ∷ Lg ∷ Four ∷ []))
-    (within (record { name = []; args = []; types = []; fields = Fi ∷ Lg ∷ Four ∷ [] }) (record { table = γ }, (g, ((r, p, o, s), tt))) (three ∷ []))
-    (v ∷ [], (token ∷ [], (four ∷ [], tt))) $
+    feq_i ! (List Val) (shown ∷ []) (shown ∷ []) refl $ fjoin ! $
+    fpack ! (Valss (Ri ∷ Pa ∷ Sl ∷ []))
+    (within (record { name = []; args = []; types = []; fields = Ri ∷ Pa ∷ Sl ∷ [] }) (r, (p, (s, tt))) (shown ∷ []))
+    (token ∷ [], (token ∷ [], (token ∷ [], tt))) $
+    nothing ! $ move ! (1 ∷ 0 ∷ []) $ fjoin ! $ move ! (1 ∷ 0 ∷ []) $ fjoin ! $ move ! (1 ∷ 0 ∷ []) $ fjoin ! $
+    feq_i ! (List Val) (all ∷ []) (all ∷ []) refl $ fjoin ! $
+    fpack ! (Valss (Fi ∷ Lg ∷ Three ∷ []))
+    (within (record { name = []; args = []; types = []; fields = Fi ∷ Lg ∷ Three ∷ [] }) (record { table = γ }, (g, ((r, p, s), tt))) (all ∷ []))
+    (v ∷ [], (token ∷ [], (shown ∷ [], tt))) $
     -- [what is answered; the token]
-    knows ! (γ ≡ γ) refl $ knows ! ((γ ≡ γ) × (ids ≡ ids)) (refl, refl) $ join ! $
+    knows ! (γ ≡ γ) refl $ knows ! (room ≡ room) refl $ join ! $
     knows ! ((γ ≡ γ) × (◌≡◌ {A = List IdMove} [] [])) (refl, refl) $ join ! $
     knows ! ((γ ≡ γ) × (table_key ≡ table_key)) (refl, refl) $ join ! $
     knows ! ((γ ≡ γ) × (◌≡◌ {A = List IdMove} [] []) × (false ≡ false)) (refl, refl, refl) $ join ! $ nothing ! $ nothing ! $ fjoin ! $
     -- [nothing; the facts; what is answered; the token]
     returns ! (look_at ! 0 refl) $ free_all ! refl $ keep ! (3 ∷ 0 ∷ 2 ∷ 1 ∷ []) $
-    by ! (leaves 𝓛 ended hs c y three (record { table = γ }, g, (r, p, o, s)) (tt, tt) (tt, tt)))))
+    by ! (leaves 𝓛 ended hs c y all (record { table = γ }, g, (r, p, s)) (tt, tt) (tt, tt)))))

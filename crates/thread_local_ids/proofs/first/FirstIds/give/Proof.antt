@@ -111,8 +111,8 @@ give_spec 𝓤 𝓛 𝓜 𝓡 wired =
     fsplit ! $ move ! (0 ∷ 2 ∷ []) $
     returns_token ! κ α q s $ await ! tt $
     -- [the token; the page; the other tokens]
-    move ! (1 ∷ []) $ fpick ! (λ more. fsplit ! $ fpick ! (λ so. drop ! $
-    let r : page.the_row.Denot = record { marker = record {}; table = d.table; moves = more } in
+    move ! (1 ∷ []) $ fpick ! (λ more. fsplit ! $ fpick ! (λ so. drop ! $ fpick ! (λ room.
+    let r : page.the_row.Denot = record { marker = record {}; table = d.table; moves = more; room = room } in
     use0 𝓛 (‵ ((Mark (page.the_type).name).own_val (tt, tt) (token ∷ []))) (made (page.the_type).name 𝓛) $
     fjoin ! $ knows ! (◌≡◌ {A = Option Gv} (published_in more mine.id) mark.left) so.1 $ knows ! (IsReturn since.before mine.id more) so.0 $ join ! $
     knows ! (d.table ≡ d.table) refl $ join ! $
@@ -121,4 +121,4 @@ give_spec 𝓤 𝓛 𝓜 𝓡 wired =
     nothing ! $ fjoin ! $
     -- [nothing; the tokens; the facts; the page]
     returns ! (look_at ! 0 refl) $ free_all ! refl $ keep ! (1 ∷ 0 ∷ 3 ∷ 2 ∷ []) $
-    by ! (leaves 𝓛 ended hs c y token r (tt, (tt, (tt, (tt, (tt, tt))))) (tt, (tt, (tt, (tt, (tt, tt)))))))))))))))))))
+    by ! (leaves 𝓛 ended hs c y token r (tt, (tt, (tt, (tt, (tt, tt))))) (tt, (tt, (tt, (tt, (tt, tt))))))))))))))))))))

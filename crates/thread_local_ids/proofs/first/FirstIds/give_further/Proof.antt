@@ -127,9 +127,9 @@ give_further_spec 𝓤 𝓛 𝓜 𝓡 wired =
     fsplit ! $ move ! (0 ∷ 2 ∷ []) $
     returns_token ! κ α q s $ await ! tt $
     -- [the token; what the step left; the fields; the cell and the open borrow; ..]
-    move ! (1 ∷ []) $ fpick ! (λ more. fsplit ! $ fpick ! (λ so. drop ! $ fsplit ! $
+    move ! (1 ∷ []) $ fpick ! (λ more. fsplit ! $ fpick ! (λ so. drop ! $ fsplit ! $ fpick ! (λ room.
     let new : Lg.Denot = record s' { moves = more; whole = false } in
-    let r : page.the_row.Denot = record { marker = record {}; table = d.table; moves = more } in
+    let r : page.the_row.Denot = record { marker = record {}; table = d.table; moves = more; room = room } in
     rewrite ! 1 (λ (t : ℕ). ‵ (log_owns t false more)) (sym half.0) refl $
     move ! (3 ∷ 1 ∷ []) $ fjoin ! $ move ! (3 ∷ 0 ∷ 4 ∷ 5 ∷ 6 ∷ []) $ closes ! tt Lg new us lb lo $
     -- [two parts of the `&mut`; its token; the page; the token; its first part; nothing]
@@ -142,4 +142,4 @@ give_further_spec 𝓤 𝓛 𝓜 𝓡 wired =
     knows ! (IsReturn since.before mine.id more) so.0.0 $ join ! $ knows ! (d.table ≡ d.table) refl $ join ! $
     -- [the facts; the page; the tokens; what is left of the arguments]
     returns ! (look_at ! 0 refl) $ free_all ! refl $ keep ! (2 ∷ 3 ∷ 1 ∷ 0 ∷ []) $
-    by ! (leaves 𝓛 ended hs c y token r (tt, (new, (tt, (tt, (tt, tt))))) (tt, (tt, (tt, (tt, (tt, tt))))))))))))))))))))
+    by ! (leaves 𝓛 ended hs c y token r (tt, (new, (tt, (tt, (tt, tt))))) (tt, (tt, (tt, (tt, (tt, tt)))))))))))))))))))))

@@ -2,7 +2,7 @@
 use Rattle.thread_local_base.proofs.Names.{◌≡◌, ℕ, ◌+◌, ◌-◌, ◌^◌, [], ◌∷◌, refl, sym, lit<, w64, named, Val}
 use Rattle.thread_local_base.proofs.Names.{vint, vptr, SProp, via, Lft, Share, Fml}
 use Rattle.thread_local_base.proofs.Names.{ftrue, fsep, flft, ‵, raw, ◌⊛◌, mean, at_ret, ◌$◌, ◌∵◌}
-use Rattle.thread_local_base.proofs.Names.{ !, qed, by, move, keep, drop, split, split3, join, fsplit, fsplit3, fjoin, fjoin3, fpick, pick}
+use Rattle.thread_local_base.proofs.Names.{ !, qed, by, move, keep, drop, split, split3, join, fsplit, fsplit3, fjoin, fjoin3, fpick, fpack, pick}
 use Rattle.thread_local_base.proofs.Names.{use0, use3, await, rewrite, feq_i, flt_i, stop, fld, addr, lit, of_opd, no_more}
 use Rattle.thread_local_base.proofs.Names.{and_then, first, blocks, exec, Calls-last, returns, enter, alloc_all}
 use Rattle.thread_local_base.proofs.Names.{pass_all, free_all, look_at, get, through, sets, agg, lands_last, env, tables}
@@ -24,7 +24,7 @@ use denote.Plain.{bool_vals, bool_Tells}
 use denote.Struct.Tuple.{Tuple}
 use Rattle.thread_local_base.proofs.Pairs.{both, pair_in}
 use Rattle.thread_local_base.specs.IdMoves.{IdMove, Take, noted, held_after}
-use Rattle.thread_local_ids.specs.Rights.{page_owns}
+use Rattle.thread_local_ids.specs.Rights.{page_owns, page_with}
 use Rattle.thread_local_ids.specs.FirstIds.{IsWordOf, IsSameBeyond, HasFurther, is_full, log_owns}
 use Rattle.thread_local_ids.proofs.Markers.{Mark, token, made}
 use Rattle.thread_local_ids.specs.contracts.rights.page.Page as page
@@ -84,7 +84,7 @@ look_spec 𝓤 𝓛 𝓜 𝓡 wired =
     ∷ raw (fact 𝓤 At) ∷ raw (fact 𝓤 Half) ∷ raw (fact 𝓤 Has) ∷ []) ∵
     keep ! (1 ∷ 2 ∷ 3 ∷ 0 ∷ []) $ heard ! At (λ at. heard ! Half (λ half. heard ! Has (λ has.
     split ! $ split3 ! $ move ! (3 ∷ []) $ fsplit3 ! $ fsplit ! $ move ! (2 ∷ []) $ fsplit3 ! $ move ! (5 ∷ []) $ fsplit ! $ fsplit ! $
-    move ! (1 ∷ []) $ unhide ! $ fsplit ! $ drop ! $ rewrite ! 0 (λ (t : ℕ). ‵ (page_owns t p.moves)) at.0 refl $
+    move ! (1 ∷ []) $ unhide ! $ fsplit ! $ drop ! $ fpack ! ℕ (page_with p.table p.moves) p.room $ rewrite ! 0 (λ (t : ℕ). ‵ (page_owns t p.moves)) at.0 refl $
     keep ! (4 ∷ 5 ∷ 9 ∷ 7 ∷ 8 ∷ 0 ∷ 3 ∷ 10 ∷ []) $
     -- [the `&mut`, in two parts; its token; what the `&` holds; its token; the page; the first part of the `&mut`; the other tokens]
     enter ! 𝓣.C 𝓣.Λ fn _ Post $ alloc_all ! (λ l. pass_all ! refl ((tt, tt), ((tt, tt), ((tt, tt), ((tt, tt), tt)))) $

@@ -2,7 +2,7 @@
 use Rattle.thread_local_base.proofs.Names.{◌≡◌, ℕ, ◌+◌, ◌^◌, ◌<◌, [], ◌∷◌, refl, w64, named, Val}
 use Rattle.thread_local_base.proofs.Names.{vint, vptr, SProp, via, Lft, Share, Fml}
 use Rattle.thread_local_base.proofs.Names.{ftrue, fsep, flft, ‵, raw, ◌⊛◌, mean, at_ret, ◌$◌, ◌∵◌}
-use Rattle.thread_local_base.proofs.Names.{ !, qed, by, move, keep, drop, split, join, fsplit, fsplit3, fjoin, fpick, pick}
+use Rattle.thread_local_base.proofs.Names.{ !, qed, by, move, keep, drop, split, join, fsplit, fsplit3, fjoin, fpack, fpick, pick}
 use Rattle.thread_local_base.proofs.Names.{use0, use3, await, rewrite, feq_i, flt_i, stop, fld, addr, of_opd, no_more}
 use Rattle.thread_local_base.proofs.Names.{and_then, first, blocks, exec, Calls-last, returns, enter, alloc_all}
 use Rattle.thread_local_base.proofs.Names.{pass_all, free_all, look_at, get, through, sets, agg, lands_last, env, tables}
@@ -19,7 +19,7 @@ use mathlib.Core.List.{IsPrefix}
 use denote.Struct.Tuple.{Tuple}
 use Rattle.thread_local_base.proofs.Pairs.{both, pair_in}
 use Rattle.thread_local_base.specs.Bits.{IsLowestUnset}
-use Rattle.thread_local_ids.specs.Rights.{page_owns, taken_id}
+use Rattle.thread_local_ids.specs.Rights.{page_owns, page_with, taken_id}
 use Rattle.thread_local_ids.specs.FirstIds.{word_with}
 use Rattle.thread_local_ids.proofs.Calls.{exchanges}
 use Rattle.thread_local_ids.proofs.Markers.{Mark, token, made}
@@ -82,7 +82,7 @@ try_take_spec 𝓤 𝓛 𝓜 𝓡 wired =
     keep ! (1 ∷ 2 ∷ 3 ∷ 4 ∷ 0 ∷ []) $ heard ! At (λ at. heard ! Low (λ low. heard ! First (λ near. heard ! New (λ is_new.
     split ! $ split ! $ move ! (2 ∷ []) $ fsplit ! $ fsplit ! $ move ! (2 ∷ []) $ fsplit3 ! $ move ! (2 ∷ []) $ fsplit3 ! $
     move ! (1 ∷ []) $ fsplit ! $ move ! (1 ∷ []) $ unhide ! $ fsplit ! $ drop ! $
-    rewrite ! 0 (λ (t : ℕ). ‵ (page_owns t p.moves)) at refl $ keep ! (7 ∷ 8 ∷ 9 ∷ 0 ∷ []) $
+    fpack ! ℕ (page_with p.table p.moves) p.room $ rewrite ! 0 (λ (t : ℕ). ‵ (page_owns t p.moves)) at refl $ keep ! (7 ∷ 8 ∷ 9 ∷ 0 ∷ []) $
     -- [what the `&` holds; its token; the other tokens; the page]
     enter ! 𝓣.C 𝓣.Λ fn (vptr b o ∷ vint w64 old ∷ vint w64 new ∷ vint w64 id ∷ pv ∷ []) Post $ alloc_all ! (λ l.
     pass_all ! refl (

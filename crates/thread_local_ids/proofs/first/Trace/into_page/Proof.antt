@@ -1,7 +1,7 @@
 -- `into_page` gives the page of a trace that took nothing.
 use Rattle.std.proofs.Common.{Bool, [], ◌∷◌, refl}
 use base.Fml.{ftrue}
-use types.Kit.{‵, raw, ◌⊛◌, ◌$◌, ◌∵◌, !, qed, keep, move, rewrite, split, join, fsplit, fjoin, suffices, frame, use0}
+use types.Kit.{‵, raw, ◌⊛◌, ◌$◌, ◌∵◌, !, qed, keep, move, rewrite, split, join, fsplit, fjoin, fpick, suffices, frame, use0}
 use types.Run.{no_more, and_then, returns, enter}
 use types.ByLocal.{alloc_all, pass_all, free_all, look_at, get, sets}
 use types.Part.{agg}
@@ -33,12 +33,12 @@ into_page_spec 𝓤 𝓛 𝓜 𝓡 wired =
     ∷ raw (f.requires-1 𝓛 κs 𝓜.mem 𝓡.returns mine) ∷ []) ∵
     move ! (1 ∷ []) $ heard ! _ (λ at.
     split ! $ move ! (1 ∷ []) $ split ! $ fsplit ! $ keep ! (1 ∷ []) $
-    rewrite ! 0 (λ (t : Bool). ‵ (tried_owns mine.table mine.before t)) at refl $
+    rewrite ! 0 (λ (t : Bool). ‵ (tried_owns mine.table mine.before t)) at refl $ fpick ! (λ room.
     enter ! _ _ _ _ _ $ alloc_all ! (λ l. pass_all ! refl ((tt, (tt, tt)), tt) $
     sets ! (agg ! (no_more !)) refl (tt, tt) $ sets ! (agg ! (and_then ! (get ! refl) (no_more !))) refl (tt, (tt, tt)) $
     returns ! (look_at ! 0 refl) $ free_all ! refl $
     suffices ! _ (ends_at 𝓛 f.ended stayed c y token
-    record { marker = record {}; table = mine.table; moves = mine.before } (tt, tt) (tt, tt)) $
+    record { marker = record {}; table = mine.table; moves = mine.before; room = room } (tt, tt) (tt, tt)) $
     use0 𝓛 (‵ ((Mark (history.the_type).name).own_val (tt, tt) (token ∷ [])))
     (made (history.the_type).name 𝓛) $
-    fjoin ! $ nothing ! $ nothing ! $ join ! $ join ! $ nothing ! $ join ! $ frame ! $ tells_last ! (refl, refl))))
+    fjoin ! $ nothing ! $ nothing ! $ join ! $ join ! $ nothing ! $ join ! $ frame ! $ tells_last ! (refl, refl)))))

@@ -36,7 +36,7 @@ given_back old mid new id filled taken gives = (
 -- where the log has no further move, and the manager holds the same further ids, the invariant stays
 still : (i : Inside) (manager : Manager) (log : Log) → IsFurther i → IsFilled manager.held → IsSameBeyond i.manager.held manager.held
     → i.manager.room ≤ manager.room → (log.table ≡ i.log.table) × (log.whole ≡ false) × (log.moves ≡ i.log.moves)
-    → IsFurther (record { manager = manager; log = log; room = i.room; reached = i.reached })
+    → IsFurther (record { manager = manager; log = log; start = i.start; reached = i.reached })
 still i manager log kept filled same room is = record {
   filled = filled;
   half = is.1;
@@ -44,7 +44,7 @@ still i manager log kept filled same room is = record {
   reached = kept.reached ∙ sym (ap (λ (l : List IdMove). length (held_after l) - 58) is.2);
   few = kept.few;
   room = omega (arith, kept.room, room);
-  room_table = kept.room_table ∙ sym is.0;
+  start = kept.start ∙ sym is.0;
 }
 
 pub invariant_of-self : goal.invariant_of-self
@@ -113,7 +113,7 @@ invariant_of-self-in-Ok c =
       reached = peak ∙ sym (ap (λ (l : List IdMove). length (held_after l) - 58) moves);
       few = omega (arith, c.max-self-inside.ensures, c.self.invariant.few, taken.in_range);
       room = omega (arith, c.self.invariant.room, c.in-Ok.ensures.room);
-      room_table = c.self.invariant.room_table ∙ sym log.0;
+      start = c.self.invariant.start ∙ sym log.0;
     }
 
 pub returns-else-not-is_full-clause-take : goal.returns-else-not-is_full-clause-take
@@ -135,8 +135,8 @@ returns-else-not-is_full-2-clause-take c =
       since = subst (λ (l : List IdMove). IsPrefix c.args.page.now.moves l) moves c.look-word-in-Err.ensures.early;
       memory = λ refused.
           let needs = c.in-Err.ensures.memory (ap Err refused) in
-          all c.args.room.now.ids (length c.alloc.new.manager.held) needs.full
-          (omega (arith, c.agrees.ensures, c.self.invariant.room, c.in-Err.ensures.room, needs.no_room));
+          all c.args.page.now.room (length c.alloc.new.manager.held) needs.full
+          (omega (arith, c.in_line.ensures.room, c.self.invariant.room, c.in-Err.ensures.room, needs.no_room));
       exhausted = λ refused.
           let none = c.in-Err.ensures.exhausted (ap Err refused) in
           all (2 ^ 63 - 1) (2 ^ 63 - 1) none.full (omega arith);

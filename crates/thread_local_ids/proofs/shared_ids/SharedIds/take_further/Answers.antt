@@ -12,16 +12,15 @@ take-tried-requires g c =
     ap (λ (f : FurtherIds). f.table) c.deref_mut.ensures.value ∙ c.lock.ensures.tag.1 ∙ c.self.invariant in
     let table : c.args.self.now.table ≡ c.self.inside.first.table = sym (ap (λ (v : SharedView). v.table) c.self.view_is) in (
       sym here,
-      ap (λ (p : Page). p.table) c.loop.invariant ∙ c.requires.0 ∙ table ∙ sym here,
-      c.requires.1 ∙ table ∙ sym here,
+      ap (λ (p : Page). p.table) c.loop.invariant ∙ c.requires ∙ table ∙ sym here,
     )
 
 pub returns-in-Some-tried-clause-take : goal.returns-in-Some-tried-clause-take
 returns-in-Some-tried-clause-take g c =
     let left = c.take-tried.new.page in
-    let since = subst (λ (p : Page). IsTake c.self.inside.first.table c.args.room.now.ids p left c.in-Some-tried.tried) c.loop.invariant
+    let since = subst (λ (p : Page). IsTake c.self.inside.first.table p left c.in-Some-tried.tried) c.loop.invariant
     c.in-Some-tried.ensures.take in
-    subst (λ (v : SharedView). IsTake v.table c.args.room.now.ids c.args.page.now left c.in-Some-tried.tried) c.self.view_is since
+    subst (λ (v : SharedView). IsTake v.table c.args.page.now left c.in-Some-tried.tried) c.self.view_is since
 
 pub returns-in-Some-tried-clause-table : goal.returns-in-Some-tried-clause-table
 returns-in-Some-tried-clause-table g c = c.in-Some-tried.ensures.table.1 ∙ ap (λ (p : Page). p.table) c.loop.invariant
@@ -30,7 +29,7 @@ pub take-requires : goal.take-requires
 take-requires g c =
     c.take-tried.ensures.table.1
     ∙ ap (λ (p : Page). p.table) c.loop.invariant
-    ∙ c.requires.0
+    ∙ c.requires
     ∙ sym (ap (λ (v : SharedView). v.table) c.self.view_is)
 
 pub returns-in-Some-take-clause-take : goal.returns-in-Some-take-clause-take

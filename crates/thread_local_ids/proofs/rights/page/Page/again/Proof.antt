@@ -1,6 +1,6 @@
 -- `again` copies what the page says.
 use Rattle.thread_local_base.proofs.Names.{◌≡◌, [], ◌∷◌, refl, named, Val, vptr, ‵, raw}
-use Rattle.thread_local_base.proofs.Names.{◌⊛◌, ◌$◌, ◌∵◌, !, qed, by, keep, drop, split, fsplit, fjoin, use0}
+use Rattle.thread_local_base.proofs.Names.{◌⊛◌, ◌$◌, ◌∵◌, !, qed, by, keep, drop, split, join, fsplit, fjoin, use0}
 use Rattle.thread_local_base.proofs.Names.{no_more, and_then, returns, enter, alloc_all, pass_all, free_all, look_at}
 use Rattle.thread_local_base.proofs.Names.{get, sets, agg, yes, RattleType, owns, types_at}
 use Rattle.thread_local_base.proofs.Names.{plain, nothing, RefOf, shr_vals, shr_Tells, Stays}
@@ -21,7 +21,7 @@ again_spec 𝓤 𝓛 𝓜 𝓡 wired =
     (code.unfolded 𝓤 𝓛.H 𝓜 𝓡 wired)
     (λ κs. (shr_vals, tt)) (λ κs. (shr_Tells (named 0) κs.0 S, tt)) (λ κs qs bounds a gh are.
     let p : Val = vptr a.0.ref_ptr.0 a.0.ref_ptr.1 in let w = a.0.now in
-    let r : S.Denot = record { marker = record {}; table = w.table; moves = w.moves } in
+    let r : S.Denot = record { marker = record {}; table = w.table; moves = w.moves; room = w.room } in
     let Told : Type 0 = (w.table ≡ w.table) × (w.moves ≡ w.moves) in
     let y : (walk_of 𝓛 En hs c).Ghost = ((κs, qs, bounds, a, (p ∷ [], tt)), gh) in
     qed 𝓛 ((raw (alive 𝓛 En.signature κs qs) ⊛ ‵ (owns (types_at En.signature.params κs) a y.0.4))
@@ -31,6 +31,6 @@ again_spec 𝓤 𝓛 𝓜 𝓡 wired =
     use0 𝓛 (‵ ((Mark (Page.the_type).name).own_val (tt, tt) (token ∷ []))) (made (Page.the_type).name 𝓛) $ fjoin ! $
     enter ! _ _ _ _ _ $ alloc_all ! (λ l. pass_all ! refl ((tt, tt), tt) $
     sets ! (agg ! (no_more !)) refl (tt, tt) $ sets ! (agg ! (and_then ! (get ! refl) (no_more !))) refl (tt, (tt, tt)) $
-    knows ! Told (refl, refl) $ nothing ! $ nothing ! $ fjoin ! $
+    knows ! (w.room ≡ w.room) refl $ knows ! Told (refl, refl) $ join ! $ nothing ! $ nothing ! $ fjoin ! $
     returns ! (look_at ! 0 refl) $ free_all ! refl $ keep ! (3 ∷ 0 ∷ 2 ∷ 1 ∷ []) $
     by ! (leaves 𝓛 En hs c y token r (tt, tt) (tt, tt))))

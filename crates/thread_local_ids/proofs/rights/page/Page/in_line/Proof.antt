@@ -1,7 +1,7 @@
--- Of two pages of one table one extends the other.
+-- Of two pages of one table one extends the other, and both say one room.
 use Rattle.thread_local_base.proofs.Names.{sym, ◌≡◌, ℕ, List, [], ◌∷◌, refl, named}
 use Rattle.thread_local_base.proofs.Names.{Val, vptr, vunit, ‵, raw, ◌⊛◌, given, ◌$◌, ◌∵◌, ! }
-use Rattle.thread_local_base.proofs.Names.{qed, by, move, keep, drop, split, fsplit, fsplit3, fjoin, learn, rewrite}
+use Rattle.thread_local_base.proofs.Names.{qed, by, move, keep, drop, split, join, fsplit, fsplit3, fjoin, learn, rewrite}
 use Rattle.thread_local_base.proofs.Names.{feq_i, use2, of_opd, unit_lit, returns, enter, alloc_all, pass_all}
 use Rattle.thread_local_base.proofs.Names.{free_all, look_at, sets, fact, yes, RattleType, owns}
 use Rattle.thread_local_base.proofs.Names.{types_at, plain, nothing, heard, RefOf, shr_vals}
@@ -10,9 +10,9 @@ use Rattle.thread_local_base.proofs.Names.{alive, unhide}
 use mathlib.Core.List.{IsPrefix}
 use mathlib.Core.Logic.{◌∨₁◌}
 use Rattle.thread_local_base.specs.IdMoves.{IdMove}
-use Rattle.thread_local_ids.specs.Rights.{page_owns}
+use Rattle.thread_local_ids.specs.Rights.{page_with}
 use Rattle.thread_local_ids.specs.contracts.rights.page.Page as Page
-use Rattle.thread_local_ids.proofs.MoveElements.{in_line}
+use Rattle.thread_local_ids.proofs.MoveElements.{in_line_with}
 use Rattle.thread_local_ids.specs.contracts.rights.page.Page.in_line.{ended, clauses, Key.name as #self}
 use Rattle.thread_local_ids.proofs.rights.page.Page.in_line.Statement.{statement}
 use Rattle.thread_local_ids.proofs.rights.page.Page.in_line.Code as code
@@ -43,14 +43,14 @@ in_line_spec 𝓤 𝓛 𝓜 𝓡 wired =
     keep ! (3 ∷ 1 ∷ 5 ∷ []) $ unhide ! $ fsplit ! $ drop ! $ move ! (1 ∷ []) $ unhide ! $ fsplit ! $
     drop ! $
     -- [what the other shows; what this one shows; the tokens]
-    rewrite ! 0 (λ (z : ℕ). ‵ (page_owns z vs)) (sym at) refl $
+    rewrite ! 0 (λ (z : ℕ). ‵ (page_with z vs v.room)) (sym at) refl $
     move ! (1 ∷ 0 ∷ []) $
-    use2 𝓛 (given Line (‵ (page_owns w.table ws) ⊛ ‵ (page_owns w.table vs)))
-    (in_line 𝓛 w.table ws vs) $
+    use2 𝓛 (given (Line × (w.room ≡ v.room)) (‵ (page_with w.table ws w.room) ⊛ ‵ (page_with w.table vs v.room)))
+    (in_line_with 𝓛 w.table ws vs w.room v.room) $
     learn ! (λ e. split ! $ drop ! $ drop ! $
     enter ! _ _ _ _ _ $ alloc_all ! (λ l. pass_all ! refl ((tt, tt), ((tt, tt), tt)) $
     sets ! (of_opd ! (unit_lit !)) refl (tt, tt) $
-    knows ! Line e $
+    knows ! Line e.0 $ knows ! (w.room ≡ v.room) e.1 $ join ! $
     feq_i ! _ (vunit ∷ []) _ refl $ nothing ! $ nothing ! $ fjoin ! $ nothing ! $ fjoin ! $
     -- [nothing; the result; the fact; the tokens]
     returns ! (look_at ! 0 refl) $ free_all ! refl $ keep ! (3 ∷ 0 ∷ 1 ∷ 2 ∷ []) $

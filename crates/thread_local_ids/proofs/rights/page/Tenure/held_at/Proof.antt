@@ -4,7 +4,7 @@ use mir.Syntax.{named}
 use mir.Val.{Val, vptr, vunit}
 use base.Fml.{ftrue, flft}
 use types.Kit.{‵, raw, ◌⊛◌, given, ◌$◌, ◌∵◌, !, qed, move, keep, drop, rewrite, split, join, fsplit, fsplit3, fjoin, fjoin3}
-use types.Kit.{learn, suffices, frame, use2, feq_i}
+use types.Kit.{fpack, learn, suffices, frame, use2, feq_i}
 use types.Run.{of_opd, unit_lit, returns, enter}
 use types.ByLocal.{alloc_all, pass_all, free_all, look_at, sets}
 use denote.Exit.{yes}
@@ -17,7 +17,7 @@ use mathlib.Core.List.{IsPrefix}
 use Rattle.thread_local_base.specs.IdMoves.{IdMove, Take, noted}
 use Rattle.thread_local_ids.specs.Returns.{gives}
 use contract.Monad.{fact}
-use Rattle.thread_local_ids.specs.Rights.{tenure_of, page_owns, taken_id}
+use Rattle.thread_local_ids.specs.Rights.{tenure_of, page_owns, page_with, taken_id}
 use Rattle.thread_local_ids.proofs.MoveElements.{tenure_held}
 use Rattle.thread_local_ids.proofs.ReturnLaws.{still_held}
 use Rattle.thread_local_ids.proofs.Facts.{tells, tells_last}
@@ -55,7 +55,7 @@ held_at_spec 𝓤 𝓛 𝓜 𝓡 wired =
     ∷ raw (fact 𝓤 At) ∷ raw (fact 𝓤 Later) ∷ []) ∵
     keep ! (1 ∷ 2 ∷ 0 ∷ []) $ heard ! At (λ same. heard ! Later (λ later. split ! $ split ! $ move ! (2 ∷ []) $ split ! $
     move ! (1 ∷ []) $ split ! $ fsplit ! $ keep ! (1 ∷ 3 ∷ 4 ∷ []) $
-    rewrite ! 0 (λ (t : ℕ). ‵ (page_owns t seen)) same refl $
+    fpack ! ℕ (page_with mine.table seen) mine.room $ rewrite ! 0 (λ (t : ℕ). ‵ (page_owns t seen)) same refl $
     enter ! _ _ _ _ _ $ alloc_all ! (λ l. pass_all ! refl ((tt, tt), ((tt, (tt, tt)), tt)) $
     move ! (1 ∷ []) $ fsplit3 ! $ move ! (1 ∷ 2 ∷ 4 ∷ []) $ opens ! tt R b o (λ us.
     -- [the cell; the rights; the open borrow, in three entries; self's first part; the right]

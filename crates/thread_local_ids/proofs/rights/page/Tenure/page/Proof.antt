@@ -1,6 +1,6 @@
 -- `page` copies what the tenure's page says.
 use Rattle.thread_local_base.proofs.Names.{◌≡◌, [], ◌∷◌, refl, named, Val, vptr, ‵, raw}
-use Rattle.thread_local_base.proofs.Names.{◌⊛◌, ◌$◌, ◌∵◌, !, qed, by, keep, drop, split, fsplit, fjoin, use0}
+use Rattle.thread_local_base.proofs.Names.{◌⊛◌, ◌$◌, ◌∵◌, !, qed, by, keep, drop, split, fsplit, fjoin, fpick, use0}
 use Rattle.thread_local_base.proofs.Names.{no_more, and_then, returns, enter, alloc_all, pass_all, free_all, look_at}
 use Rattle.thread_local_base.proofs.Names.{get, sets, agg, yes, RattleType, owns, types_at}
 use Rattle.thread_local_base.proofs.Names.{plain, nothing, RefOf, shr_vals, shr_Tells, Stays}
@@ -23,16 +23,16 @@ page_spec 𝓤 𝓛 𝓜 𝓡 wired =
     (code.unfolded 𝓤 𝓛.H 𝓜 𝓡 wired)
     (λ κs. (shr_vals, tt)) (λ κs. (shr_Tells (named 0) κs.0 S, tt)) (λ κs qs bounds a gh are.
     let p : Val = vptr a.0.ref_ptr.0 a.0.ref_ptr.1 in let w = a.0.now in
-    let r : Page.the_row.Denot = record { marker = record {}; table = w.table; moves = noted w.before Take } in
     let Told : Type 0 = (w.table ≡ w.table) × (noted w.before Take ≡ noted w.before Take) in
     let y : (walk_of 𝓛 En hs c).Ghost = ((κs, qs, bounds, a, (p ∷ [], tt)), gh) in
     qed 𝓛 ((raw (alive 𝓛 En.signature κs qs) ⊛ ‵ (owns (types_at En.signature.params κs) a y.0.4))
     ∷ raw ((c κs a).requires gh) ∷ []) ∵
     split ! $ keep ! (1 ∷ 0 ∷ []) $
-    fsplit ! $ fsplit ! $ keep ! (1 ∷ 3 ∷ []) $ unhide ! $ fsplit ! $ drop ! $
+    fsplit ! $ fsplit ! $ keep ! (1 ∷ 3 ∷ []) $ unhide ! $ fsplit ! $ drop ! $ fpick ! (λ room.
+    let r : Page.the_row.Denot = record { marker = record {}; table = w.table; moves = noted w.before Take; room = room } in
     use0 𝓛 (‵ ((Mark (Page.the_type).name).own_val (tt, tt) (token ∷ []))) (made (Page.the_type).name 𝓛) $ fjoin ! $
     enter ! _ _ _ _ _ $ alloc_all ! (λ l. pass_all ! refl ((tt, tt), tt) $
     sets ! (agg ! (no_more !)) refl (tt, tt) $ sets ! (agg ! (and_then ! (get ! refl) (no_more !))) refl (tt, (tt, tt)) $
     knows ! Told (refl, refl) $ nothing ! $ nothing ! $ fjoin ! $
     returns ! (look_at ! 0 refl) $ free_all ! refl $ keep ! (3 ∷ 0 ∷ 2 ∷ 1 ∷ []) $
-    by ! (leaves 𝓛 En hs c y token r (tt, tt) (tt, tt))))
+    by ! (leaves 𝓛 En hs c y token r (tt, tt) (tt, tt)))))

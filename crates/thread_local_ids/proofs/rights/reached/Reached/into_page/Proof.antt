@@ -1,6 +1,6 @@
 -- `into_page` hands out the page that shows what was reached.
 use Rattle.thread_local_base.proofs.Names.{◌≡◌, ℕ, ◌≤◌, [], ◌∷◌, length, refl, sym, named, Val, vptr, ‵, raw, some, given, pick, learn}
-use Rattle.thread_local_base.proofs.Names.{◌⊛◌, ◌$◌, ◌∵◌, !, qed, by, move, keep, drop, split, join, fsplit, fjoin, use0, use2, rewrite}
+use Rattle.thread_local_base.proofs.Names.{◌⊛◌, ◌$◌, ◌∵◌, !, qed, by, move, keep, drop, split, join, fsplit, fjoin, fpick, fpack, use0, use2, rewrite}
 use Rattle.thread_local_base.proofs.Names.{no_more, and_then, returns, enter, alloc_all, pass_all, free_all, look_at}
 use Rattle.thread_local_base.proofs.Names.{get, sets, agg, yes, RattleType, owns, types_at, fact, heard, List}
 use Rattle.thread_local_base.proofs.Names.{plain, nothing, RefOf, shr_vals, shr_Tells, Stays}
@@ -8,7 +8,7 @@ use Rattle.thread_local_base.proofs.Names.{stay_dropped, walk_of, Goes-dropped, 
 use Rattle.thread_local_base.proofs.Walking.{knows}
 use mathlib.Core.List.{IsPrefix}
 use Rattle.thread_local_base.specs.IdMoves.{IdMove, held_after}
-use Rattle.thread_local_ids.specs.Rights.{page_owns}
+use Rattle.thread_local_ids.specs.Rights.{page_owns, page_with}
 use Rattle.thread_local_ids.proofs.Markers.{token, told, Mark, made}
 use Rattle.thread_local_ids.proofs.ReachedElements.{reached_page}
 use Rattle.thread_local_ids.specs.contracts.rights.page.Page as Page
@@ -35,10 +35,10 @@ into_page_spec 𝓤 𝓛 𝓜 𝓡 wired =
     keep ! (1 ∷ 0 ∷ []) $ heard ! At (λ at. split ! $ move ! (1 ∷ []) $ fsplit ! $ fsplit ! $
     -- [the token; what was reached; the other argument; the lifetimes]
     move ! (2 ∷ []) $ fsplit ! $ fsplit ! $ move ! (1 ∷ []) $ unhide ! $ fsplit ! $ drop ! $
-    rewrite ! 0 (λ (t : ℕ). ‵ (page_owns t w.moves)) (sym at) refl $ keep ! (4 ∷ 0 ∷ 5 ∷ []) $
+    fpack ! ℕ (page_with w.table w.moves) w.room $ rewrite ! 0 (λ (t : ℕ). ‵ (page_owns t w.moves)) (sym at) refl $ keep ! (4 ∷ 0 ∷ 5 ∷ []) $
     use2 𝓛 (some (λ (moves : List IdMove). given ((mine.ids ≤ length (held_after moves)) × IsPrefix w.moves moves) (‵ (page_owns mine.table moves))))
-    (reached_page 𝓛 mine.table mine.ids w.moves) $ pick ! (λ moves. learn ! (λ so.
-    let r : S.Denot = record { marker = record {}; table = mine.table; moves = moves } in
+    (reached_page 𝓛 mine.table mine.ids w.moves) $ pick ! (λ moves. learn ! (λ so. fpick ! (λ room.
+    let r : S.Denot = record { marker = record {}; table = mine.table; moves = moves; room = room } in
     use0 𝓛 (‵ ((Mark (Page.the_type).name).own_val (tt, tt) (token ∷ []))) (made (Page.the_type).name 𝓛) $ fjoin ! $
     enter ! _ _ _ _ _ $ alloc_all ! (λ l. pass_all ! refl ((tt, (tt, tt)), ((tt, tt), tt)) $
     sets ! (agg ! (no_more !)) refl (tt, tt) $ sets ! (agg ! (and_then ! (get ! refl) (no_more !))) refl (tt, (tt, tt)) $
@@ -46,4 +46,4 @@ into_page_spec 𝓤 𝓛 𝓜 𝓡 wired =
     knows ! (mine.table ≡ mine.table) refl $ join ! $
     nothing ! $ nothing ! $ fjoin ! $ nothing ! $ fjoin ! $
     returns ! (look_at ! 0 refl) $ free_all ! refl $ keep ! (3 ∷ 0 ∷ 2 ∷ 1 ∷ []) $
-    by ! (leaves 𝓛 En hs c y token r (tt, (tt, tt)) (tt, (tt, tt))))))))
+    by ! (leaves 𝓛 En hs c y token r (tt, (tt, tt)) (tt, (tt, tt)))))))))

@@ -1,7 +1,7 @@
 -- `extends` compares the history that the book has with a page.
 use Rattle.thread_local_base.proofs.Names.{◌≡◌, ℕ, [], ◌∷◌, refl, a_type, named, vunit, ftrue}
 use Rattle.thread_local_base.proofs.Names.{inst_fn, ‵, raw, ◌⊛◌, ◌$◌, ◌∵◌, !, qed, move, keep}
-use Rattle.thread_local_base.proofs.Names.{drop, given, learn, split, fsplit, fsplit3, fjoin, rewrite, feq_i, use2}
+use Rattle.thread_local_base.proofs.Names.{drop, given, learn, split, fsplit, fsplit3, fjoin, fpack, rewrite, feq_i, use2}
 use Rattle.thread_local_base.proofs.Names.{of_opd, unit_lit, returns, enter, alloc_all, pass_all, free_all, look_at}
 use Rattle.thread_local_base.proofs.Names.{sets, fact, RattleType, owns, types_at, yes, plain, RefOf}
 use Rattle.thread_local_base.proofs.Names.{nothing, heard, param, layouts, shr_vals, shr_Tells, Stays, stay_dropped, Goes-dropped}
@@ -13,7 +13,7 @@ use denote.Ref.{mut_vals, mut_Tells}
 use denote.Steps.{opens, closes}
 use denote.Triple.Walked.{stay_ref, Goes-ref, ends_at}
 use mathlib.Core.List.{IsPrefix}
-use Rattle.thread_local_ids.specs.Rights.{history_owns, page_owns}
+use Rattle.thread_local_ids.specs.Rights.{history_owns, page_owns, page_with}
 use Rattle.thread_local_ids.specs.Told.{book_owns, book_with}
 use Rattle.thread_local_ids.proofs.Facts.{tells as shows, tells_last}
 use Rattle.thread_local_ids.proofs.MoveElements.{page_is_early}
@@ -48,7 +48,7 @@ extends_spec 𝓤 𝓛 𝓜 𝓡 wired T L =
     keep ! (1 ∷ 2 ∷ 4 ∷ 5 ∷ []) $ unhide ! $ fsplit ! $ drop ! $
     -- [the page; self; its token; the other tokens]
     enter ! _ _ _ _ _ $ alloc_all ! (λ l. pass_all ! refl ((tt, tt), ((tt, tt), tt)) $
-    rewrite ! 0 (λ (k : ℕ). ‵ (page_owns k w.moves)) of refl $
+    fpack ! ℕ (page_with w.table w.moves) w.room $ rewrite ! 0 (λ (k : ℕ). ‵ (page_owns k w.moves)) of refl $
     move ! (1 ∷ []) $ fsplit3 ! $ move ! (1 ∷ 2 ∷ 4 ∷ []) $ opens ! tt A b o (λ us.
     move ! (1 ∷ []) $ fsplit ! $ move ! (1 ∷ []) $
     rewrite ! 0 (λ (t : Bool). ‵ (book_with R s.sharing s.contents s.table t s.moves)) whole refl $ fsplit ! $
