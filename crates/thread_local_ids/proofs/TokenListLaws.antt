@@ -1,17 +1,17 @@
 -- How a list of tokens that exists in proofs alone is had twice, and agrees with a slot. Assumes
 -- `Logic`.
-use Rattle.std.proofs.Common.{◌≡◌, ℕ, List, [], ◌∷◌, refl, sym, ap, Option, None, Some, IsSome, ⊎_elim}
+use Rattle.std.proofs.Common.{◌≡◌, ℕ, ◌-◌, ◌^◌, ◌<◌, List, [], ◌∷◌, refl, sym, ap, subst, Option, None, Some, IsSome, ⊎_elim}
 use Rattle.std.proofs.lemmas.Bool.{cases_eq}
 use Rattle.std.proofs.lemmas.List.Elements.{All-nil, All-cons}
 use Rattle.std.specs.Prelude.{All}
 use seplogic.Ra.Ura.{Ura}
 use mir.Val.{vstruct, vnil}
 use base.Logic.{SProp, guard, via, guard_i, guard_e, snd∗}
-use base.Fml.{Fml, ftrue}
+use base.Fml.{Lft, Fml, ftrue, fsep}
 use base.Before.{before}
 use base.Shift.{Keyless}
 use types.Logic.{Logic, sem}
-use types.Kit.{‵, ◌⊛◌, given, learn, check, frame, move, rewrite, split, fsplit, fjoin, use0, use1, use2, qed, done}
+use types.Kit.{‵, ◌⊛◌, given, learn, check, frame, move, rewrite, split, fsplit, fjoin, use0, use1, use2, qed, done, fpick, fpack, drop}
 use types.Kit.{◌$◌, ◌∵◌, ! }
 use denote.Steps.{nothing}
 use denote.RattleType.{RattleType}
@@ -22,7 +22,8 @@ use denote.Struct.Owning.{shape}
 use Rattle.thread_local_ids.specs.Told.{tells, told_or_untold}
 use Rattle.thread_local_ids.specs.Views.{TokenView}
 use Rattle.thread_local_ids.specs.TokenLists.{AllOf, tell_each}
-use Rattle.thread_local_ids.specs.contracts.tokens.token_list.TokenList as TokenList
+use Rattle.thread_local_ids.specs.contracts.tokens.told_list.Told as Told
+use Rattle.thread_local_ids.specs.contracts.tokens.told_list.Told.TheInside as Inside
 use Rattle.thread_local_ids.proofs.Made.{token_val}
 use Rattle.thread_local_ids.proofs.ToldElements.{tells_dup, telling_alike, tells_keyless}
 use Rattle.thread_local_base.proofs.Signs.{signs}
@@ -32,6 +33,10 @@ unnamed named = cc
 
 same_name : (δ γ : ℕ) → ◌≡◌ {A = Option ℕ} (Some δ) (Some γ) → δ ≡ γ
 same_name δ γ e = ap (λ (o : Option ℕ). elim o [ None ↦ δ | Some z ↦ z ]) e
+
+-- the ids of these tokens are ones that a table may give out
+abbrev AreInRange : {V : Type 0} → List (TokenView V) → Type 0
+AreInRange tokens = All (λ p. p.id < 2 ^ 63 - 1) tokens
 
 module _ {M : Type 1} {𝓤 : Ura M} (𝓛 : Logic 𝓤) (R : RattleType) where
   open signs 𝓛 use {⟦◌⟧, ◌⊢◌, ◌∗◌}
@@ -109,12 +114,26 @@ module _ {M : Type 1} {𝓤 : Ura M} (𝓛 : Logic 𝓤) (R : RattleType) where
       via 𝓤 (guard 𝓤 All' Both) (all_agree (Some γ) refl id v tokens)
       (guard_e 𝓤 All' Both (λ all. guard_i 𝓤 (AllOf (Some γ) (λ p. p.id ≡ id → v ≡ Some p.value) tokens) Both (λ _. all)))
 
-  pub list_made : (t : (TokenList.the_row R).Denot)
-      → ⟦ tell_each R t.tokens ⟧ ⊢ ⟦ (TokenList.the_row R).own_val t (token_val ∷ []) ⟧
-  list_made t = let F = (Struct (shape (TokenList.the_type R))).own_val (tt, tt) (token_val ∷ []) in
-      qed 𝓛 (‵ (tell_each R t.tokens) ∷ []) ∵
+  -- a `&` to a list holds what its tokens tell, and their ids are in range
+  pub told_had : (ts : Tokens) (b o : ℕ) (κ : Lft)
+      → ⟦ (Told.the_row R).shr_at ts b o κ ⟧ ⊢ guard 𝓤 (AreInRange ts) ⟦ tell_each R ts ⟧
+  told_had ts b o κ = qed 𝓛 (‵ ((Told.the_row R).shr_at ts b o κ) ∷ []) ∵ fpick ! (λ x. fsplit ! $ move ! (1 ∷ []) $ drop ! $
+      fsplit ! $ drop ! $ rewrite ! 0 (λ (us : Tokens). ‵ (tell_each R us)) x.1.0 refl $
+      check ! (subst AreInRange x.1.0 x.1.1) $ done !)
+
+  pub told_shown : (ts : Tokens) (b o : ℕ) (κ : Lft) → ⟦ (Told.the_row R).shr_at ts b o κ ⟧ ⊢ ⟦ tell_each R ts ⟧
+  told_shown ts b o κ = qed 𝓛 (‵ ((Told.the_row R).shr_at ts b o κ) ∷ []) ∵
+      use1 𝓛 (given (AreInRange ts) (‵ (tell_each R ts))) (told_had ts b o κ) $ learn ! (λ _. done !)
+
+  pub told_made : (ts : Tokens) → AreInRange ts → ⟦ tell_each R ts ⟧ ⊢ ⟦ (Told.the_row R).own_val ts (token_val ∷ []) ⟧
+  told_made ts low = let F = (Struct (shape (Inside.the_type R))).own_val (tt, tt) (token_val ∷ []) in
+      let i : (Inside.the_row R).Denot = record { marker = record {}; tokens = ts } in
+      qed 𝓛 (‵ (tell_each R ts) ∷ []) ∵
       use0 𝓛 (‵ F) (makes_shadow 𝓛 F (λ vss. (tt, ((λ uss. (tt, tt)), tt)))
       ((vstruct vnil ∷ [], tt), (refl, ((tt, (refl, tt)), tt)))) $
+      fjoin ! $ nothing ! $ move ! (1 ∷ []) $ fjoin ! $
+      fpack ! ((a : (Inside.the_row R).Denot) × ((a.tokens ≡ ts) × AreInRange a.tokens))
+      (λ x. fsep ((Inside.the_row R).own_val x.0 (token_val ∷ [])) ftrue) (i, (refl, low)) $
       done !
 
 pub each_keyless : (R : RattleType) (tokens : List (TokenView R.Denot)) → Keyless (tell_each R tokens)

@@ -20,6 +20,5 @@ pub use rights::right::{Right, SlotRights};
 pub use shared_ids::SharedIds;
 pub use tokens::book::Book;
 pub use tokens::token::Token;
-pub use tokens::token_list::TokenList;
 pub use tokens::told_list::Told;
 pub use tokens::witness::Witness;

@@ -2,6 +2,5 @@
 
 pub mod book;
 pub mod token;
-pub mod token_list;
 pub mod told_list;
 pub mod witness;

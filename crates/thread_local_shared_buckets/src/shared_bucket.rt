@@ -11,7 +11,7 @@ use std::marker::{Brand, Move, Owns, PhantomData};
 use std::sync::atomic::Ordering::SeqCst;
 use std::sync::atomic::raw::ptr;
 use thread_local_buckets::Chunk;
-use thread_local_ids::{Reached, TokenList, Witness};
+use thread_local_ids::{Reached, Told, Witness};
 
 /// A bucket that threads share: its pointer, which an owner sees as a `BucketPointer`. A contract
 /// sees its table, the sharing, its number, whether it is reserved, and whether its table grew by
@@ -38,10 +38,10 @@ impl<T> SharedBucket<T> {
     /// of `told`, which proofs alone use.
     ///
     /// It is one atomic load. It never waits and takes no memory.
-    pub fn load(&self, told: &TokenList<T>) -> Option<Row<'_, T>>
+    pub fn load(&self, told: &Told<T>) -> Option<Row<'_, T>>
         ensures of { IfSome result (λ row. row.of ≡ self.now) }
         ensures reserved { self.now.reserved ≡ true → IsSome result }
-        ensures told { result ≡ None → NoneIn self.now.sharing self.now.bucket told.now.tokens }
+        ensures told { result ≡ None → NoneIn self.now.sharing self.now.bucket told.now }
     {
         let _ = told;
         let at = unsafe { ptr::load::<u64, Brand>(&raw const self.at as *const *mut u64, SeqCst) };
@@ -58,11 +58,11 @@ impl<T> SharedBucket<T> {
     /// How many ids of the table were held at once for sure, since the bucket stands, or `None`
     /// where it is missing. A bucket with the slot of a token of `told`, which proofs alone use,
     /// isn't missing. It is one atomic load.
-    pub fn reached(&self, told: &TokenList<T>) -> Option<Reached>
+    pub fn reached(&self, told: &Told<T>) -> Option<Reached>
         ensures shown { IfSome result (λ reached.
             (reached.table ≡ self.now.table) × (reached.ids ≡ shown_by self.now)) }
         ensures reserved { self.now.reserved ≡ true → IsSome result }
-        ensures told { result ≡ None → NoneIn self.now.sharing self.now.bucket told.now.tokens }
+        ensures told { result ≡ None → NoneIn self.now.sharing self.now.bucket told.now }
     {
         let _ = told;
         let block = unsafe {

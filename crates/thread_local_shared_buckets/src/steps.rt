@@ -61,7 +61,7 @@ impl<'a, T> Walk<'a, T> {
         if let None = self.row {
             let walk = &*self;
             let pointers = &walk.buckets.parts().pointers.pointers.pointers;
-            self.row = pointers[walk.raw.bucket].load(walk.told.list());
+            self.row = pointers[walk.raw.bucket].load(&walk.told);
         }
         let walk = &*self;
         // The chunk and the flag of the own slot, if it lies in the bucket.
@@ -75,7 +75,7 @@ impl<'a, T> Walk<'a, T> {
         }
         if let Some(row) = &walk.row {
             let size = walk.raw.bucket_size;
-            let told = walk.told.list();
+            let told = &walk.told;
             for chunk in walk.chunks..(size + 63) / 64 {
                 let seen = row.look(chunk, flag_word_at::<T>(size, chunk), told);
                 let set = seen.flags();

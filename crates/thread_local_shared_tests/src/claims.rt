@@ -7,7 +7,7 @@ use std::test::Fail;
 use std::thread;
 use thread_local_base::{Judge, Thread};
 use thread_local_buckets::Buckets;
-use thread_local_ids::TokenList;
+use thread_local_ids::Told;
 use thread_local_shared_buckets::{Claim, Shared};
 
 impl<T: Drop> Kept<'_, T> {
@@ -54,7 +54,7 @@ fn threads_share_a_claim(rt: HostRuntime) -> Result<(), Fail> {
 
 /// Whether the buckets 0, 2 and 3 stand.
 fn stand(shared: &Shared<u32>) -> [bool; 3] {
-    let told = TokenList::new();
+    let told = Told::new();
     [
         shared.bucket(0).load(&told).is_some(),
         shared.bucket(2).load(&told).is_some(),

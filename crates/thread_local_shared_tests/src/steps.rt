@@ -10,7 +10,7 @@ use std::sync::Wait;
 use thread_local_base::{LocalError, Thread, bucket_size};
 use thread_local_buckets::{Buckets, flag_word_at};
 use thread_local_ids::{
-    Book, HeldId, Page, Reached, Right, SharedIds, SlotRights, Taken, Tenure, TokenList,
+    Book, HeldId, Page, Reached, Right, SharedIds, SlotRights, Taken, Tenure, Told,
 };
 use thread_local_shared_buckets::{Claim, Shared};
 
@@ -203,7 +203,7 @@ pub fn look(shared: &Shared<u32>, id: usize) -> Option<u32>
     requires { id < 2 ^ 63 - 1 }
 {
     let thread = Thread::new(id);
-    let told = TokenList::new();
+    let told = Told::new();
     let row = shared.bucket(thread.bucket).load(&told)?;
     let chunk = thread.index / 64;
     let flag_word = flag_word_at::<u32>(bucket_size(thread.bucket), chunk);

@@ -1,31 +1,40 @@
 //! A list of tokens, for a walk that gives the values of all of them.
-ghost use Rattle.std.specs.Prelude.{◌≡◌, ◌-◌, ◌^◌, ◌<◌, [], ◌∷◌, All};
+ghost use Rattle.std.specs.Prelude.{◌≡◌, ◌-◌, ◌^◌, ◌<◌, List, [], ◌∷◌, All};
+ghost use base.Stored.{coded_list};
+ghost use Rattle.thread_local_ids.specs.Views.{TokenView, token_view_coded};
+ghost use Rattle.thread_local_ids.specs.TokenLists.{AllOf};
 
 use crate::tokens::token::Token;
-use crate::tokens::token_list::TokenList;
-use std::marker::Model;
+use crate::tokens::witness::Witness;
+use std::marker::{Model, PhantomData};
 
 /// Tokens whose values a walk is to give for sure (`ThreadLocal::iter_told`), or whose slots a count
 /// is to have (`ThreadLocal::slots_and_peak`). The list borrows none of them, and contracts alone see
 /// what is in it: it has no bytes, and no call does anything at run time. It may be sent and shared
 /// whatever the type is. Rust's crate has no such type.
-#[derive(Drop)]
 pub struct Told<T> {
-    list: TokenList<T>,
+    pub marker: PhantomData<T>,
+    pub ghost tokens: { List (TokenView T) } by { coded_list (token_view_coded T.code) },
 }
 
 impl<T> Model for Told<T> {
     ghost use Rattle.std.specs.Prelude.{◌≡◌, ◌-◌, ◌^◌, ◌<◌, All, List};
     ghost use base.Stored.{coded_list};
     ghost use Rattle.thread_local_ids.specs.Views.{TokenView, token_view_coded};
+    ghost use Rattle.thread_local_ids.specs.TokenLists.{tell_each};
+    ghost use denote.Sharing.{said};
 
     ghost Value = { List (TokenView T) };
 
     ghost coded = { coded_list (token_view_coded T.code) };
 
-    ghost view = { λ t. t.list.tokens };
+    ghost view = { λ t. t.tokens };
 
-    ghost invariant = { λ t. All (λ p. p.id < 2 ^ 63 - 1) t.list.tokens };
+    ghost invariant = { λ t. All (λ p. p.id < 2 ^ 63 - 1) t.tokens };
+
+    ghost also_owns = { λ t. tell_each T.row t.tokens };
+
+    ghost also_shares = { λ t _ κ. said (tell_each T.row t.tokens) κ };
 }
 
 impl<T> Told<T> {
@@ -35,7 +44,7 @@ impl<T> Told<T> {
         ensures { result ≡ [] }
     {
         Told {
-            list: TokenList::new(),
+            marker: PhantomData,
         }
     }
 
@@ -45,7 +54,7 @@ impl<T> Told<T> {
         ensures { result ≡ self.now }
     {
         Told {
-            list: self.list.again(),
+            marker: PhantomData,
         }
     }
 
@@ -56,24 +65,43 @@ impl<T> Told<T> {
         ensures { result ≡ token.now ∷ self.now }
     {
         let _ = token.id();
+        self.and_of(token.witness())
+    }
+
+    /// The list with one more token, of what a witness shows.
+    #[inline]
+    fn and_of(&self, witness: &Witness<T>) -> Told<T>
+        requires in_range { witness.now.id < 2 ^ 63 - 1 }
+        ensures { result
+            ≡ record {
+              sharing = witness.now.sharing;
+              id = witness.now.id;
+              value = witness.now.value;
+            }
+            ∷ self.now }
+    {
+        let _ = witness;
         Told {
-            list: self.list.and_of(token.witness()),
+            marker: PhantomData,
         }
     }
 
-    /// The part of the list that single steps of a walk take.
+    /// Shows that each token of a witness's id and sharing has its value.
     #[inline]
-    pub fn list(&self) -> &TokenList<T>
-        ensures { result.now.tokens ≡ self.now }
-    {
-        &self.list
-    }
+    pub fn agrees(&self, witness: &Witness<T>)
+        ensures { AllOf
+            witness.now.sharing
+            (λ p. p.id ≡ witness.now.id → p.value ≡ witness.now.value)
+            self.now }
+    {}
+}
 
-    /// Shows that the id of each token is one that a table may give out.
-    #[inline]
-    pub fn in_range(&self)
-        ensures { All (λ p. p.id < 2 ^ 63 - 1) self.now }
-    {
-        let _list = &self.list;
+impl<T> Drop for Told<T> {
+    fn drop(self) {
+        let Self { marker: _ } = self;
     }
 }
+
+unsafe impl<T> Send for Told<T> {}
+
+unsafe impl<T> Sync for Told<T> {}

@@ -6,7 +6,7 @@ use crate::steps::{has_bit, share, take_back};
 use std::cell::{Cell, RefCell};
 use thread_local_base::{Judge, bucket_size, judge_sync};
 use thread_local_buckets::{Buckets, flag_word_at};
-use thread_local_ids::{Right, Token, TokenList, Told};
+use thread_local_ids::{Right, Token, Told};
 use thread_local_shared_buckets::{Row, Shared, SharedBucket};
 
 fn crosses<X: Send + Sync>(_there: &X) {}
@@ -60,7 +60,7 @@ fn sync<T: Send + Sync>(buckets: Buckets<T>, own: &Right) -> Shared<T>
 }
 
 fn cell_row(shared: &Shared<Cell<u64>>) -> Option<Row<'_, Cell<u64>>> {
-    shared.bucket(3).load(&TokenList::new())
+    shared.bucket(3).load(&Told::new())
 }
 
 fn slots(shared: &Shared<RefCell<String>>) -> usize
@@ -98,7 +98,7 @@ fn published<'a>(row: &Row<'a, String>, bucket: usize, index: usize) -> Option<&
     judge_sync::<String>();
     let chunk = index / 64;
     let flag_word = flag_word_at::<String>(bucket_size(bucket), chunk);
-    let seen = row.look(chunk, flag_word, &TokenList::new());
+    let seen = row.look(chunk, flag_word, &Told::new());
     let bit = index % 64;
     if !has_bit(seen.flags(), bit) {
         return None;

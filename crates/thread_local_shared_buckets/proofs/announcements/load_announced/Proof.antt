@@ -23,7 +23,9 @@ use Rattle.thread_local_base.specs.Bits.{is_set}
 use Rattle.thread_local_base.specs.Fact.{fact as said_fact}
 use Rattle.thread_local_ids.specs.Views.{TokenView}
 use Rattle.thread_local_ids.specs.TokenLists.{tell_each}
-use Rattle.thread_local_ids.specs.contracts.tokens.token_list.TokenList as TokenList
+use Rattle.thread_local_ids.specs.contracts.tokens.told_list.Told as Told
+use Rattle.thread_local_ids.proofs.TokenListLaws.{told_shown}
+use types.Kit.{use1}
 use Rattle.thread_local_shared_buckets.specs.Announcing.{Announcing, BeginsWithFirst}
 use Rattle.thread_local_shared_buckets.specs.Shared.{BucketView}
 use Rattle.thread_local_shared_buckets.specs.TableView.{TableView, table_view_of, AreOfTable}
@@ -50,7 +52,7 @@ load_announced_spec 𝓤 𝓛 𝓜 𝓡 wired T L =
     let Row : RattleType = words.the_row in
     let self = RefOf (0 ∷ []) tt (plain (λ _. Row)) (λ _. tt) in
     let all = RefOf (1 ∷ []) tt (ArrayOf (plain (λ _. S)) (λ _. tt) 63) (λ _. tt) in
-    let tolds = RefOf (2 ∷ []) tt (plain (λ _. TokenList.the_row R)) (λ _. tt) in
+    let tolds = RefOf (2 ∷ []) tt (plain (λ _. Told.the_row R)) (λ _. tt) in
     let hs : Stays En.signature.params En.kept = (stay_dropped self yes, (stay_dropped all yes, (stay_dropped tolds yes, tt))) in
     proved 𝓛 En hs c 𝓜 𝓡 (
       Goes-dropped 𝓛 4 self yes (λ κs x f. refl),
@@ -58,13 +60,13 @@ load_announced_spec 𝓤 𝓛 𝓜 𝓡 wired T L =
     )
     (#self inst) fn (code.unfolded 𝓤 H 𝓜 𝓡 wired (T, tt))
     (λ κs. (shr_vals, (shr_vals, (shr_vals, tt))))
-    (λ κs. (shr_Tells (named 0) κs.0 Row, (shr_Tells (named 1) κs.1.0 Line, (shr_Tells (named 2) κs.1.1.0 (TokenList.the_row R), tt))))
+    (λ κs. (shr_Tells (named 0) κs.0 Row, (shr_Tells (named 1) κs.1.0 Line, (shr_Tells (named 2) κs.1.1.0 (Told.the_row R), tt))))
     (λ κs qs bounds a gh are.
     let b : ℕ = a.0.ref_ptr.0 in
     let o : ℕ = a.0.ref_ptr.1 in
     let m : Announcing = a.0.now in
     let ds : List BucketView = a.1.0.now in
-    let ts : List (TokenView R.Denot) = a.1.1.0.now.tokens in
+    let ts : List (TokenView R.Denot) = a.1.1.0.now in
     let κ : Lft = κs.0 in
     let q : Share = qs.0 in
     let β : Lft = κs.1.0 in
@@ -82,7 +84,8 @@ load_announced_spec 𝓤 𝓛 𝓜 𝓡 wired T L =
     keep ! (3 ∷ 4 ∷ 0 ∷ []) $ heard ! Named (λ are_named. heard ! Begins (λ begins.
     let v : TableView = table_view_of ds are_named.reserved in
     split ! $ split ! $ move ! (2 ∷ []) $ fsplit3 ! $ fsplit ! $ move ! (2 ∷ []) $ fsplit ! $ move ! (4 ∷ []) $ fsplit ! $ fsplit ! $
-    keep ! (1 ∷ 4 ∷ 6 ∷ 7 ∷ 8 ∷ []) $ unhide ! $ fsplit ! $ drop ! $ move ! (1 ∷ []) $ unhide ! $ fsplit ! $ feq_l ! (λ long.
+    keep ! (1 ∷ 4 ∷ 6 ∷ 7 ∷ 8 ∷ []) $ unhide ! $
+    use1 𝓛 (‵ (tell_each R ts)) (told_shown 𝓛 R ts a.1.1.0.ref_ptr.0 a.1.1.0.ref_ptr.1 κs.1.1.0) $ move ! (1 ∷ []) $ unhide ! $ fsplit ! $ feq_l ! (λ long.
     -- [what `&`s to the buckets hold; what the tokens tell; what the `&` to the word holds; its token; the other tokens]
     enter ! 𝓣.C 𝓣.Λ fn (vptr b o ∷ pa ∷ pt ∷ []) Post $ alloc_all ! (λ l.
     pass_all ! refl ((tt, tt), ((tt, tt), ((tt, tt), tt))) $ let Ev = env fn.locals l in

@@ -1,9 +1,8 @@
-use Rattle.std.proofs.Common.{◌≡◌, ◌∙◌, ◌<◌, ◌*◌, ◌%◌, ◌^◌, ℕ, true, false, List, Option, Some, refl, ap, sym, subst, arith, bit_or, ⊎_elim}
+use Rattle.std.proofs.Common.{◌≡◌, ◌∙◌, ◌<◌, ◌*◌, ◌%◌, ◌^◌, ℕ, true, false, Option, Some, refl, ap, sym, subst, arith, bit_or, ⊎_elim}
 use Rattle.std.proofs.lemmas.Bool.{cases_eq}
 use Rattle.thread_local_base.specs.Bits.{is_set}
 use Rattle.thread_local_base.proofs.Word.{set_bit}
 use Rattle.thread_local_ids.specs.TokenLists.{NoneIn}
-use Rattle.thread_local_ids.specs.Views.{TokenView}
 use Rattle.thread_local_shared_buckets.specs.TableView.{TableView}
 use Rattle.thread_local_shared_buckets.specs.declared.steps.Own.{Own}
 use Rattle.thread_local_shared_buckets.proofs.BitLaws.{none_set}
@@ -44,8 +43,6 @@ invariant_of-result g c =
           (has_announced word.result word.ensures.first word.ensures.none_past))
     ])
     c.take_first.ensures.first c.take_first.ensures.rest
-    (subst (λ (ts : List (TokenView _)). (bucket : ℕ) → bucket < 63 → is_set word.result bucket ≡ false
-    → NoneIn c.args.buckets.now.sharing bucket ts) c.list.ensures
     (subst (λ (sharing : Option ℕ). (bucket : ℕ) → bucket < 63 → is_set word.result bucket ≡ false
-    → NoneIn sharing bucket c.list.result.now.tokens)
-    (ap (λ (s : TableView). s.sharing) (c.behind-buckets.view_is ∙ c.parts.ensures)) word.ensures.told)))
+    → NoneIn sharing bucket c.args.told)
+    (ap (λ (s : TableView). s.sharing) (c.behind-buckets.view_is ∙ c.parts.ensures)) word.ensures.told))

@@ -153,7 +153,7 @@ returns-then-not-reach-clause-goes g c =
     let far =
     subst (λ (b : Bool). MatchBool b (0 < c.reach.new.self.rest) (63 ≤ c.reach.new.self.raw.bucket)) c.if-not-reach.true reached.by in
     subst (λ (view : WalkView _). Goes view None (seen c.reach.new.self shown)) c.self.view_is
-    (ended from.walk c.reach.new.self shown reached.comes reached.walk far c.in_range.ensures)
+    (ended from.walk c.reach.new.self shown reached.comes reached.walk far (subst (λ (ts : List (TokenView _)). All (λ p. p.id < 2 ^ 63 - 1) ts) c.told.view_is c.told.invariant))
 
 pub returns-then-not-reach-clause-told : goal.returns-then-not-reach-clause-told
 returns-then-not-reach-clause-told g c = tt
@@ -304,7 +304,7 @@ returns-clause-goes g c =
     subst (λ (view : WalkView _). Goes view (Some found.1) (seen to.walk (is_some to.shown))) c.self.view_is
     (given from.walk met.walk to.walk found (is_some from.shown) (is_some to.shown) (ap is_some (gives.shown ∙ come.shown))
     c.self.invariant come.comes gives.buckets gives.passed.gives gives.passed.told gives.told gives.stops
-    (subst (Agrees found) c.list.ensures c.agrees.ensures))
+    c.agrees.ensures)
 
 pub returns-clause-told : goal.returns-clause-told
 returns-clause-told g c =

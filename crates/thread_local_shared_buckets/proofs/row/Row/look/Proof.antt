@@ -31,7 +31,8 @@ use Rattle.thread_local_base.specs.Bits.{is_set, is_set_in}
 use Rattle.thread_local_base.specs.Place.{id_at}
 use Rattle.thread_local_ids.specs.Views.{TokenView}
 use Rattle.thread_local_ids.specs.TokenLists.{AllOf, tell_each}
-use Rattle.thread_local_ids.specs.contracts.tokens.token_list.TokenList as TokenList
+use Rattle.thread_local_ids.specs.contracts.tokens.told_list.Told as Told
+use Rattle.thread_local_ids.proofs.TokenListLaws.{told_shown}
 use Rattle.thread_local_buckets.specs.Slots.{stride, each, value_words, flag_word_at, word_offset, value_offset}
 use Rattle.thread_local_buckets.proofs.Flags.{uncapped, value_near}
 use Rattle.thread_local_buckets.proofs.Slots.{IsWordNear, word_is_near}
@@ -56,7 +57,7 @@ look_spec {M} 𝓤 𝓛 𝓜 𝓡 wired T L =
     let fn = inst_fn inst code.function in let row = plain (λ κs. Row.the_row (named_lft 4 1 tt κs) R) in
     let self = RefOf (0 ∷ []) tt row (λ _. tt) in let number = plain (λ _. usize) in
     let goes = Goes-dropped 𝓛 4 number yes (λ κs x f. refl) in
-    let tolds = RefOf (2 ∷ []) tt (plain (λ _. TokenList.the_row R)) (λ _. tt) in
+    let tolds = RefOf (2 ∷ []) tt (plain (λ _. Told.the_row R)) (λ _. tt) in
     let hs : Stays En.signature.params En.kept =
     (stay_dropped self yes, (stay_dropped number yes, (stay_dropped number yes, (stay_dropped tolds yes, tt)))) in
     proved 𝓛 En hs c 𝓜 𝓡
@@ -65,7 +66,7 @@ look_spec {M} 𝓤 𝓛 𝓜 𝓡 wired T L =
     (λ κs. (shr_vals, (uint_vals w64, (uint_vals w64, (shr_vals, tt)))))
     (λ κs. (
       shr_Tells (named 0) κs.0 (Row.the_row (named_lft 4 1 tt κs) R),
-      (uint_Tells w64, (uint_Tells w64, (shr_Tells (named 2) κs.1.1.0 (TokenList.the_row R), tt))),
+      (uint_Tells w64, (uint_Tells w64, (shr_Tells (named 2) κs.1.1.0 (Told.the_row R), tt))),
     ))
     (λ κs qs bounds a gh are.
     let ℓ = named_lft 4 1 tt κs in let D : RattleType = FieldsType ℓ R in let b : ℕ = a.0.ref_ptr.0 in
@@ -75,7 +76,7 @@ look_spec {M} 𝓤 𝓛 𝓜 𝓡 wired T L =
     let k : ℕ = a.1.1.0 in
     let many : ℕ = 2 ^ d.bucket in
     let rest : Fml = fsep (flft κs.1.1.0 qs.1.1.0) (fsep (flft κs.1.1.1.0 qs.1.1.1.0) ftrue) in
-    let ts : List (TokenView R.Denot) = a.1.1.1.0.now.tokens in
+    let ts : List (TokenView R.Denot) = a.1.1.1.0.now in
     let pt : Val = vptr a.1.1.1.0.ref_ptr.0 a.1.1.1.0.ref_ptr.1 in
     let pb : ℕ = block_of p in let w : ℕ = word_offset R many (count_of p) c₀ in let G : RattleType = Seen.the_row ℓ R in
     let Of : G.Denot → Type 0 = λ s. (◌≡◌ {A = BucketView} s.of d) × (◌≡◌ {A = List ℕ} s.names h.names) × (s.chunk ≡ c₀) in
@@ -96,7 +97,8 @@ look_spec {M} 𝓤 𝓛 𝓜 𝓡 wired T L =
     keep ! (2 ∷ 3 ∷ 4 ∷ 5 ∷ 0 ∷ []) $ heard ! (Shareable R) (λ shareable. heard ! (d.bucket < 63) (λ low. heard ! (c₀ * 64 < many) (λ near.
     heard ! (k ≡ flag_word_at R many c₀) (λ numbered. split ! $ split3 ! $ move ! (3 ∷ []) $
     fsplit3 ! $ move ! (2 ∷ []) $ fsplit3 ! $ move ! (1 ∷ []) $ fsplit ! $ move ! (4 ∷ []) $ fsplit ! $
-    keep ! (3 ∷ 1 ∷ 7 ∷ 8 ∷ 9 ∷ []) $ unhide ! $ fsplit ! $ drop ! $ move ! (1 ∷ 2 ∷ 3 ∷ 4 ∷ []) $
+    keep ! (3 ∷ 1 ∷ 7 ∷ 8 ∷ 9 ∷ []) $ unhide ! $
+    use1 𝓛 (‵ (tell_each R ts)) (told_shown 𝓛 R ts a.1.1.1.0.ref_ptr.0 a.1.1.1.0.ref_ptr.1 κs.1.1.0) $ move ! (1 ∷ 2 ∷ 3 ∷ 4 ∷ []) $
     -- [the `&`; κ's token; β's; the others; what the tokens tell]
     enter ! _ _ _ _ _ $ alloc_all ! (λ l.
     pass_all ! refl

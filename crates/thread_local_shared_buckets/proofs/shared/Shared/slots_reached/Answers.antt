@@ -18,6 +18,11 @@ in_table : {V : Type 0} (sharing : Option ℕ) (tokens : List (TokenView V)) →
     → (id : ℕ) → IsTold sharing tokens id → bucket_of id < 63
 in_table sharing tokens all id told = bucket_of-below id (subst (λ (n : ℕ). n < 2 ^ 63 - 1) told.is (all told.at told.some told.near))
 
+-- a list's ids are in range
+low : {V : Type 0} {inside tokens : List (TokenView V)} → inside ≡ tokens → All (λ p. p.id < 2 ^ 63 - 1) inside
+    → All (λ p. p.id < 2 ^ 63 - 1) tokens
+low is all = subst (λ (ts : List (TokenView _)). All (λ p. p.id < 2 ^ 63 - 1) ts) is all
+
 -- the bucket of each token is announced
 are_announced : {V : Type 0} (sharing : Option ℕ) (tokens : List (TokenView V)) (word : ℕ)
     → All (λ p. p.id < 2 ^ 63 - 1) tokens
@@ -40,15 +45,12 @@ buckets-init g c =
     let sharing : Option ℕ = c.args.self.now.sharing in
     let tokens : List (TokenView _) = c.args.told.now in
     let none : (bucket : ℕ) → bucket < 63 → is_set word bucket ≡ false → NoneIn sharing bucket tokens =
-    subst (λ (ts : List (TokenView _)). (bucket : ℕ) → bucket < 63 → is_set word bucket ≡ false
-    → NoneIn sharing bucket ts) c.list.ensures
-    (subst (λ (s : Option ℕ). (bucket : ℕ) → bucket < 63 → is_set word bucket ≡ false
-    → NoneIn s bucket c.list.result.now.tokens)
-    (ap (λ (s : TableView). s.sharing) (c.behind-self.view_is ∙ c.parts.ensures)) c.load_announced-announced.ensures.told) in record {
+    subst (λ (s : Option ℕ). (bucket : ℕ) → bucket < 63 → is_set word bucket ≡ false → NoneIn s bucket tokens)
+    (ap (λ (s : TableView). s.sharing) (c.behind-self.view_is ∙ c.parts.ensures)) c.load_announced-announced.ensures.told in record {
       counted =
           subst (λ (n : ℕ). Counted (IsTold sharing tokens) n (bit_and word (bit_not w64 slots)) slots) c.reserved-slots.ensures.reserved
           (begins (IsTold sharing tokens) slots word c.reserved-slots.ensures.first c.load_announced-announced.ensures.none_past
-          (are_announced sharing tokens word c.in_range.ensures none));
+          (are_announced sharing tokens word (low c.told.view_is c.told.invariant) none));
       table = c.none_reached-reached.ensures.0 ∙ c.bucket.ensures.table;
       grown = λ _.
           subst (λ (n : ℕ). n ≤ max reserved (2 * c.none_reached-reached.result.ids - 1)) (sym c.reserved-slots.ensures.reserved)
@@ -63,12 +65,12 @@ buckets-preserved-in-Some g c =
     let first = c.take_first_bucket-bucket in
     let at = c.bucket-in-buckets.ensures in record {
       counted =
-          more (IsTold sharing tokens) (in_table sharing tokens c.in_range.ensures) reserved c.buckets.left first.new.left
+          more (IsTold sharing tokens) (in_table sharing tokens (low c.told.view_is c.told.invariant)) reserved c.buckets.left first.new.left
           c.buckets.slots first.result.0 c.buckets.invariant.counted first.ensures.first first.ensures.rest first.result.1
           first.ensures.size;
       table = c.in-Some.ensures.shown.0 ∙ at.table;
       grown = λ grown.
-          allowed (IsTold sharing tokens) (in_table sharing tokens c.in_range.ensures) reserved c.buckets.left first.new.left
+          allowed (IsTold sharing tokens) (in_table sharing tokens (low c.told.view_is c.told.invariant)) reserved c.buckets.left first.new.left
           c.buckets.slots first.result.0 c.buckets.invariant.counted first.ensures.first first.ensures.rest first.result.1
           c.in-Some.shown.ids first.ensures.size
           (c.in-Some.ensures.shown.1 ∙ (λ j. ids_shown (at.grown j) (at.reserved j) (at.number j))
@@ -82,12 +84,11 @@ buckets-preserved g c =
     let first = c.take_first_bucket-bucket in
     let at = c.bucket-in-buckets in
     let none : NoneIn sharing first.result.0 tokens =
-    subst (λ (ts : List (TokenView _)). NoneIn sharing first.result.0 ts) c.list-in-buckets.ensures
-    (subst (λ (s : Option ℕ). NoneIn s first.result.0 c.list-in-buckets.result.now.tokens) at.ensures.sharing
-    (subst (λ (b : ℕ). NoneIn at.result.now.sharing b c.list-in-buckets.result.now.tokens) at.ensures.number
-    (c.reached.ensures.told c.in_default.is))) in record {
+    subst (λ (s : Option ℕ). NoneIn s first.result.0 tokens) at.ensures.sharing
+    (subst (λ (b : ℕ). NoneIn at.result.now.sharing b tokens) at.ensures.number
+    (c.reached.ensures.told c.in_default.is)) in record {
       counted =
-          missed (IsTold sharing tokens) (in_table sharing tokens c.in_range.ensures) c.args.self.now.reserved c.buckets.left
+          missed (IsTold sharing tokens) (in_table sharing tokens (low c.told.view_is c.told.invariant)) c.args.self.now.reserved c.buckets.left
           first.new.left c.buckets.slots first.result.0 c.buckets.invariant.counted first.ensures.first first.ensures.rest
           (λ id told. no_token sharing tokens first.result.0 id none told);
       table = c.buckets.invariant.table;
@@ -106,7 +107,7 @@ overflow_add-slots g c =
     let sharing : Option ℕ = c.args.self.now.sharing in
     let tokens : List (TokenView _) = c.args.told.now in
     let below : c.buckets.slots + first.result.1 < 2 ^ 63 =
-    counted_below (more (IsTold sharing tokens) (in_table sharing tokens c.in_range.ensures) c.args.self.now.reserved
+    counted_below (more (IsTold sharing tokens) (in_table sharing tokens (low c.told.view_is c.told.invariant)) c.args.self.now.reserved
     c.buckets.left first.new.left c.buckets.slots first.result.0 c.buckets.invariant.counted first.ensures.first
     first.ensures.rest first.result.1 first.ensures.size) in
     omega (arith, below)

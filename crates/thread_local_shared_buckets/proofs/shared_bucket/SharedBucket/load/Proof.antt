@@ -15,7 +15,8 @@ use Rattle.std.proofs.lemmas.Option.{none-some}
 use Rattle.std.proofs.Common.{IfSome, IsSome, List, arith}
 use Rattle.thread_local_ids.specs.Views.{TokenView}
 use Rattle.thread_local_ids.specs.TokenLists.{NoneIn, tell_each}
-use Rattle.thread_local_ids.specs.contracts.tokens.token_list.TokenList as TokenList
+use Rattle.thread_local_ids.specs.contracts.tokens.told_list.Told as Told
+use Rattle.thread_local_ids.proofs.TokenListLaws.{told_shown}
 use base.Fml.{finv}
 use base.Before.{before}
 use types.Na.{before_dup}
@@ -47,15 +48,15 @@ load_spec 𝓤 𝓛 𝓜 𝓡 wired T L =
     let c = clauses T 𝓛 𝓜.mem 𝓡.returns in
     let inst = layouts (a_type ∷ []) (T, tt) in let fn = inst_fn inst code.function in let W : RattleType = one_bucket.the_row R in
     let self = RefOf (0 ∷ []) tt (plain (λ _. W)) (λ _. tt) in
-    let tolds = RefOf (1 ∷ []) tt (plain (λ _. TokenList.the_row R)) (λ _. tt) in
+    let tolds = RefOf (1 ∷ []) tt (plain (λ _. Told.the_row R)) (λ _. tt) in
     let hs : Stays En.signature.params En.kept = (stay_dropped self yes, (stay_dropped tolds yes, tt)) in
     proved 𝓛 En hs c 𝓜 𝓡
     (Goes-dropped 𝓛 3 self yes (λ κs x f. refl), (Goes-dropped 𝓛 3 tolds yes (λ κs x f. refl), tt)) (#self inst) fn
     (code.unfolded 𝓤 H 𝓜 𝓡 wired (T, tt)) (λ κs. (shr_vals, (shr_vals, tt)))
-    (λ κs. (shr_Tells (named 0) κs.0 W, (shr_Tells (named 1) κs.1.0 (TokenList.the_row R), tt))) (λ κs qs bounds a gh are.
+    (λ κs. (shr_Tells (named 0) κs.0 W, (shr_Tells (named 1) κs.1.0 (Told.the_row R), tt))) (λ κs qs bounds a gh are.
     let b : ℕ = a.0.ref_ptr.0 in let o : ℕ = a.0.ref_ptr.1 in let κ : Lft = κs.0 in let q : Share = qs.0 in
     let d : BucketView = a.0.now in let others : Fml = fsep (flft κs.1.0 qs.1.0) (fsep (flft κs.1.1.0 qs.1.1.0) ftrue) in
-    let ts : List (TokenView R.Denot) = a.1.0.now.tokens in
+    let ts : List (TokenView R.Denot) = a.1.0.now in
     let pt : Val = vptr a.1.0.ref_ptr.0 a.1.0.ref_ptr.1 in
     let ℓ = named_lft 3 0 tt κs in let G : RattleType = Row.the_row ℓ R in
     let Of : Option G.Denot → Type 0 = λ r. IfSome r (λ row. row.of ≡ d) in
@@ -66,7 +67,8 @@ load_spec 𝓤 𝓛 𝓜 𝓡 wired T L =
     qed 𝓛 (((‵ (flft κ q) ⊛ ‵ others) ⊛ ‵ (owns (types_at En.signature.params κs) a y.0.4))
     ∷ raw ((c κs a).requires gh) ∷ []) ∵
     split ! $ split ! $ move ! (2 ∷ []) $ fsplit3 ! $ fsplit ! $ move ! (2 ∷ []) $ fsplit ! $
-    keep ! (1 ∷ 3 ∷ 5 ∷ 6 ∷ []) $ unhide ! $ fsplit ! $ drop ! $ move ! (1 ∷ 2 ∷ 3 ∷ []) $
+    keep ! (1 ∷ 3 ∷ 5 ∷ 6 ∷ []) $ unhide ! $
+    use1 𝓛 (‵ (tell_each R ts)) (told_shown 𝓛 R ts a.1.0.ref_ptr.0 a.1.0.ref_ptr.1 κs.1.0) $ move ! (1 ∷ 2 ∷ 3 ∷ []) $
     -- [what the `&` holds; κ's token; the others; what the tokens tell]
     enter ! _ _ _ _ _ $ alloc_all ! (λ l. pass_all ! refl ((tt, tt), ((tt, tt), tt)) $ let Ev = env fn.locals l in
     unhide ! $ fsplit ! $ fpick ! (λ j. drop ! $ fpick ! (λ t. let J : Fml = fbor t.life (bucket_invariant R d t b (o + 0)) in fsplit ! $

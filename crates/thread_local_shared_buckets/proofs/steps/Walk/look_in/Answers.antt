@@ -106,8 +106,7 @@ loaded g c =
                 (get_or parts.pointers.pointers.pointers w.raw.bucket x.index-pointers-walk.result) x.load-self.result here
                 x.load-self.ensures.of;
             absent = λ none.
-                subst (λ (ts : List (TokenView _)). NoneIn w.buckets.now.sharing w.raw.bucket ts) x.list.ensures
-                (subst (λ (b : BucketView). NoneIn b.sharing b.bucket x.list.result.now.tokens) here (x.load-self.ensures.told none));
+                subst (λ (b : BucketView). NoneIn b.sharing b.bucket w.told) here (x.load-self.ensures.told none);
           })
       | in_default x ↦
           (record { row = w.row; is = x.self-is; of = c.requires.walk.row; absent = λ none. absurd (x.in_default.not-None none) })
@@ -152,7 +151,7 @@ overflow_add-chunk-end g c =
 
 pub loop-chunk-init : goal.loop-chunk-init
 loop-chunk-init g c =
-    let none = none_between (own_here c.args.self.now) c.in-Some-row.row c.match-self.self.chunks c.list-told.result.now.tokens in
+    let none = none_between (own_here c.args.self.now) c.in-Some-row.row c.match-self.self.chunks c.match-self.self.told in
     record { later = none.0; none_before = none.1; none_told = none.2 }
 
 pub look-seen-requires-clause-shareable : goal.look-seen-requires-clause-shareable
@@ -209,9 +208,8 @@ returns-then-flags-ne0 g c =
     c.requires.in_table
     (read_at w.row c.in-Some-row.row own w.chunks chunk set flags c.look-seen.result c.in-Some-row.is look.of.0 look.of.2 refl
     kept.later look.inside kept.none_before taken.adds taken.other c.if-flags-ne0.true)
-    (subst (λ (ts : List (TokenView _)). FindsTokens w.row w.chunks ts (Some c.look-seen.result, chunk + 1, flags)) c.list-told.ensures
-    (found_at w.row c.in-Some-row.row c.look-seen.result w.chunks chunk set flags c.list-told.result.now.tokens c.in-Some-row.is
-    kept.none_told look.told (λ bit small. keeps_set own chunk set flags bit taken.adds taken.other small)))
+    (found_at w.row c.in-Some-row.row c.look-seen.result w.chunks chunk set flags w.told c.in-Some-row.is
+    kept.none_told look.told (λ bit small. keeps_set own chunk set flags bit taken.adds taken.other small))
 
 pub loop-chunk-preserved : goal.loop-chunk-preserved
 loop-chunk-preserved g c =
@@ -228,7 +226,7 @@ loop-chunk-preserved g c =
       none_before =
           none_further own from chunk kept.none_before (none_in_chunk own chunk set flags taken.adds c.if-flags-ne0.false);
       none_told =
-          none_next c.in-Some-row.row from chunk set flags c.list-told.result.now.tokens kept.none_told c.look-seen.ensures.told
+          none_next c.in-Some-row.row from chunk set flags c.match-self.self.told kept.none_told c.look-seen.ensures.told
           (λ bit small. keeps_set own chunk set flags bit taken.adds taken.other small) c.if-flags-ne0.false;
     }
 
@@ -239,11 +237,10 @@ none_at_hand g c loaded chunks flags =
     let w = c.match-self.self in
     elim c.match-walk-2.branch [
       | in-Some-row+else-loop-chunk-test x ↦
-          subst (λ (ts : List (TokenView _)). FindsTokens w.row w.chunks ts (None, chunks, flags)) x.list-told.ensures
-          (none_found w.row x.in-Some-row.row w.chunks x.loop-chunk.chunk w.raw.bucket_size chunks flags x.list-told.result.now.tokens
+          none_found w.row x.in-Some-row.row w.chunks x.loop-chunk.chunk w.raw.bucket_size chunks flags w.told
           x.in-Some-row.is x.loop-chunk.invariant.none_told
           (sized c.args.self.now w x.in-Some-row.row loaded c.requires.walk.walk.size x.in-Some-row.is)
-          (omega (arith, x.loop-chunk-test.false)))
+          (omega (arith, x.loop-chunk-test.false))
       | in_default-row x ↦ none_there w.row w.chunks w.told (None, chunks, flags) x.in_default-row.is
     ]
 

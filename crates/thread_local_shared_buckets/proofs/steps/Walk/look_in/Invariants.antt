@@ -8,5 +8,5 @@ abbrev pub invariant-loop-chunk : goal.invariant-loop-chunk
 invariant-loop-chunk g l = record {
   later : l.initial.chunk ≤ l.chunk;
   none_before : (k : ℕ) → l.initial.chunk ≤ k → k < l.chunk → LiesOutside (own_index l.fn.self.own l.fn.self.raw.bucket) k;
-  none_told : NoneBefore l.row l.initial.chunk l.chunk l.told.tokens;
+  none_told : NoneBefore l.row l.initial.chunk l.chunk l.told;
 }

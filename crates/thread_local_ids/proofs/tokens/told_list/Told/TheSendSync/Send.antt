@@ -2,7 +2,7 @@
 use denote.RattleType.{RattleType}
 use denote.Param.Send.{IsSend}
 use Rattle.thread_local_ids.proofs.TokenListLaws.{each_keyless}
-use Rattle.thread_local_ids.specs.contracts.tokens.token_list.TokenList.{the_row}
+use Rattle.thread_local_ids.specs.contracts.tokens.told_list.Told.{the_row}
 
 pub send : (T : RattleType) → IsSend (the_row T)
-send T = record { owned = λ d vs. ((λ vss. (tt, ((λ uss. (tt, tt)), tt))), each_keyless T d.tokens); leaving = λ k f vs. tt }
+send T = record { owned = λ d vs x. (((λ vss. (tt, ((λ uss. (tt, tt)), tt))), each_keyless T x.0.tokens), tt); leaving = λ k f vs. tt }
