@@ -487,9 +487,7 @@ impl<T: Sync> ThreadLocal<T> {
         ensures { result.now ≡ token.now.value }
     {
         let place = Thread::new(token.id());
-        self.buckets
-            .bucket(place.bucket)
-            .value(place.index, token.witness())
+        self.buckets.bucket(place.bucket).value(place.index, token)
     }
 }
 

@@ -12,6 +12,7 @@ mod BothLent
 mod Facts
 pub mod TokenListLaws
 pub mod Made
+pub mod TokenFields
 pub mod MoveElements
 pub mod NotedElements
 pub mod NoteElements

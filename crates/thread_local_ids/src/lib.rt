@@ -21,4 +21,3 @@ pub use shared_ids::SharedIds;
 pub use tokens::book::Book;
 pub use tokens::token::Token;
 pub use tokens::told_list::Told;
-pub use tokens::witness::Witness;

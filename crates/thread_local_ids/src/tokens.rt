@@ -1,6 +1,5 @@
-//! What the slots of ids were published with: tokens, what shows it to proofs, and the book of all.
+//! What the slots of ids were published with: tokens, lists of them, and the book of all.
 
 pub mod book;
 pub mod token;
 pub mod told_list;
-pub mod witness;

@@ -6,7 +6,6 @@ use Rattle.thread_local_base.specs.Cursor.{cursor_id}
 use Rattle.thread_local_base.specs.Place.{id_at}
 use denote.Ref.{Bor}
 use Rattle.thread_local_buckets.specs.declared.cursor.RawIter.{RawIter}
-use Rattle.thread_local_ids.specs.declared.tokens.witness.Witness.{Witness}
 use Rattle.thread_local_ids.specs.TokenLists.{AllOf}
 use Rattle.thread_local_ids.specs.Views.{TokenView}
 use Rattle.thread_local_shared_buckets.specs.Shared.{BucketView}
@@ -30,9 +29,9 @@ IsOwnAlone own from chunks flags =
     MatchOption own ((chunks ≡ from) × (flags ≡ 0))
     (λ index. (chunks ≡ index / 64 + 1) × IsWordBut flags 0 (index % 64) true)
 
--- what a walk gives: a value, and a witness that its slot was published with it
+-- what a walk gives: a value, and a token of it
 abbrev pub Item : Type 0 → Type 0
-Item V = Witness V × Bor V
+Item V = TokenView V × Bor V
 
 -- the walk goes past one slot, and passes an id only if it is that slot's
 abbrev pub Stops : RawIter → RawIter → ℕ → Type 0
@@ -40,11 +39,6 @@ Stops from to id = next_id from ≤ id → id < next_id to → next_id to ≡ su
 
 module _ {V : Type 0} where
   -- 1. What a look saw.
-
-  -- the flag of the slot with this bit was set
-  abbrev pub IsSetIn : Option (Seen V) → ℕ → Type 0
-  IsSetIn None bit = ⊥
-  IsSetIn (Some seen) bit = is_set seen.flags bit ≡ true
 
   -- it gave this value of the slot with this bit
   pub record IsGivenBy (bit : ℕ) (found : Item V) (seen : Seen V) : Type 0 where
@@ -91,7 +85,7 @@ module _ {V : Type 0} where
   own_index None bucket = None
   own_index (Some own) bucket = if own.thread.bucket == bucket then Some own.thread.index else None
 
-  -- the witness tells of the id that the walk has just passed that its slot was published with the
+  -- the token says of the id that the walk has just passed that its slot was published with the
   -- value, in this sharing
   pub record IsToldAt (name : Option ℕ) (to : RawIter) (found : Item V) : Type 0 where
     pub sharing : found.0.sharing ≡ name

@@ -1,12 +1,11 @@
 -- What `next` of a shared walk does, with ids, tokens or neither, by what the step under it does.
 use Rattle.std.proofs.Common.{◌≡◌, ℕ, suc, ◌+◌, ◌-◌, ◌^◌, ◌<◌, ◌≤◌, Option, None, Some, IfSome, option_map, ap, sym, ◌∙◌, subst, arith}
-use Rattle.std.proofs.Common.{inl, inr, ⊎_elim}
+use Rattle.std.proofs.Common.{inl, inr, refl, ⊎_elim}
 use Rattle.std.specs.Iterator.{MakesProgress}
 use denote.Ref.{Bor}
 use denote.RattleType.{RattleType}
 use Rattle.thread_local_base.specs.Cursor.{cursor_id}
 use Rattle.thread_local_ids.specs.Views.{TokenView}
-use Rattle.thread_local_ids.specs.declared.tokens.witness.Witness.{Witness}
 use Rattle.thread_local_shared_buckets.specs.Walks.{WalkView, Goes, GoesWithIds, GoesWithTokens, CanGo, ids_left}
 
 module _ {V : Type 0} where
@@ -37,6 +36,13 @@ module _ {V : Type 0} where
         rests = λ _. tt;
       }
 
+  pub progress : {A : Type 0} (R : RattleType) (inner walk left : WalkView V) (item : Option (A × Bor V))
+      → inner ≡ walk → Goes inner (option_map (λ entry. entry.1) item) left → CanGo R walk
+      → MakesProgress (CanGo {V = V} R) ids_left walk item left
+  progress R inner walk left None same goes can = progress_none R walk left None refl
+  progress R inner walk left (Some entry) same goes can =
+      progress_some R inner walk left entry.1 entry (Some entry.1) (Some entry) same refl refl goes can
+
   -- a value with its id
   pub with_id : (inner walk left : WalkView V) (x : Bor V) (id : ℕ) (found : Option (Bor V)) (item : Option (ℕ × Bor V))
       → inner ≡ walk → found ≡ Some x → item ≡ Some (id, x) → Goes inner found left → cursor_id left.cursor ≡ id + 1
@@ -56,39 +62,4 @@ module _ {V : Type 0} where
       subst (λ (i : Option (ℕ × Bor V)). GoesWithIds walk i left) (sym gives) record {
         goes = subst (λ (f : Option (Bor V)). Goes walk f left) is there;
         id = tt;
-      }
-
-  -- a value with a token
-  pub with_token : (inner walk left : WalkView V) (x : Bor V) (witness : Witness V) (id : ℕ) (token : TokenView V)
-      (found : Option (Witness V × Bor V)) (item : Option (TokenView V × Bor V))
-      → inner ≡ walk → found ≡ Some (witness, x) → item ≡ Some (token, x)
-      → Goes inner (option_map (λ entry. entry.1) found) left
-      → IfSome found (λ entry. (entry.0.sharing ≡ inner.sharing) × (cursor_id left.cursor ≡ suc entry.0.id) × (entry.0.value ≡ entry.1.now))
-      → (token.id ≡ id) × (token.sharing ≡ witness.sharing) → token.value ≡ witness.value → cursor_id left.cursor ≡ id + 1
-      → GoesWithTokens walk item left
-  with_token inner walk left x witness id token found item same is gives goes told of value at =
-      let Told : Option (Witness V × Bor V) → Type 0 =
-      λ f. IfSome f (λ entry. (entry.0.sharing ≡ inner.sharing) × (cursor_id left.cursor ≡ suc entry.0.id) × (entry.0.value ≡ entry.1.now)) in
-      let tells : Told (Some (witness, x)) = subst Told is told in
-      let there : Goes walk (option_map (λ entry. entry.1) found) left =
-      subst (λ (w : WalkView V). Goes w (option_map (λ entry. entry.1) found) left) same goes in
-      let same_id : token.id ≡ id = of.0 in
-      subst (λ (i : Option (TokenView V × Bor V)). GoesWithTokens walk i left) (sym gives) record {
-        goes = subst (λ (f : Option (Witness V × Bor V)). Goes walk (option_map (λ entry. entry.1) f) left) is there;
-        told = record {
-          sharing = of.1 ∙ tells.0 ∙ ap (λ (w : WalkView V). w.sharing) same;
-          id = omega (arith, at, same_id);
-          value = value ∙ tells.2;
-        };
-      }
-
-  pub without_token : (inner walk left : WalkView V) (found : Option (Witness V × Bor V)) (item : Option (TokenView V × Bor V))
-      → inner ≡ walk → found ≡ None → item ≡ None → Goes inner (option_map (λ entry. entry.1) found) left
-      → GoesWithTokens walk item left
-  without_token inner walk left found item same is gives goes =
-      let there : Goes walk (option_map (λ entry. entry.1) found) left =
-      subst (λ (w : WalkView V). Goes w (option_map (λ entry. entry.1) found) left) same goes in
-      subst (λ (i : Option (TokenView V × Bor V)). GoesWithTokens walk i left) (sym gives) record {
-        goes = subst (λ (f : Option (Witness V × Bor V)). Goes walk (option_map (λ entry. entry.1) f) left) is there;
-        told = tt;
       }

@@ -13,19 +13,13 @@ use Rattle.thread_local_shared_buckets.specs.Positions.{resting, past, owed, is_
 use Rattle.thread_local_shared_buckets.specs.Positions.{IsSharedWalk}
 use Rattle.thread_local_shared_buckets.specs.AtHand.{slot_of, HasSeen, IsAtHand}
 use Rattle.thread_local_shared_buckets.specs.AtHand.{OwnIsAtHand, IsWalk}
-use Rattle.thread_local_shared_buckets.proofs.Findings.{Item, IsToldAt, IsSetIn, IsGivenBy}
+use Rattle.thread_local_shared_buckets.proofs.Findings.{Item, IsToldAt, IsGivenBy}
 use Rattle.thread_local_shared_buckets.proofs.MoveLaws.{resting-id}
 use Rattle.thread_local_shared_buckets.proofs.WalkLaws.{few, IsBefore, given_found, Gave, gave_own}
 use Rattle.thread_local_shared_buckets.proofs.ToldLaws.{marked_later}
 use Rattle.thread_local_shared_buckets.proofs.BitLaws.{both_if, both_so, by_test, later, stays_set}
 
 module _ {V : Type 0} where
-  pub set_in : (sharing : Option ℕ) (bucket chunks bit : ℕ) (seen : Option (Seen V))
-      → HasSeen sharing bucket chunks bit seen
-      → IsSetIn seen bit
-  set_in sharing bucket chunks bit None h = h
-  set_in sharing bucket chunks bit (Some seen) h = h.3
-
   told_seen : (sharing : Option ℕ) (raw : RawIter) (chunks bit : ℕ) (x : Item V) (seen : Option (Seen V))
       → HasSeen sharing raw.bucket chunks bit seen → IfSome seen (IsGivenBy bit x)
       → IsToldAt sharing (past raw ((chunks - 1) * 64 + bit)) x
@@ -66,16 +60,16 @@ module _ {V : Type 0} where
   pub passed_own : (w : Walk V) (low rest : ℕ) (own : Own V) (x : Item V) → w.own ≡ Some own → IsWalk w
       → IsLowestSet w.rest low → IsWordBut rest w.rest low false
       → is_at (Some own) w.raw.bucket (slot_of w low) ≡ true
-      → x.0 ≡ own.witness → x.1.now ≡ own.value.now
+      → x.0 ≡ own.token → x.1.now ≡ own.value.now
       → Passed w x (after_pass w low rest None)
-  passed_own w low rest own x is walk lowest but at witness value =
+  passed_own w low rest own x is walk lowest but at token value =
       let there = walk.at_hand low lowest.within lowest.set in
       let same = both_if own.thread.bucket w.raw.bucket own.thread.index (slot_of w low) at in
       let shared : IsSharedWalk w.raw (Some own) = subst (IsSharedWalk w.raw) is walk.walk in
       let told : OwnIsTold w.buckets.now.sharing own =
       subst (λ (o : Option (Own V)). IfSome o (OwnIsTold w.buckets.now.sharing)) is walk.told in
       let gave = gave_own w.buckets.now.sharing w.raw own x shared there.in_table told
-      (eq-eqb own.thread.bucket w.raw.bucket same.0) witness value in
+      (eq-eqb own.thread.bucket w.raw.bucket same.0) token value in
       let to : RawIter = past w.raw (slot_of w low) in
       let all : Gave w.buckets.now.sharing w.raw (Some own) x to None =
       subst (λ (i : ℕ). Gave w.buckets.now.sharing w.raw (Some own) x (past w.raw i) None)
@@ -192,18 +186,23 @@ module _ {V : Type 0} where
     pub slot : slot_of w bit < 2 ^ 63
     pub small : bit < 64
     pub few : w.raw.yielded < 2 ^ 63
+    pub size : w.raw.bucket_size ≡ 2 ^ w.raw.bucket
+    pub first : 0 < w.raw.bucket_size
+    pub id : w.raw.bucket_size + slot_of w bit < 2 ^ 63
 
   pub near : (w : Walk V) (low : ℕ) → IsWalk w → IsLowestSet w.rest low → IsNear w low
   near w low walk lowest =
       let there = walk.at_hand low lowest.within lowest.set in
-      let last : w.raw.bucket ≤ 63 = (let last = there.in_table in omega arith) in
-      let most : 2 ^ w.raw.bucket ≤ 2 ^ 63 = pow_mono last in
+      let last : w.raw.bucket ≤ 62 = (let last = there.in_table in omega arith) in
+      let most : 2 ^ w.raw.bucket ≤ 2 ^ 62 = pow_mono last in
       let inside : slot_of w low < 2 ^ w.raw.bucket = there.inside in
-      record { some = there.some; slot = omega arith; small = lowest.within; few = few w.raw w.own walk.walk }
-
-  pub set_lowest : (w : Walk V) (low : ℕ) → IsWalk w → IsLowestSet w.rest low
-      → is_at w.own w.raw.bucket (slot_of w low) ≡ false
-      → IsSetIn w.seen low
-  set_lowest w low walk lowest apart =
-      set_in w.buckets.now.sharing w.raw.bucket w.chunks low w.seen
-      ((walk.at_hand low lowest.within lowest.set).by apart)
+      let size : w.raw.bucket_size ≡ 2 ^ w.raw.bucket = walk.walk.size in
+      record {
+        some = there.some;
+        slot = omega arith;
+        small = lowest.within;
+        few = few w.raw w.own walk.walk;
+        size = size;
+        first = omega arith;
+        id = omega arith;
+      }

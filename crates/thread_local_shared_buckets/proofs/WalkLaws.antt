@@ -10,7 +10,7 @@ use Rattle.thread_local_buckets.specs.declared.cursor.RawIter.{RawIter}
 use Rattle.thread_local_shared_buckets.specs.declared.steps.Own.{Own}
 use Rattle.thread_local_shared_buckets.specs.Steps.{Leads}
 use Rattle.thread_local_shared_buckets.specs.Walks.{Owed, YieldsOwn, Yields}
-use Rattle.thread_local_ids.specs.declared.tokens.witness.Witness.{Witness}
+use Rattle.thread_local_ids.specs.Views.{TokenView}
 use Rattle.thread_local_shared_buckets.specs.Positions.{resting, past, next_id, at_bucket, owed, lies_in, OwnIsTold}
 use Rattle.thread_local_shared_buckets.specs.Positions.{IsAhead, IsSharedWalk}
 use Rattle.thread_local_shared_buckets.proofs.Findings.{Item, IsToldAt}
@@ -165,29 +165,29 @@ module _ {V : Type 0} where
     pub gives : Yields (resting raw) (option_map owed own) x.1.now (resting to) (option_map owed left)
     pub told : IsToldAt name to x
 
-  -- the own value's witness tells of the id that was passed with it
+  -- the own value's token says of the id that was passed with it
   own_told_at : (name : Option ℕ) (raw to : RawIter) (own : Own V) (x : Item V)
       → OwnIsTold name own → lies_in (Some own) raw.bucket ≡ true
-      → x.0 ≡ own.witness → x.1.now ≡ own.value.now → to ≡ past raw own.thread.index
+      → x.0 ≡ own.token → x.1.now ≡ own.value.now → to ≡ past raw own.thread.index
       → IsToldAt name to x
-  own_told_at name raw to own x told here witness value there =
+  own_told_at name raw to own x told here token value there =
       let same = eqb-true own.thread.bucket raw.bucket here in
       let power : 2 ^ own.thread.bucket ≡ 2 ^ raw.bucket = ap (λ k. 2 ^ k) same in
-      let id : own.witness.id ≡ id_at own.thread.bucket own.thread.index = told.id in
-      let of : x.0.id ≡ own.witness.id = ap (λ (w : Witness V). w.id) witness in
+      let id : own.token.id ≡ id_at own.thread.bucket own.thread.index = told.id in
+      let of : x.0.id ≡ own.token.id = ap (λ (w : TokenView V). w.id) token in
       let there_id = resting-id (past raw own.thread.index) in
       let at : cursor_id (resting (past raw own.thread.index)) ≡ suc x.0.id = omega arith in
       record {
-        sharing = ap (λ (w : Witness V). w.sharing) witness ∙ told.sharing;
+        sharing = ap (λ (w : TokenView V). w.sharing) token ∙ told.sharing;
         id = ap (λ (r : RawIter). cursor_id (resting r)) there ∙ at;
-        value = ap (λ (w : Witness V). w.value) witness ∙ told.value ∙ sym value;
+        value = ap (λ (w : TokenView V). w.value) token ∙ told.value ∙ sym value;
       }
 
   pub gave_own : (name : Option ℕ) (raw : RawIter) (own : Own V) (x : Item V) → IsSharedWalk raw (Some own)
       → raw.bucket < 63 → OwnIsTold name own → lies_in (Some own) raw.bucket ≡ true
-      → x.0 ≡ own.witness → x.1.now ≡ own.value.now
+      → x.0 ≡ own.token → x.1.now ≡ own.value.now
       → Gave name raw (Some own) x (past raw own.thread.index) None
-  gave_own name raw own x walk low told here witness value =
+  gave_own name raw own x walk low told here token value =
       let given = given_own raw own walk low here in
       record {
         walk = given.walk;
@@ -196,5 +196,5 @@ module _ {V : Type 0} where
             Yields (resting raw) (option_map owed (Some own)) v
             (resting (past raw own.thread.index)) None)
             (sym value) given.gives;
-        told = own_told_at name raw (past raw own.thread.index) own x told here witness value refl;
+        told = own_told_at name raw (past raw own.thread.index) own x told here token value refl;
       }

@@ -51,12 +51,12 @@ module _ {V : Type 0} where
   is_at None bucket index = false
   is_at (Some own) bucket index = if own.thread.bucket == bucket then own.thread.index == index else false
 
-  -- the own value's witness tells of its id that its slot was published with this value, in this
+  -- the own value's token says of its id that its slot was published with this value, in this
   -- sharing
   pub record OwnIsTold (name : Option ℕ) (own : Own V) : Type 0 where
-    pub sharing : own.witness.sharing ≡ name
-    pub id : own.witness.id ≡ id_at own.thread.bucket own.thread.index
-    pub value : own.witness.value ≡ own.value.now
+    pub sharing : own.token.sharing ≡ name
+    pub id : own.token.id ≡ id_at own.thread.bucket own.thread.index
+    pub value : own.token.value ≡ own.value.now
 
   -- the walk hasn't passed the own value
   pub record IsAhead (raw : RawIter) (own : Own V) : Type 0 where

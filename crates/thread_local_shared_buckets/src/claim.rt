@@ -359,7 +359,7 @@ impl<'a, T> Claim<'a, T> {
         if self.slot.state() != HOLDING {
             return None;
         }
-        Some(Token::new(self.held.id, self.slot.witness()))
+        Some(self.slot.token(self.held.id))
     }
 
     /// Shows that the slot holds what a token says that it was published with. At run time it does
@@ -371,7 +371,7 @@ impl<'a, T> Claim<'a, T> {
         ensures holds { self.old.learnt ≡ Holding token.now.value }
         ensures same { self.new ≡ self.old }
     {
-        self.slot.agrees(token.witness());
+        self.slot.agrees(token);
     }
 
     /// Gives the claim up, and returns the held id with its right. The id's note says what the slot is
@@ -420,7 +420,7 @@ impl<'a, T: Sync> Claim<'a, T> {
             × (self.now.learnt ≡ Holding x.1.now)) }
     {
         if self.slot.state() == HOLDING {
-            let token = Token::new(self.held.id, self.slot.witness());
+            let token = self.slot.token(self.held.id);
             Some((token, self.slot.lasting()))
         } else {
             None

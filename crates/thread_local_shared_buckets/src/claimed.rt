@@ -19,7 +19,7 @@ use std::sync::atomic::raw;
 use std::sync::atomic::raw::ptr;
 use thread_local_ids::{Noted, Right};
 
-// `exchange` and what installs a block by it stand in `install`, `witness`, `agrees` and `notes` in
+// `exchange` and what installs a block by it stand in `install`, `token`, `agrees` and `notes` in
 // `told`.
 mod give_up;
 mod install;

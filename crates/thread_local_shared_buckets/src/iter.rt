@@ -4,7 +4,7 @@ ghost use Rattle.std.specs.Iterator.{UpTo};
 ghost use Rattle.std.specs.Iterator.SizeHint.{IsWithinCount};
 ghost use Rattle.thread_local_base.specs.Cursor.{cursor_id};
 ghost use Rattle.thread_local_shared_buckets.specs.Positions.{owed, OwnIsTold};
-ghost use Rattle.thread_local_shared_buckets.specs.Walks.{WalkView, fresh, fresh_with, Goes, CanGo, ids_left};
+ghost use Rattle.thread_local_shared_buckets.specs.Walks.{WalkView, fresh, fresh_with, Goes, GoesWithTokens, CanGo, ids_left};
 
 use crate::announcements::load_announced;
 use crate::shared::Shared;
@@ -15,7 +15,7 @@ use std::iter::FusedIterator;
 use std::marker::Model;
 use thread_local_base::Thread;
 use thread_local_buckets::{RawIter, take_first, write_struct};
-use thread_local_ids::{Token, Told, Witness};
+use thread_local_ids::{Token, Told};
 
 /// The values of shared buckets, by ascending id, each lent as `&`, while other threads may publish
 /// more. A value that is published behind the walk isn't given, and one ahead of it may be. The walk
@@ -107,16 +107,13 @@ impl<'a, T> Iter<'a, T> {
 }
 
 impl<'a, T> Iter<'a, T> {
-    /// The next value, with what shows that its slot was published with it. It is that of the lowest
-    /// flag at hand: the own value, if it lies there, and else what was seen with that bit.
-    #[inline]
-    pub(crate) fn step(&mut self) -> Option<(Witness<T>, &'a T)>
+    /// The next value, with a token of it. It is that of the lowest flag at hand: the own value, if it
+    /// lies there, and else what was seen with that bit.
+    // Always, so that a walk over values alone makes no token.
+    #[inline(always)]
+    pub(crate) fn step(&mut self) -> Option<(Token<T>, &'a T)>
         requires can_go { CanGo T.row self.old }
-        ensures goes { Goes self.old (option_map (λ found. found.1) result) self.new }
-        ensures told { IfSome result (λ found.
-            (found.0.sharing ≡ self.old.sharing)
-            × (cursor_id self.new.cursor ≡ suc found.0.id)
-            × (found.0.value ≡ found.1.now)) }
+        ensures { GoesWithTokens self.old result self.new }
     {
         // That threads may share the values, where their type doesn't say so.
         if let Some(shown) = &self.shown {
@@ -138,12 +135,12 @@ impl<'a, T> Iter<'a, T> {
         };
         let found = if here {
             match self.walk.own.take() {
-                Some(own) => (own.witness, own.value),
+                Some(own) => (own.token, own.value),
                 None => unreachable!(),
             }
         } else {
             match &self.walk.seen {
-                Some(seen) => seen.give(bit),
+                Some(seen) => seen.give(bit, self.walk.raw.bucket_size + index - 1),
                 None => unreachable!(),
             }
         };
@@ -190,7 +187,7 @@ impl<'a, T: Sync> Iter<'a, T> {
         let own = Own {
             thread: Thread::new(token.id()),
             value,
-            witness: token.witness().again(),
+            token: token.again(),
         };
         Iter::begun(buckets, Some(own), Some(Shown::new()), told)
     }

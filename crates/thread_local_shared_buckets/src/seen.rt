@@ -1,5 +1,5 @@
 //! What one load of a word of flags saw: which of the 64 slots of a chunk had a value.
-ghost use Rattle.std.specs.Prelude.{◌≡◌, ℕ, ◌+◌, ◌*◌, ◌<◌, true, List};
+ghost use Rattle.std.specs.Prelude.{◌≡◌, ℕ, ◌+◌, ◌-◌, ◌*◌, ◌^◌, ◌<◌, true, List};
 ghost use Rattle.thread_local_base.specs.Bits.{is_set};
 ghost use Rattle.thread_local_base.specs.Place.{id_at};
 ghost use Rattle.thread_local_shared_buckets.specs.Shared.{BucketView, bucket_view_coded, seen_owns};
@@ -7,7 +7,7 @@ ghost use denote.Sharing.{said};
 ghost use denote.RawPtr.{Ptr, coded_ptr};
 
 use std::marker::{Model, PhantomData};
-use thread_local_ids::Witness;
+use thread_local_ids::Token;
 
 /// The flags of a chunk of a row's slots, as one load found them, with the values of those that were
 /// set, for as long as the bucket is borrowed. A slot that gets its value later isn't seen. A
@@ -39,23 +39,26 @@ impl<'a, T> Seen<'a, T> {
         self.flags
     }
 
-    /// The value of the slot with this bit, whose flag was set, and a witness that the slot of that id
-    /// was published with it. The `&` lasts as long as the bucket is borrowed, whoever claims the
+    /// The value of the slot with this bit, whose flag was set, and a token of it, for who knows the
+    /// slot's id. The `&` lasts as long as the bucket is borrowed, whoever claims the
     /// slot meanwhile. It is no atomic step.
     #[inline]
-    pub fn give(&self, bit: usize) -> (Witness<T>, &'a T)
+    pub fn give(&self, bit: usize, id: usize) -> (Token<T>, &'a T)
         requires within { bit < 64 }
         requires set { is_set self.now.flags bit ≡ true }
+        requires id { id ≡ id_at self.now.of.bucket (self.now.chunk * 64 + bit) }
+        requires in_range { id < 2 ^ 63 - 1 }
         ensures told { (result.0.sharing ≡ self.now.of.sharing)
             × (result.0.id ≡ id_at self.now.of.bucket (self.now.chunk * 64 + bit))
             × (result.0.value ≡ result.1.now) }
     {
         let values = self.values;
         let value = unsafe { &*values.add(bit) };
-        let witness = Witness {
+        let token = Token {
+            id,
             marker: PhantomData,
         };
-        (witness, value)
+        (token, value)
     }
 }
 

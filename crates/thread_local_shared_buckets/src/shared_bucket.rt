@@ -11,7 +11,7 @@ use std::marker::{Brand, Move, Owns, PhantomData};
 use std::sync::atomic::Ordering::SeqCst;
 use std::sync::atomic::raw::ptr;
 use thread_local_buckets::Chunk;
-use thread_local_ids::{Reached, Told, Witness};
+use thread_local_ids::{Reached, Token, Told};
 
 /// A bucket that threads share: its pointer, which an owner sees as a `BucketPointer`. A contract
 /// sees its table, the sharing, its number, whether it is reserved, and whether its table grew by
@@ -94,19 +94,19 @@ impl<T> SharedBucket<T> {
 }
 
 impl<T: Sync> SharedBucket<T> {
-    /// The value that the slot at `index` was published with, which the witness shows, for as long
+    /// The value that the slot at `index` was published with, as the token says, for as long
     /// as the bucket is borrowed.
     ///
     /// It is one atomic load of the bucket's pointer, which isn't null. It never waits and takes no
     /// memory.
-    pub fn value<'a>(&'a self, index: usize, witness: &Witness<T>) -> &'a T
+    pub fn value<'a>(&'a self, index: usize, token: &Token<T>) -> &'a T
         requires inside { index < 2 ^ self.now.bucket }
-        requires id { witness.now.id ≡ id_at self.now.bucket index }
-        requires sharing { witness.now.sharing ≡ self.now.sharing }
+        requires id { token.now.id ≡ id_at self.now.bucket index }
+        requires sharing { token.now.sharing ≡ self.now.sharing }
         requires named { IsSome self.now.sharing }
-        ensures { result.now ≡ witness.now.value }
+        ensures { result.now ≡ token.now.value }
     {
-        let _ = witness;
+        let _ = token;
         let at = unsafe { ptr::load::<u64, Brand>(&raw const self.at as *const *mut u64, SeqCst) };
         unsafe { &*(at as *const T).add(index) }
     }

@@ -8,14 +8,14 @@ use crate::shared::Shared;
 use crate::{Row, Seen};
 use thread_local_base::{BUCKETS, Thread, bucket_size};
 use thread_local_buckets::{RawIter, flag_word_at, take_first_bucket};
-use thread_local_ids::{Told, Witness};
+use thread_local_ids::{Token, Told};
 
-/// The walker's own value, the place of its id, and what shows that its slot was published with it.
+/// The walker's own value, the place of its id, and a token of it.
 #[derive(Drop)]
 pub(crate) struct Own<'a, T> {
     pub(crate) thread: Thread,
     pub(crate) value: &'a T,
-    pub(crate) witness: Witness<T>,
+    pub(crate) token: Token<T>,
 }
 
 /// Where a walk is, and what it has at hand there.

@@ -54,10 +54,7 @@ impl<'a, T: Sync> Iterator for Tokens<'a, T> {
 
     /// The next value that a look finds, and a token of it, by the same steps as `Iter` goes by.
     fn next(&mut self) -> Option<(Token<T>, &'a T)> {
-        match self.walk.step() {
-            Some((witness, value)) => Some((Token::new(self.walk.last_id(), witness), value)),
-            None => None,
-        }
+        self.walk.step()
     }
 
     /// No value is promised, and there is no upper bound, since others publish meanwhile.

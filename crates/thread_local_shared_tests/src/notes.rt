@@ -41,7 +41,7 @@ fn told_again<T>(held: &mut HeldId, token: &Token<T>)
     ensures told { held.new.mark.told ≡ true }
     ensures left { held.new.mark.left ≡ held.old.mark.left }
 {
-    held.mark.told_by(token.witness());
+    held.mark.told_by(token);
 }
 
 /// Ends the first sharing. The history goes on from a page, and says of the slots of ids that nobody

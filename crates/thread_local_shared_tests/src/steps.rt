@@ -212,6 +212,6 @@ pub fn look(shared: &Shared<u32>, id: usize) -> Option<u32>
     if !has_bit(seen.flags(), bit) {
         return None;
     }
-    let (_, value) = seen.give(bit);
+    let (_, value) = seen.give(bit, id);
     Some(*value)
 }

@@ -92,9 +92,7 @@ fn read<'a, T: Sync>(shared: &'a Shared<T>, token: &Token<T>) -> &'a T
     ensures { result.now ≡ token.now.value }
 {
     let place = Thread::new(token.id());
-    shared
-        .bucket(place.bucket)
-        .value(place.index, token.witness())
+    shared.bucket(place.bucket).value(place.index, token)
 }
 
 /// Another sharing has a name, which isn't that of the one before.

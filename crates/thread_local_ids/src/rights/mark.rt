@@ -8,7 +8,7 @@ ghost use Rattle.thread_local_ids.specs.FirstIds.{marked};
 ghost use Rattle.thread_local_ids.specs.Sharings.{Belongs, is_first, left_of};
 ghost use Rattle.thread_local_ids.specs.Told.{noted_if};
 
-use crate::tokens::witness::Witness;
+use crate::tokens::token::Token;
 use std::marker::{Model, PhantomData};
 
 /// The mark of one id of one table, which stays in the holder's hands: a second right, by which two
@@ -80,14 +80,14 @@ impl Mark {
     }
 
     /// Takes up that what was noted is told, once it is published.
-    pub fn told_by<T>(&mut self, witness: &Witness<T>)
-        requires id { witness.now.id ≡ self.old.id }
-        requires left { is_first witness.now.sharing self.old.table ≡ true
-            → self.old.left ≡ left_of T.row (Some witness.now.value) }
-        requires told { is_first witness.now.sharing self.old.table ≡ false → self.old.told ≡ true }
+    pub fn told_by<T>(&mut self, token: &Token<T>)
+        requires id { token.now.id ≡ self.old.id }
+        requires left { is_first token.now.sharing self.old.table ≡ true
+            → self.old.left ≡ left_of T.row (Some token.now.value) }
+        requires told { is_first token.now.sharing self.old.table ≡ false → self.old.told ≡ true }
         ensures { self.new ≡ record self.old { told = true } }
     {
-        let _ = witness;
+        let _ = token;
     }
 
     /// Shows that two marks of one table are of different ids.

@@ -13,7 +13,6 @@ ghost use denote.Sharing.{said};
 
 use crate::rights::page::Page;
 use crate::tokens::token::Token;
-use crate::tokens::witness::Witness;
 use std::marker::{Model, PhantomData};
 
 /// What each slot of a table held when a sharing ended: a published value or none. An owner gets it
@@ -42,11 +41,7 @@ impl<T> Book<T> {
         requires named { IsSome self.now.sharing }
         ensures value { values self.now.contents token.now.id ≡ Some token.now.value }
         ensures in_range { token.now.id < 2 ^ 63 - 1 }
-    {
-        // That the id is in range.
-        let _ = token.id();
-        self.tells_of(token.witness());
-    }
+    {}
 
     /// Shows that tokens of different ids are all that was published, where there are as many of
     /// them as values: a walk gives their values, in some order. At run time it goes over the tokens
@@ -71,7 +66,10 @@ impl<T> Book<T> {
         ensures id { (result.sharing ≡ self.now.sharing) × (result.id ≡ id) }
         ensures value { values self.now.contents id ≡ Some result.value }
     {
-        Token::new(id, self.witness(id))
+        Token {
+            id,
+            marker: PhantomData,
+        }
     }
 
     /// Shows that the history goes on from a page of the table. At run time it does nothing.
@@ -83,28 +81,6 @@ impl<T> Book<T> {
     {
         let _ = page;
     }
-
-    /// What shows the value that the slot of an id had.
-    fn witness(&self, id: usize) -> Witness<T>
-        requires in_range { id < 2 ^ 63 - 1 }
-        requires published { IsSome (values self.now.contents id) }
-        ensures { (result.sharing ≡ self.now.sharing)
-            × (result.id ≡ id)
-            × (values self.now.contents id ≡ Some result.value) }
-    {
-        let _ = id;
-        Witness {
-            marker: PhantomData,
-        }
-    }
-
-    /// `tells`, of what a witness shows.
-    fn tells_of(&self, witness: &Witness<T>)
-        requires sharing { witness.now.sharing ≡ self.now.sharing }
-        requires named { IsSome self.now.sharing }
-        requires in_range { witness.now.id < 2 ^ 63 - 1 }
-        ensures { values self.now.contents witness.now.id ≡ Some witness.now.value }
-    {}
 }
 
 impl<T> Drop for Book<T> {

@@ -5,7 +5,6 @@ ghost use Rattle.thread_local_ids.specs.Views.{TokenView, token_view_coded};
 ghost use Rattle.thread_local_ids.specs.TokenLists.{AllOf};
 
 use crate::tokens::token::Token;
-use crate::tokens::witness::Witness;
 use std::marker::{Model, PhantomData};
 
 /// Tokens whose values a walk is to give for sure (`ThreadLocal::iter_told`), or whose slots a count
@@ -64,34 +63,18 @@ impl<T> Told<T> {
     pub fn and(&self, token: &Token<T>) -> Told<T>
         ensures { result ≡ token.now ∷ self.now }
     {
-        let _ = token.id();
-        self.and_of(token.witness())
-    }
-
-    /// The list with one more token, of what a witness shows.
-    #[inline]
-    fn and_of(&self, witness: &Witness<T>) -> Told<T>
-        requires in_range { witness.now.id < 2 ^ 63 - 1 }
-        ensures { result
-            ≡ record {
-              sharing = witness.now.sharing;
-              id = witness.now.id;
-              value = witness.now.value;
-            }
-            ∷ self.now }
-    {
-        let _ = witness;
+        let _ = token;
         Told {
             marker: PhantomData,
         }
     }
 
-    /// Shows that each token of a witness's id and sharing has its value.
+    /// Shows that each token of this one's id and sharing has its value.
     #[inline]
-    pub fn agrees(&self, witness: &Witness<T>)
+    pub fn agrees(&self, token: &Token<T>)
         ensures { AllOf
-            witness.now.sharing
-            (λ p. p.id ≡ witness.now.id → p.value ≡ witness.now.value)
+            token.now.sharing
+            (λ p. p.id ≡ token.now.id → p.value ≡ token.now.value)
             self.now }
     {}
 }

@@ -1,6 +1,6 @@
-//! What shows with which value a claim's slot was published (`witness`), and that a claim holds what
-//! another such thing says (`agrees`), or the note of its id (`notes`).
-ghost use Rattle.std.specs.Prelude.{◌≡◌, true, false, None, Some, is_some, IsSome, if◌then◌else◌};
+//! The token of a claim's slot (`token`), and that a claim holds what another token says (`agrees`),
+//! or the note of its id (`notes`).
+ghost use Rattle.std.specs.Prelude.{◌≡◌, ◌-◌, ◌^◌, ◌<◌, true, false, None, Some, is_some, IsSome, if◌then◌else◌};
 ghost use Rattle.thread_local_base.specs.Learnt.{Holding};
 ghost use Rattle.thread_local_ids.specs.Sharings.{Belongs, is_first, left_of};
 ghost use Rattle.thread_local_shared_buckets.specs.Room.{IsEmpty};
@@ -8,27 +8,30 @@ ghost use Rattle.thread_local_shared_buckets.specs.Known.{HasLooked, value_held}
 
 use super::ClaimedSlot;
 use std::marker::PhantomData;
-use thread_local_ids::{HeldId, Mark, Noted, Witness};
+use thread_local_ids::{HeldId, Mark, Noted, Token};
 
 impl<'a, T> ClaimedSlot<'a, T> {
-    /// What shows with which value the slot was published. At run time it does nothing.
-    pub(crate) fn witness(&self) -> Witness<T>
+    /// A token of what the slot was published with, for who knows its id.
+    pub(crate) fn token(&self, id: usize) -> Token<T>
         requires published { is_some (value_held self.now.learnt) ≡ true }
-        ensures id { (result.sharing ≡ self.now.sharing) × (result.id ≡ self.now.id) }
+        requires id { id ≡ self.now.id }
+        requires in_range { id < 2 ^ 63 - 1 }
+        ensures id { (result.sharing ≡ self.now.sharing) × (result.id ≡ id) }
         ensures value { self.now.learnt ≡ Holding result.value }
     {
-        Witness {
+        Token {
+            id,
             marker: PhantomData,
         }
     }
 
-    /// Shows that the slot holds what a witness shows of its id. At run time it does nothing.
-    pub(crate) fn agrees(&mut self, witness: &Witness<T>)
-        requires id { self.old.id ≡ witness.now.id }
-        requires sharing { self.old.sharing ≡ witness.now.sharing }
+    /// Shows that the slot holds what a token says of its id. At run time it does nothing.
+    pub(crate) fn agrees(&mut self, token: &Token<T>)
+        requires id { self.old.id ≡ token.now.id }
+        requires sharing { self.old.sharing ≡ token.now.sharing }
         requires named { IsSome self.old.sharing }
         requires looked { HasLooked self.old.learnt }
-        ensures holds { self.old.learnt ≡ Holding witness.now.value }
+        ensures holds { self.old.learnt ≡ Holding token.now.value }
         ensures same { self.new ≡ self.old }
     {}
 
@@ -84,7 +87,7 @@ impl<'a, T> ClaimedSlot<'a, T> {
         requires told { is_first self.now.sharing self.now.table ≡ false → held.old.mark.told ≡ true }
         ensures { held.new ≡ record held.old { mark = record held.old.mark { told = true } } }
     {
-        let witness = self.witness();
-        held.mark.told_by(&witness);
+        let token = self.token(held.id);
+        held.mark.told_by(&token);
     }
 }

@@ -97,13 +97,14 @@ fn published<'a>(row: &Row<'a, String>, bucket: usize, index: usize) -> Option<&
 {
     judge_sync::<String>();
     let chunk = index / 64;
-    let flag_word = flag_word_at::<String>(bucket_size(bucket), chunk);
+    let size = bucket_size(bucket);
+    let flag_word = flag_word_at::<String>(size, chunk);
     let seen = row.look(chunk, flag_word, &Told::new());
     let bit = index % 64;
     if !has_bit(seen.flags(), bit) {
         return None;
     }
-    let (_, text) = seen.give(bit);
+    let (_, text) = seen.give(bit, size - 1 + index);
     Some(text)
 }
 

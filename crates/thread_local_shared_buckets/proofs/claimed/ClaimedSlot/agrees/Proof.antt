@@ -12,7 +12,9 @@ use Rattle.thread_local_base.proofs.Names.{stay_dropped, stay_ref, walk_of, Goes
 use Rattle.std.proofs.Common.{IsSome}
 use Rattle.thread_local_base.specs.Learnt.{Learnt, Holding}
 use Rattle.thread_local_ids.specs.Told.{tells}
-use Rattle.thread_local_ids.specs.contracts.tokens.witness.Witness as Witness
+use Rattle.thread_local_ids.specs.contracts.tokens.token.Token as Token
+use Rattle.thread_local_ids.proofs.TokenFields.{token_says, token_shown}
+use types.Kit.{use1}
 use Rattle.thread_local_shared_buckets.specs.Known.{HasLooked}
 use Rattle.thread_local_shared_buckets.specs.Claims.{ClaimFields, claim_fields, claim_owns}
 use Rattle.thread_local_shared_buckets.proofs.Agreed as agreed
@@ -25,7 +27,7 @@ use Rattle.thread_local_base.proofs.Walking.{knows}
 pub agrees_spec : {M : Type 1} → statement M
 agrees_spec 𝓤 𝓛 𝓜 𝓡 wired X L =
     let R : RattleType = param 0 X in let En = ended X in let c = clauses X 𝓛 𝓜.mem 𝓡.returns in
-    let S : RattleType = Witness.the_row R in let inst = bounded (a_type ∷ []) (X, tt) dnil in
+    let S : RattleType = Token.the_row R in let inst = bounded (a_type ∷ []) (X, tt) dnil in
     let fn = inst_fn inst code.function in let closed = code.unfolded 𝓤 𝓛.H 𝓜 𝓡 wired (X, tt) in
     let row = plain (λ κs. claim.the_row (named_lft 4 1 tt κs) R) in
     let seen = RefOf (2 ∷ []) tt (plain (λ _. S)) (λ _. tt) in
@@ -53,7 +55,8 @@ agrees_spec 𝓤 𝓛 𝓜 𝓡 wired X L =
     ∷ raw (fact 𝓤 Known) ∷ []) ∵
     keep ! (2 ∷ 3 ∷ 4 ∷ 5 ∷ 0 ∷ []) $ heard ! At (λ at. heard ! In (λ same. heard ! Named (λ named_so. heard ! Known (λ known.
     split ! $ split3 ! $ move ! (3 ∷ []) $ fsplit3 ! $ move ! (1 ∷ []) $ fsplit ! $
-    keep ! (1 ∷ 2 ∷ 4 ∷ 5 ∷ 6 ∷ []) $ unhide ! $ fsplit ! $ drop ! $
+    keep ! (1 ∷ 2 ∷ 4 ∷ 5 ∷ 6 ∷ []) $ unhide ! $
+    use1 𝓛 (‵ (token_says R w)) (token_shown R 𝓛 w a.1.0.ref_ptr.0 a.1.0.ref_ptr.1 κs.1.1.0) $
     rewrite ! 0 (λ (z : Option ℕ). ‵ (tells R z w.id (Some x))) (sym same) refl $
     rewrite ! 0 (λ (j : ℕ). ‵ (tells R h.sharing j (Some x))) (sym at) refl $
     -- [what is told; the reference; its token; the bucket's; the others]

@@ -12,14 +12,14 @@ use Rattle.thread_local_shared_buckets.specs.declared.iter.Iter.TheInside.{Insid
 use Rattle.thread_local_shared_buckets.specs.declared.seen.Seen.{Seen}
 use Rattle.thread_local_shared_buckets.specs.declared.steps.Own.{Own}
 use Rattle.thread_local_shared_buckets.specs.declared.steps.Walk.{Walk}
-use Rattle.thread_local_shared_buckets.specs.AtHand.{IsWalk, Comes, slot_of}
+use Rattle.thread_local_shared_buckets.specs.AtHand.{IsWalk, Comes, HasSeen, slot_of}
 use Rattle.thread_local_shared_buckets.specs.Positions.{resting, owed, is_at, IsAhead, IsSharedWalk}
 use Rattle.thread_local_shared_buckets.specs.Walks.{WalkView, Goes}
-use Rattle.thread_local_shared_buckets.proofs.Findings.{Item, IsSetIn, IsGivenBy, IsToldAt, Stops, YieldsFrom}
+use Rattle.thread_local_shared_buckets.proofs.Findings.{Item, IsGivenBy, IsToldAt, Stops, YieldsFrom}
 use Rattle.thread_local_shared_buckets.proofs.AtHandLaws.{comes_nowhere}
 use Rattle.thread_local_shared_buckets.proofs.MoveLaws.{resting-first}
 use Rattle.thread_local_shared_buckets.proofs.OwnLaws.{at_if, not_at}
-use Rattle.thread_local_shared_buckets.proofs.PassLaws.{near, set_lowest, after_pass, Passed, passed_own, passed_seen}
+use Rattle.thread_local_shared_buckets.proofs.PassLaws.{near, after_pass, Passed, passed_own, passed_seen}
 use Rattle.thread_local_shared_buckets.proofs.ToldLaws.{moved, meets_some, meets_none, stops}
 use Rattle.thread_local_shared_buckets.proofs.WalkLaws.{gives_later, fits}
 use Rattle.thread_local_shared_buckets.proofs.iter.Iter.step.Goals as goal
@@ -145,18 +145,19 @@ reach-requires-clause-passed g c = c.if-self-eq0.true
 pub invariant_of-self : goal.invariant_of-self
 invariant_of-self g c = c.reach.ensures.walk
 
-pub returns-then-not-reach-clause-goes : goal.returns-then-not-reach-clause-goes
-returns-then-not-reach-clause-goes g c =
+pub returns-then-not-reach : goal.returns-then-not-reach
+returns-then-not-reach g c =
     let from = c.self.inside in
     let reached = c.reach.ensures in
     let shown = is_some from.shown in
     let far =
     subst (λ (b : Bool). MatchBool b (0 < c.reach.new.self.rest) (63 ≤ c.reach.new.self.raw.bucket)) c.if-not-reach.true reached.by in
-    subst (λ (view : WalkView _). Goes view None (seen c.reach.new.self shown)) c.self.view_is
-    (ended from.walk c.reach.new.self shown reached.comes reached.walk far (subst (λ (ts : List (TokenView _)). All (λ p. p.id < 2 ^ 63 - 1) ts) c.told.view_is c.told.invariant))
-
-pub returns-then-not-reach-clause-told : goal.returns-then-not-reach-clause-told
-returns-then-not-reach-clause-told g c = tt
+    record {
+      goes =
+          subst (λ (view : WalkView _). Goes view None (seen c.reach.new.self shown)) c.self.view_is
+          (ended from.walk c.reach.new.self shown reached.comes reached.walk far (subst (λ (ts : List (TokenView _)). All (λ p. p.id < 2 ^ 63 - 1) ts) c.told.view_is c.told.invariant));
+      told = tt;
+    }
 
 come_to : (g : _) (c : Joined-else-self-eq0 g) → HasCome c.self.inside c.else-self-eq0.self-inside
 come_to g c =
@@ -230,11 +231,16 @@ unreachable-requires g c =
     ∙ sym (tested g (goal.at.unreachable-requires g c).Joined-self-2) ∙ c.if-here.true in
     absurd cc
 
+-- what is known of a look that was the last at this bucket
+abbrev SawSet : {V : Type 0} → Walk V → ℕ → Option (Seen V) → Type 0
+SawSet w bit seen = HasSeen w.buckets.now.sharing w.raw.bucket w.chunks bit seen
+
 -- where it doesn't, the walk saw that flag set
-set_there : (g : _) (c : Joined-self-2 g) → HasCome c.self.inside c.else-self-eq0.self-inside → c.match-self-2.here ≡ false
-    → let w = c.else-self-eq0.self-inside.walk in IsSetIn w.seen c.take_first-bit.result
-set_there g c come apart =
-    set_lowest c.else-self-eq0.self-inside.walk c.take_first-bit.result come.walk c.take_first-bit.ensures.first (sym (tested g c) ∙ apart)
+seen_there : (g : _) (c : Joined-self-2 g) → HasCome c.self.inside c.else-self-eq0.self-inside → c.match-self-2.here ≡ false
+    → let w = c.else-self-eq0.self-inside.walk in SawSet w c.take_first-bit.result w.seen
+seen_there g c come apart =
+    let lowest = c.take_first-bit.ensures.first in
+    (come.walk.at_hand c.take_first-bit.result lowest.within lowest.set).by (sym (tested g c) ∙ apart)
 
 pub give-requires-clause-within : goal.give-requires-clause-within
 give-requires-clause-within g c = c.take_first-bit.ensures.first.within
@@ -242,14 +248,36 @@ give-requires-clause-within g c = c.take_first-bit.ensures.first.within
 pub give-requires-clause-set : goal.give-requires-clause-set
 give-requires-clause-set g c =
     let at = goal.at.give-requires-clause-set g c in
-    subst (λ (seen : Option (Seen _)). IsSetIn seen c.take_first-bit.result) c.in-Some-seen.is
-    (set_there g at.Joined-self-2 (come_to g at.Joined-else-self-eq0) c.if-here.false)
+    let saw = subst (SawSet c.else-self-eq0.self-inside.walk c.take_first-bit.result) c.in-Some-seen.is
+    (seen_there g at.Joined-self-2 (come_to g at.Joined-else-self-eq0) c.if-here.false) in
+    saw.3
+
+pub give-requires-clause-id : goal.give-requires-clause-id
+give-requires-clause-id g c =
+    let at = goal.at.give-requires-clause-id g c in
+    let w = c.else-self-eq0.self-inside.walk in
+    let bit = c.take_first-bit.result in
+    let come = come_to g at.Joined-else-self-eq0 in
+    let saw = subst (SawSet w bit) c.in-Some-seen.is (seen_there g at.Joined-self-2 come c.if-here.false) in
+    let slot = near w bit come.walk c.take_first-bit.ensures.first in
+    let power : 2 ^ c.in-Some-seen.seen.of.bucket ≡ 2 ^ w.raw.bucket = ap (λ k. 2 ^ k) saw.1 in
+    omega (arith, power, saw.2, slot.some, slot.size, slot.first)
+
+pub overflow_add-self-inside : goal.overflow_add-self-inside
+overflow_add-self-inside g c =
+    let come = come_to g (goal.at.overflow_add-self-inside g c).Joined-else-self-eq0 in
+    let at = near c.else-self-eq0.self-inside.walk c.take_first-bit.result come.walk c.take_first-bit.ensures.first in omega (arith, at.id)
+
+pub give-requires-clause-in_range : goal.give-requires-clause-in_range
+give-requires-clause-in_range g c =
+    let come = come_to g (goal.at.give-requires-clause-in_range g c).Joined-else-self-eq0 in
+    let at = near c.else-self-eq0.self-inside.walk c.take_first-bit.result come.walk c.take_first-bit.ensures.first in omega (arith, at.id, at.first)
 
 pub unreachable-requires-in-None-seen : goal.unreachable-requires-in-None-seen
 unreachable-requires-in-None-seen g c =
     let at = goal.at.unreachable-requires-in-None-seen g c in
-    subst (λ (seen : Option (Seen _)). IsSetIn seen c.take_first-bit.result) c.in-None-seen.is
-    (set_there g at.Joined-self-2 (come_to g at.Joined-else-self-eq0) c.if-here.false)
+    subst (SawSet c.else-self-eq0.self-inside.walk c.take_first-bit.result) c.in-None-seen.is
+    (seen_there g at.Joined-self-2 (come_to g at.Joined-else-self-eq0) c.if-here.false)
 
 -- the walk gave its own value, or the value that it saw
 given_here : (g : _) (c : Joined-here g) → HasCome c.self.inside c.else-self-eq0.self-inside
@@ -272,10 +300,10 @@ given_here g c come test =
           subst (λ (to : Inside _). HasGiven met to c.if-here.found) (sym x.self-inside-is)
           (subst
           (λ (found : Item _). HasGiven met (record { walk = after_pass w low rest left; shown = met.shown }) found) (sym x.found-is)
-          (gave met low rest left (own.witness, own.value) come.walk lowest
+          (gave met low rest left (own.token, own.value) come.walk lowest
           (subst
-          (λ (o : Option (Own _)). Passed w (own.witness, own.value) (after_pass w low rest o)) (sym x.take.ensures.after)
-          (passed_own w low rest own (own.witness, own.value) is come.walk lowest cleared at refl refl))))
+          (λ (o : Option (Own _)). Passed w (own.token, own.value) (after_pass w low rest o)) (sym x.take.ensures.after)
+          (passed_own w low rest own (own.token, own.value) is come.walk lowest cleared at refl refl))))
       | else-here+in-Some-seen x ↦
           let told = x.give.ensures.told in
           subst (λ (to : Inside _). HasGiven met to c.if-here.found) (sym x.self-inside-is)
@@ -292,26 +320,25 @@ invariant_of-self-2 g c =
     let at = goal.at.invariant_of-self-2 g c in
     (given_here g at.Joined-here (come_to g at.Joined-else-self-eq0) (tested g at.Joined-self-2)).passed.walk
 
-pub returns-clause-goes : goal.returns-clause-goes
-returns-clause-goes g c =
-    let at = goal.at.returns-clause-goes g c in
+pub returns : goal.returns
+returns g c =
+    let at = goal.at.returns g c in
     let come = come_to g at.Joined-else-self-eq0 in
     let gives = given_here g at.Joined-here come (tested g at.Joined-self-2) in
     let from = c.self.inside in
     let met = c.else-self-eq0.self-inside in
     let to = c.if-here.self-inside in
     let found = c.if-here.found in
-    subst (λ (view : WalkView _). Goes view (Some found.1) (seen to.walk (is_some to.shown))) c.self.view_is
-    (given from.walk met.walk to.walk found (is_some from.shown) (is_some to.shown) (ap is_some (gives.shown ∙ come.shown))
-    c.self.invariant come.comes gives.buckets gives.passed.gives gives.passed.told gives.told gives.stops
-    c.agrees.ensures)
-
-pub returns-clause-told : goal.returns-clause-told
-returns-clause-told g c =
-    let at = goal.at.returns-clause-told g c in
-    let come = come_to g at.Joined-else-self-eq0 in
-    let told = (given_here g at.Joined-here come (tested g at.Joined-self-2)).passed.told in (
-      told.sharing ∙ ap (λ (t : TableView). t.sharing) come.comes.buckets ∙ ap (λ (view : WalkView _). view.sharing) c.self.view_is,
-      told.id,
-      told.value,
-    )
+    let told = gives.passed.told in
+    record {
+      goes =
+          subst (λ (view : WalkView _). Goes view (Some found.1) (seen to.walk (is_some to.shown))) c.self.view_is
+          (given from.walk met.walk to.walk found (is_some from.shown) (is_some to.shown) (ap is_some (gives.shown ∙ come.shown))
+          c.self.invariant come.comes gives.buckets gives.passed.gives gives.passed.told gives.told gives.stops
+          c.agrees.ensures);
+      told = record {
+        sharing = told.sharing ∙ ap (λ (t : TableView). t.sharing) come.comes.buckets ∙ ap (λ (view : WalkView _). view.sharing) c.self.view_is;
+        id = told.id;
+        value = told.value;
+      };
+    }

@@ -2,6 +2,7 @@
 use Rattle.std.proofs.Common.{◌≡◌, ℕ, true, Some, ap, sym, ◌∙◌, lit<}
 use Rattle.thread_local_base.specs.Place.{id_at, bucket_of, index_of}
 use Rattle.thread_local_base.proofs.PlaceLaws.{id_at-place}
+use Rattle.thread_local_ids.specs.Views.{TokenView}
 use Rattle.thread_local_shared_buckets.specs.Walks.{WalkView, fresh_with}
 use Rattle.thread_local_shared_buckets.proofs.iter.Iter.with_own.Goals as goal
 
@@ -16,9 +17,9 @@ begun-requires g c =
     at_place c.id.result place.bucket place.index c.new.ensures.bucket c.new.ensures.index ∙ c.id.ensures.id in (
       lit< tt,
       record {
-        sharing = c.again.ensures.0 ∙ c.witness.ensures.id.1 ∙ c.requires.sharing;
-        id = c.again.ensures.1 ∙ c.witness.ensures.id.0 ∙ sym same;
-        value = c.again.ensures.2 ∙ c.witness.ensures.value ∙ c.requires.value;
+        sharing = ap (λ (p : TokenView _). p.sharing) c.again.ensures ∙ c.requires.sharing;
+        id = ap (λ (p : TokenView _). p.id) c.again.ensures ∙ sym same;
+        value = ap (λ (p : TokenView _). p.value) c.again.ensures ∙ c.requires.value;
       },
     )
 

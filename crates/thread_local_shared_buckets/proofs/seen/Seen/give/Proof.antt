@@ -31,8 +31,10 @@ use Rattle.thread_local_base.proofs.Pairs.{both, pair_in}
 use Rattle.thread_local_buckets.specs.Slots.{stride, value_offset}
 use Rattle.thread_local_buckets.proofs.Flags.{uncapped, value_near}
 use Rattle.thread_local_base.specs.Place.{id_at}
-use Rattle.thread_local_ids.specs.contracts.tokens.witness.Witness as Witness
-use Rattle.thread_local_ids.proofs.Made.{token_val, witness_made}
+use Rattle.thread_local_ids.specs.contracts.tokens.token.Token as Token
+use Rattle.std.proofs.Common.{◌-◌, Some}
+use Rattle.thread_local_ids.specs.Told.{tells}
+use Rattle.thread_local_ids.proofs.TokenFields.{id_val, id_good, token_made}
 use Rattle.thread_local_shared_buckets.specs.Shared.{BucketView, name_at, first as first_id, if_set, seen_value, seen_slot, seen_owns}
 use Rattle.thread_local_shared_buckets.proofs.ChunkLooks.{set_at_bit, behind_first}
 use Rattle.thread_local_shared_buckets.proofs.Inside.{name_at-get_or}
@@ -58,11 +60,12 @@ give_spec {M} 𝓤 𝓛 𝓜 𝓡 wired T L =
     let self = RefOf (0 ∷ []) tt row (λ _. tt) in
     let number = plain (λ _. usize) in
     let goes = Goes-dropped 𝓛 3 number yes (λ κs x f. refl) in
-    let hs : Stays En.signature.params En.kept = (stay_dropped self yes, (stay_dropped number yes, tt)) in
-    proved 𝓛 En hs c 𝓜 𝓡 (Goes-dropped 𝓛 3 self yes (λ κs x f. refl), (goes, tt))
+    let hs : Stays En.signature.params En.kept =
+    (stay_dropped self yes, (stay_dropped number yes, (stay_dropped number yes, tt))) in
+    proved 𝓛 En hs c 𝓜 𝓡 (Goes-dropped 𝓛 3 self yes (λ κs x f. refl), (goes, (goes, tt)))
     (#self inst) fn (code.unfolded 𝓤 H 𝓜 𝓡 wired (T, tt))
-    (λ κs. (shr_vals, (uint_vals w64, tt)))
-    (λ κs. (shr_Tells (named 0) κs.0 (Seen.the_row (named_lft 3 1 tt κs) R), (uint_Tells w64, tt)))
+    (λ κs. (shr_vals, (uint_vals w64, (uint_vals w64, tt))))
+    (λ κs. (shr_Tells (named 0) κs.0 (Seen.the_row (named_lft 3 1 tt κs) R), (uint_Tells w64, (uint_Tells w64, tt))))
     (λ κs qs bounds a gh are.
     let ℓ = named_lft 3 1 tt κs in
     let D : RattleType = FieldsType ℓ R in
@@ -75,6 +78,7 @@ give_spec {M} 𝓤 𝓛 𝓜 𝓡 wired T L =
     let p : Ptr = h.at in
     let d : BucketView = h.of in
     let bit : ℕ = a.1.0 in
+    let id : ℕ = a.1.1.0 in
     let i : ℕ = h.chunk * 64 + bit in
     let v : Ptr = h.values in
     let many : ℕ = 2 ^ d.bucket in
@@ -82,21 +86,23 @@ give_spec {M} 𝓤 𝓛 𝓜 𝓡 wired T L =
     let pb : ℕ = block_of p in
     let e : ℕ = value_offset R (count_of p) i in
     let G : RattleType = ShrRef (named 1) β R in
-    let S : RattleType = Witness.the_row R in
+    let S : RattleType = Token.the_row R in
     let Pair : RattleType = Tuple (S ∷ G ∷ []) in
     let IsTold : Pair.Denot → Type 0 = λ z.
     (◌≡◌ {A = Option ℕ} z.0.sharing d.sharing) × (z.0.id ≡ id_at d.bucket i) × (z.0.value ≡ z.1.now) in
-    let y : (walk_of 𝓛 En hs c).Ghost = ((κs, qs, bounds, a, (vptr b o ∷ [], (vint w64 bit ∷ [], tt))), gh) in
+    let y : (walk_of 𝓛 En hs c).Ghost = ((κs, qs, bounds, a, (vptr b o ∷ [], (vint w64 bit ∷ [], (vint w64 id ∷ [], tt)))), gh) in
     let Post : Val → SProp 𝓤 = (walk_of 𝓛 En hs c).post y in
     let Within : Type 0 = bit < 64 in
     let Set : Type 0 = is_set h.flags bit ≡ true in
+    let At : Type 0 = id ≡ id_at d.bucket i in
+    let Near : Type 0 = id < 2 ^ 63 - 1 in
     qed 𝓛 (((‵ (flft κ qs.0) ⊛ ‵ (flft β q) ⊛ ‵ rest)
     ⊛ ‵ (owns (types_at En.signature.params κs) a y.0.4))
-    ∷ raw (fact 𝓤 _) ∷ raw (fact 𝓤 Within) ∷ raw (fact 𝓤 Set) ∷ []) ∵
-    keep ! (2 ∷ 3 ∷ 0 ∷ []) $ heard ! Within (λ small. heard ! Set (λ set. split ! $ split3 ! $ move ! (3 ∷ []) $
+    ∷ raw (fact 𝓤 _) ∷ raw (fact 𝓤 Within) ∷ raw (fact 𝓤 Set) ∷ raw (fact 𝓤 At) ∷ raw (fact 𝓤 Near) ∷ []) ∵
+    keep ! (2 ∷ 3 ∷ 4 ∷ 5 ∷ 0 ∷ []) $ heard ! Within (λ small. heard ! Set (λ set. heard ! At (λ at_id. heard ! Near (λ low_id. split ! $ split3 ! $ move ! (3 ∷ []) $
     fsplit3 ! $ fsplit ! $ keep ! (1 ∷ 4 ∷ 5 ∷ 6 ∷ []) $
-    enter ! 𝓣.C 𝓣.Λ fn (vptr b o ∷ vint w64 bit ∷ []) Post $ alloc_all ! (λ l.
-    pass_all ! refl ((tt, tt), ((tt, record { fits = are.1.0.1 }), tt)) $
+    enter ! 𝓣.C 𝓣.Λ fn (vptr b o ∷ vint w64 bit ∷ vint w64 id ∷ []) Post $ alloc_all ! (λ l.
+    pass_all ! refl ((tt, tt), ((tt, record { fits = are.1.0.1 }), ((tt, record { fits = are.1.1.0.1 }), tt))) $
     let Ev = env fn.locals l in
     let Owns : Fml = seen_owns R d p h.names h.chunk h.flags v β in
     use1 𝓛 (‵ (hidden_shr D κ (fields_of ℓ R v h.flags) b o) ⊛ ‵ (fhide Owns))
@@ -146,8 +152,9 @@ give_spec {M} 𝓤 𝓛 𝓜 𝓡 wired T L =
     move ! (5 ∷ 6 ∷ []) $ join ! $ move ! (1 ∷ 0 ∷ []) $ join ! $ move ! (2 ∷ []) $
     -- [the value; the tokens; the fields; the pin; what is told]
     let r : G.Denot = record { ref_ptr = (pb, e); now = x } in
-    let w₁ : S.Denot = record { marker = record {}; sharing = d.sharing; id = i + first_id R d; value = x } in
-    let u₁ : Val = both token_val (vptr pb e) in
+    let w₁ : S.Denot = record { sharing = d.sharing; id = id; value = x } in
+    let u₁ : Val = both (id_val id) (vptr pb e) in
+    let fits : id < 2 ^ 64 = omega (arith, low_id) in
     first ! $ blocks ! $
     sets !
     (is ! (bin ! (get ! refl) (size_word !) (record {
@@ -160,19 +167,21 @@ give_spec {M} 𝓤 𝓛 𝓜 𝓡 wired T L =
     exec ! 𝓣.C 𝓣.Λ Ev (after 2 fn.body) (at_ret Ev Post) $
     sets ! (of_opd ! (get ! refl)) refl (tt, tt) $
     sets ! (agg ! (no_more !)) refl (tt, tt) $
-    sets ! (agg ! (and_then ! (get ! refl) (no_more !))) refl (tt, (tt, tt)) $
-    sets ! (of_opd ! (get ! refl)) refl (tt, (tt, tt)) $
+    sets ! (agg ! (and_then ! (get ! refl) (and_then ! (get ! refl) (no_more !)))) refl (id_good id fits) $
+    sets ! (of_opd ! (get ! refl)) refl (id_good id fits) $
     sets ! (agg ! (and_then ! (get ! refl) (and_then ! (get ! refl) (no_more !)))) refl
-    (tt, ((tt, tt), (tt, tt))) $
+    (tt, ((record { fits = fits }, (tt, tt)), (tt, tt))) $
     feq_i ! (List Val) (vptr pb e ∷ []) (vptr pb e ∷ []) refl $ fjoin ! $
     -- [the `&`; the tokens; the fields; the pin; what is told]
-    move ! (4 ∷ []) $ use1 𝓛 (‵ (S.own_val w₁ (token_val ∷ []))) (witness_made 𝓛 R w₁) $
-    pair_in S G ! w₁ r token_val (vptr pb e) $
+    move ! (4 ∷ []) $
+    let at_first : i + first_id R d ≡ id = omega (arith, at_id) in
+    rewrite ! 0 (λ (k : ℕ). ‵ (tells R d.sharing k (Some x))) at_first refl $
+    use1 𝓛 (‵ (S.own_val w₁ (id_val id ∷ []))) (token_made R 𝓛 w₁ low_id) $
+    pair_in S G ! w₁ r (id_val id) (vptr pb e) $
     -- [the pair; the tokens; the fields; the pin]
-    let at_id : i + first_id R d ≡ id_at d.bucket i = omega arith in
     use0 𝓛 (raw (fact 𝓤 (IsTold (w₁, r))))
     (fact_i 𝓤 (IsTold (w₁, r)) (emp 𝓤) (refl, at_id, refl)) $
     move ! (1 ∷ []) $
-    nothing ! $ nothing ! $ fjoin ! $ nothing ! $ fjoin ! $
+    nothing ! $ nothing ! $ fjoin ! $ nothing ! $ fjoin ! $ nothing ! $ fjoin ! $
     returns ! (look_at ! 0 refl) $ free_all ! refl $ keep ! (3 ∷ 0 ∷ 1 ∷ 2 ∷ []) $
-    by ! (leaves 𝓛 En hs c y u₁ (w₁, r) (tt, (tt, tt)) (tt, (tt, tt))))))))))))
+    by ! (leaves 𝓛 En hs c y u₁ (w₁, r) (tt, (tt, (tt, tt))) (tt, (tt, (tt, tt)))))))))))))))

@@ -29,7 +29,8 @@ use Rattle.thread_local_buckets.specs.Slots.{stride, value_offset}
 use Rattle.thread_local_buckets.proofs.Flags.{uncapped, value_near}
 use Rattle.thread_local_ids.specs.Told.{tells}
 use Rattle.thread_local_ids.proofs.ToldElements.{tells_dup}
-use Rattle.thread_local_ids.specs.contracts.tokens.witness.Witness as Witness
+use Rattle.thread_local_ids.specs.contracts.tokens.token.Token as Token
+use Rattle.thread_local_ids.proofs.TokenFields.{token_says, token_shown}
 use Rattle.thread_local_shared_buckets.specs.Shared.{BucketView, StandingBlock, Sized, len, first as first_id}
 use Rattle.thread_local_shared_buckets.specs.Shared.{bucket_invariant, loaded}
 use Rattle.thread_local_shared_buckets.specs.contracts.shared_bucket.SharedBucket as one_bucket
@@ -48,7 +49,7 @@ value_spec {M} 𝓤 𝓛 𝓜 𝓡 wired T L =
     let H = 𝓛.H in let 𝓣 = tables 𝓤 H 𝓜 𝓡 𝓡.env in let R : RattleType = param 0 T in let LR = param_laws 0 T L in
     let En = ended T in let c = clauses T 𝓛 𝓜.mem 𝓡.returns in let inst = bounded (a_type ∷ []) (T, tt) dnil in
     let fn = inst_fn inst code.function in let W : RattleType = one_bucket.the_row R in
-    let S : RattleType = Witness.the_row R in let self = RefOf (0 ∷ []) tt (plain (λ _. W)) (λ _. tt) in
+    let S : RattleType = Token.the_row R in let self = RefOf (0 ∷ []) tt (plain (λ _. W)) (λ _. tt) in
     let number = plain (λ _. usize) in
     let seen = RefOf (1 ∷ []) tt (plain (λ _. S)) (λ _. tt) in
     let hs : Stays En.signature.params En.kept =
@@ -80,7 +81,7 @@ value_spec {M} 𝓤 𝓛 𝓜 𝓡 wired T L =
     let k : ℕ = i + first_id R d in let at_k : w.id ≡ k = omega (arith, at_id) in let Told : Fml = tells R d.sharing k (Some x) in
     split ! $ split ! $ move ! (2 ∷ []) $ fsplit3 ! $ fsplit ! $ move ! (3 ∷ []) $ fsplit ! $
     fsplit ! $ keep ! (1 ∷ 4 ∷ 6 ∷ 7 ∷ []) $
-    unhide ! $ fsplit ! $ drop ! $
+    unhide ! $ use1 𝓛 (‵ (token_says R w)) (token_shown R 𝓛 w a.1.1.0.ref_ptr.0 a.1.1.0.ref_ptr.1 κs.1.0) $
     rewrite ! 0 (λ (z : Option ℕ). ‵ (tells R z w.id (Some x))) in_sharing refl $
     rewrite ! 0 (λ (j : ℕ). ‵ (tells R d.sharing j (Some x))) at_k refl $
     -- [what is told; what the `&` holds; κ's token; the others]

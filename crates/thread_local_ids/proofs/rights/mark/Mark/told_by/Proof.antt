@@ -1,7 +1,7 @@
--- `told_by` takes what the witness tells for the note.
+-- `told_by` takes what the token says for the note.
 use Rattle.thread_local_base.proofs.Names.{◌≡◌, ℕ, [], ◌∷◌, refl, Some, a_type, named, vunit, ftrue}
 use Rattle.thread_local_base.proofs.Names.{inst_fn, ‵, raw, ◌⊛◌, ◌$◌, ◌∵◌, !, qed, move, keep}
-use Rattle.thread_local_base.proofs.Names.{drop, split, fsplit, fsplit3, fjoin, rewrite, feq_i, use2}
+use Rattle.thread_local_base.proofs.Names.{split, fsplit, fsplit3, fjoin, rewrite, feq_i, use1, use2}
 use Rattle.thread_local_base.proofs.Names.{of_opd, unit_lit, returns, enter, alloc_all, pass_all, free_all, look_at}
 use Rattle.thread_local_base.proofs.Names.{sets, fact, RattleType, owns, types_at, yes, plain, RefOf}
 use Rattle.thread_local_base.proofs.Names.{nothing, heard, param, layouts, shr_vals, shr_Tells, Stays, stay_dropped, Goes-dropped}
@@ -17,7 +17,8 @@ use Rattle.thread_local_ids.specs.Told.{tells}
 use Rattle.thread_local_ids.specs.Sharings.{is_first, left_of}
 use Rattle.thread_local_ids.proofs.Facts.{tells_last}
 use Rattle.thread_local_ids.proofs.MarkElements.{told_up}
-use Rattle.thread_local_ids.specs.contracts.tokens.witness.Witness as Witness
+use Rattle.thread_local_ids.proofs.TokenFields.{token_says, token_shown}
+use Rattle.thread_local_ids.specs.contracts.tokens.token.Token as Token
 use Rattle.thread_local_ids.specs.contracts.rights.mark.Mark.{the_row as A}
 use Rattle.thread_local_ids.specs.contracts.rights.mark.Mark.told_by.{ended, clauses, Key.name as #self}
 use Rattle.thread_local_ids.proofs.rights.mark.Mark.told_by.Statement.{statement}
@@ -25,7 +26,7 @@ use Rattle.thread_local_ids.proofs.rights.mark.Mark.told_by.Code as code
 
 pub told_by_spec : {M : Type 1} → statement M
 told_by_spec 𝓤 𝓛 𝓜 𝓡 wired T L =
-    let R : RattleType = param 0 T in let En = ended T in let S : RattleType = Witness.the_row R in
+    let R : RattleType = param 0 T in let En = ended T in let S : RattleType = Token.the_row R in
     let inst = layouts (a_type ∷ []) (T, tt) in let fn = inst_fn inst code.function in let c = clauses T 𝓛 𝓜.mem 𝓡.returns in
     let lent = RefOf (1 ∷ []) tt (plain (λ _. S)) (λ _. tt) in
     let hs : Stays En.signature.params En.kept = (stay_ref (0 ∷ []) tt (plain (λ _. A)), (stay_dropped lent yes, tt)) in
@@ -45,8 +46,9 @@ told_by_spec 𝓤 𝓛 𝓜 𝓡 wired T L =
     ∷ raw (fact 𝓤 _) ∷ raw (fact 𝓤 At) ∷ raw (fact 𝓤 Says) ∷ raw (fact 𝓤 Up) ∷ []) ∵
     keep ! (2 ∷ 3 ∷ 4 ∷ 0 ∷ []) $ heard ! At (λ at. heard ! Says (λ says. heard ! Up (λ up.
     split ! $ split ! $ move ! (2 ∷ []) $ fsplit3 ! $ move ! (1 ∷ []) $ fsplit ! $
-    keep ! (1 ∷ 2 ∷ 4 ∷ 5 ∷ []) $ unhide ! $ fsplit ! $ drop ! $
-    -- [what the witness tells; self; its token; the other tokens]
+    keep ! (1 ∷ 2 ∷ 4 ∷ 5 ∷ []) $ unhide ! $
+    use1 𝓛 (‵ (token_says R w)) (token_shown R 𝓛 w a.1.0.ref_ptr.0 a.1.0.ref_ptr.1 κs.1.0) $
+    -- [what the token says; self; its token; the other tokens]
     enter ! _ _ _ _ _ $ alloc_all ! (λ l. pass_all ! refl ((tt, tt), ((tt, tt), tt)) $
     rewrite ! 0 (λ (k : ℕ). ‵ (tells R w.sharing k (Some w.value))) at refl $
     move ! (1 ∷ []) $ fsplit3 ! $ move ! (1 ∷ 2 ∷ 4 ∷ []) $ opens ! tt A b o (λ us.

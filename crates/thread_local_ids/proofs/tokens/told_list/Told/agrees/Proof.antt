@@ -1,4 +1,4 @@
--- The list's tokens of a witness's id have its value.
+-- The list's tokens of another one's id have its value.
 use Rattle.thread_local_base.proofs.Names.{sym, ◌≡◌, List, [], ◌∷◌, refl, Some, Option, a_type, named}
 use Rattle.thread_local_base.proofs.Names.{vunit, inst_fn, ‵, raw, ◌⊛◌, given, ◌$◌, ◌∵◌, ! }
 use Rattle.thread_local_base.proofs.Names.{qed, by, move, keep, drop, split, fsplit, fsplit3, fjoin, learn}
@@ -10,8 +10,9 @@ use Rattle.thread_local_base.proofs.Names.{alive, unhide, Fml}
 use Rattle.thread_local_ids.specs.Told.{tells}
 use Rattle.thread_local_ids.specs.Views.{TokenView}
 use Rattle.thread_local_ids.specs.TokenLists.{AllOf, tell_each}
-use Rattle.thread_local_ids.specs.contracts.tokens.witness.Witness as Witness
+use Rattle.thread_local_ids.specs.contracts.tokens.token.Token as Token
 use Rattle.thread_local_ids.specs.contracts.tokens.told_list.Told as Told
+use Rattle.thread_local_ids.proofs.TokenFields.{token_shown}
 use Rattle.thread_local_ids.proofs.TokenListLaws.{slot_agrees, told_shown}
 use Rattle.thread_local_ids.specs.contracts.tokens.told_list.Told.agrees.{ended, clauses, Key.name as #self}
 use Rattle.thread_local_ids.proofs.tokens.told_list.Told.agrees.Statement.{statement}
@@ -23,7 +24,7 @@ use Rattle.thread_local_ids.proofs.TwoLent.{both_stay, both_go}
 pub agrees_spec : {M : Type 1} → statement M
 agrees_spec 𝓤 𝓛 𝓜 𝓡 wired T L =
     let R : RattleType = param 0 T in let En = ended T in let S : RattleType = Told.the_row R in
-    let W : RattleType = Witness.the_row R in
+    let W : RattleType = Token.the_row R in
     let inst = layouts (a_type ∷ []) (T, tt) in let fn = inst_fn inst code.function in let c = clauses T 𝓛 𝓜.mem 𝓡.returns in
     let hs : Stays En.signature.params En.kept = both_stay S W tt tt in
     proved 𝓛 En hs c 𝓜 𝓡 (both_go S W tt tt 𝓛) (#self inst) fn (code.unfolded 𝓤 𝓛.H 𝓜 𝓡 wired (T, tt))
@@ -39,8 +40,8 @@ agrees_spec 𝓤 𝓛 𝓜 𝓡 wired T L =
     split ! $ keep ! (1 ∷ 0 ∷ []) $ fsplit3 ! $ fsplit ! $ move ! (2 ∷ []) $ fsplit ! $
     keep ! (3 ∷ 1 ∷ 5 ∷ []) $ unhide ! $
     use1 𝓛 (‵ (tell_each R ts)) (told_shown 𝓛 R ts a.0.ref_ptr.0 a.0.ref_ptr.1 κs.0) $
-    move ! (1 ∷ []) $ unhide ! $ fsplit ! $ drop ! $
-    -- [what the witness shows; what the tokens tell; the tokens]
+    move ! (1 ∷ []) $ unhide ! $ use1 𝓛 (‵ One) (token_shown R 𝓛 w a.1.0.ref_ptr.0 a.1.0.ref_ptr.1 κs.1.0) $
+    -- [what the token says; what the tokens tell; the tokens]
     use2 𝓛 (given Same (‵ One ⊛ ‵ (tell_each R ts))) (slot_agrees 𝓛 R w.sharing w.id (Some w.value) ts) $
     learn ! (λ e. split ! $ drop ! $ drop ! $
     enter ! _ _ _ _ _ $ alloc_all ! (λ l. pass_all ! refl ((tt, tt), ((tt, tt), tt)) $
