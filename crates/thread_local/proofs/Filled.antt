@@ -37,16 +37,16 @@ fills_by {V} E makes old new there filled held =
     subst (λ (value : V). Fills E makes old new value) same filled.fills
 
 -- a value that outlives the seat's borrow is the one in the slot
-pub some_lasting : {V : Type 0} (of : ThreadLocalView) (claim : ClaimView V) (before : List IdMove) (now : LocalView V)
-    (got : Option (TokenView V × Bor V)) (there : TokenView V × Bor V) → local_view of claim before ≡ now
+pub some_lasting : {V : Type 0} (of : ThreadLocalView) (claim : ClaimView V) (now : LocalView V)
+    (got : Option (TokenView V × Bor V)) (there : TokenView V × Bor V) → local_view of claim ≡ now
     → MatchOption got (IsEmpty claim.learnt) (λ x.
     (x.0.sharing ≡ claim.sharing) × (x.0.id ≡ claim.id) × (x.0.value ≡ x.1.now) × (claim.learnt ≡ Holding x.1.now))
     → got ≡ Some there
     → now.value ≡ Some there.1.now
-some_lasting {V} of claim before now (Some x) there is told some =
+some_lasting {V} of claim now (Some x) there is told some =
     sym (ap (λ (s : LocalView V). s.value) is) ∙ ap (λ (l : Learnt V). (view_of l).value) told.3
     ∙ ap (λ (o : Option (TokenView V × Bor V)). option_map (λ x. x.1.now) o) some
-some_lasting of claim before now None there is told some = absurd cc
+some_lasting of claim now None there is told some = absurd cc
 
 pub answered : {V E : Type 0} {makes : V → Type 0} {old new : LocalView V} {there : V}
     → Fills E makes old new there

@@ -8,7 +8,7 @@ use Rattle.thread_local_shared_buckets.specs.Known.{HasLooked}
 use Rattle.thread_local_shared_buckets.specs.Views.{ClaimView}
 use Rattle.thread_local_shared_buckets.specs.TableView.{TableView}
 use Rattle.thread_local.specs.Tables.{ThreadLocalView, thread_local_view}
-use Rattle.thread_local_ids.specs.Taken.{Taken, IsHeldIn}
+use Rattle.thread_local_ids.specs.declared.rights.held.HeldId.{HeldId}
 use Rattle.thread_local.specs.Locals.{IsLocalOf}
 
 -- where an id is below a number, so is the first id of its bucket
@@ -16,19 +16,17 @@ first_below : (id n : ℕ) → id < n → id_at (bucket_of id) 0 < n
 first_below id n below = let same = id_at-place id in omega arith
 
 -- an id that the ids of a table gave and the claim that its buckets answer make a `Local`
-pub makes_local : {V : Type 0} {ids : ℕ} {of : ThreadLocalView} {taken : Taken} (buckets : TableView) (room : ℕ) (claim : ClaimView V)
-    → thread_local_view buckets room ≡ of → ids ≡ buckets.table → IsHeldIn ids taken
-    → (claim.table ≡ buckets.table) × (claim.sharing ≡ buckets.sharing) × (claim.id ≡ taken.0.id)
+pub makes_local : {V : Type 0} {of : ThreadLocalView} (held : HeldId) (buckets : TableView) (room : ℕ) (claim : ClaimView V)
+    → thread_local_view buckets room ≡ of
+    → (claim.table ≡ buckets.table) × (claim.sharing ≡ buckets.sharing) × (claim.id ≡ held.id) × (claim.before ≡ held.tenure.before)
     → HasLooked claim.learnt
-    → (id_at (bucket_of taken.0.id) 0 < buckets.reserved → claim.learnt ≢ Missing)
-    → IsLocalOf of claim taken.2
-makes_local {V} {ids} {of} {taken} buckets room claim is of_one held same_slot known found =
-    subst (λ (table : ThreadLocalView). IsLocalOf table claim taken.2) is (record {
+    → (id_at (bucket_of held.id) 0 < buckets.reserved → claim.learnt ≢ Missing)
+    → IsLocalOf of claim
+makes_local {V} {of} held buckets room claim is same_slot known found =
+    subst (λ (table : ThreadLocalView). IsLocalOf table claim) is (record {
       table = same_slot.0;
       sharing = same_slot.1;
-      in_range = subst (λ n. n < 2 ^ 63 - 1) (sym same_slot.2) taken.0.in_range;
+      in_range = subst (λ n. n < 2 ^ 63 - 1) (sym same_slot.2) held.in_range;
       known = known;
-      reserved = λ below. found (first_below taken.0.id buckets.reserved (subst (λ n. n < buckets.reserved) same_slot.2 below));
-      of_table = held.tenure ∙ of_one;
-      least = same_slot.2 ∙ held.least;
+      reserved = λ below. found (first_below held.id buckets.reserved (subst (λ n. n < buckets.reserved) same_slot.2 below));
     })

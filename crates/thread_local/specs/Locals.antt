@@ -10,8 +10,6 @@ use Rattle.thread_local_base.specs.Learnt.{Missing}
 use Rattle.thread_local_ids.specs.Views.{TokenView}
 use Rattle.thread_local_base.specs.IdMoves.{IdMove, Take, Give, moves_coded, noted}
 use mathlib.Core.List.{IsPrefix}
-use Rattle.thread_local_ids.specs.declared.rights.page.Tenure.{Tenure}
-use Rattle.thread_local_ids.specs.Rights.{taken_id}
 use Rattle.thread_local_shared_buckets.specs.Known.{HasLooked}
 use Rattle.thread_local_shared_buckets.specs.Views.{ClaimView}
 use Rattle.thread_local.specs.Tables.{ThreadLocalView}
@@ -55,8 +53,8 @@ abbrev pub knowing : {V : Type 0} → LocalView V → View V → LocalView V
 knowing s view = record { table = s.table; sharing = s.sharing; id = s.id; reserved = s.reserved; value = view.value; known = view.known; before = s.before }
 
 -- the view of a claim of a table's slot
-abbrev pub local_view : {V : Type 0} → ThreadLocalView → ClaimView V → List IdMove → LocalView V
-local_view of claim before =
+abbrev pub local_view : {V : Type 0} → ThreadLocalView → ClaimView V → LocalView V
+local_view of claim =
     record {
       table = of.table;
       sharing = of.sharing;
@@ -64,7 +62,7 @@ local_view of claim before =
       reserved = of.reserved;
       value = (view_of claim.learnt).value;
       known = (view_of claim.learnt).known;
-      before = before;
+      before = claim.before;
     }
 
 -- the own value that a walk has still to give, with its id
@@ -84,15 +82,13 @@ pub record IsSameLocal {V : Type 0} (old new : LocalView V) : Type 0 where
   pub before : new.before ≡ old.before
 
 -- a `Local` of a table: its claim is of this table in this sharing, has looked for its bucket, and
--- has found it where the id is reserved. What is kept of the take is of this table and of this id
-pub record IsLocalOf {V : Type 0} (of : ThreadLocalView) (claim : ClaimView V) (tenure : Tenure) : Type 0 where
+-- has found it where the id is reserved
+pub record IsLocalOf {V : Type 0} (of : ThreadLocalView) (claim : ClaimView V) : Type 0 where
   pub table : claim.table ≡ of.table
   pub sharing : claim.sharing ≡ of.sharing
   pub in_range : claim.id < 2 ^ 63 - 1
   pub known : HasLooked claim.learnt
   pub reserved : claim.id < of.reserved → claim.learnt ≢ Missing
-  pub of_table : tenure.table ≡ of.table
-  pub least : claim.id ≡ taken_id tenure.before
 
 -- what is known of a slot that holds this value
 abbrev pub holding : {V : Type 0} → V → View V

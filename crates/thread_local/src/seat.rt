@@ -20,7 +20,7 @@ use std::default::MadeWith;
 use std::fmt;
 use std::marker::Model;
 use std::sync::Wait;
-use thread_local_ids::{Page, Tenure, Token, Told};
+use thread_local_ids::{Page, Token, Told};
 use thread_local_shared_buckets::{Claim, Iter, Tokens};
 
 // `get_or` and `get_or_default` stand in seat/lends.rt.
@@ -47,7 +47,6 @@ mod lends;
 pub struct Seat<'a, T> {
     pub(crate) table: &'a ThreadLocal<T>,
     pub(crate) claim: Claim<'a, T>,
-    pub(crate) tenure: Tenure,
 }
 
 impl<'a, T> Model for Seat<'a, T> {
@@ -57,9 +56,9 @@ impl<'a, T> Model for Seat<'a, T> {
 
     ghost coded = { local_view_coded T.code };
 
-    ghost view = { λ seat. local_view seat.table.now seat.claim seat.tenure.before };
+    ghost view = { λ seat. local_view seat.table.now seat.claim };
 
-    ghost invariant = { λ seat. IsLocalOf seat.table.now seat.claim seat.tenure };
+    ghost invariant = { λ seat. IsLocalOf seat.table.now seat.claim };
 }
 
 impl<'a, T> Seat<'a, T> {
@@ -114,7 +113,7 @@ impl<'a, T> Seat<'a, T> {
     pub fn page(&self) -> Page
         ensures { (result.table ≡ self.now.table) × (result.moves ≡ noted self.now.before Take) }
     {
-        self.tenure.page()
+        self.claim.page()
     }
 
     /// Shows that of two seats of one table one was taken before the other. At run time it does
@@ -134,7 +133,7 @@ impl<'a, T> Seat<'a, T> {
         ensures held { is_held (held_after page.moves) self.old.id ≡ true }
         ensures same { self.new ≡ self.old }
     {
-        self.tenure.held_at(page);
+        self.claim.held_at(page);
     }
 
     /// Gives the id back to its table, from 58 on under the lock, and answers the page that ends with
@@ -145,13 +144,8 @@ impl<'a, T> Seat<'a, T> {
         ensures left { IsFirst self.entry.sharing self.entry.table
             → published_in result.moves self.entry.id ≡ left_of T.row self.entry.value }
     {
-        let Self {
-            table,
-            claim,
-            tenure,
-        } = self;
-        let (held, right) = claim.give_up();
-        table.ids.give(rt, held, right, tenure)
+        let Self { table, claim } = self;
+        table.ids.give(rt, claim.give_up())
     }
 
     /// Whether the slot is one of the table's reserved slots. If so, the `get_or` family is never

@@ -242,11 +242,10 @@ impl<T> ThreadLocal<T> {
         a_value_left_is_found::<T>();
         // That the page says the room of this table.
         self.first.in_line(page);
-        let (held, right, tenure) = self.ids.take(rt, page)?;
+        let held = self.ids.take(rt, page)?;
         let seat = Seat {
             table: self,
-            claim: self.buckets.claim(held, right, tenure.reached()),
-            tenure,
+            claim: self.buckets.claim(held),
         };
         let by = By {
             rt,
@@ -260,7 +259,7 @@ impl<T> ThreadLocal<T> {
         ensures reserved { self.old.reserved ≤ result }
         ensures same { self.new ≡ self.old }
     {
-        self.buckets.slots_reached(&Told::new()).0
+        self.buckets.slots_reached(&self.first, &Told::new()).0
     }
 
     /// How many slots the table's buckets have together, and the most ids that were held at once
@@ -283,10 +282,11 @@ impl<T> ThreadLocal<T> {
         ensures peak { result.1 ≡ length (held_after page.new.moves) }
         ensures shown { length (held_after page.old.moves) ≤ result.1 }
     {
-        let (slots, reached) = self.buckets.slots_reached(told);
+        let (slots, seen) = self.buckets.slots_reached(page, told);
+        *page = seen;
         // That a later page has no lower peak.
         a_history_leaves_ids_held();
-        (slots, self.ids.peak(rt, reached, page))
+        (slots, self.ids.peak(rt, page))
     }
 
     /// The values by ascending id, each lent as `&mut`. It is the walk `iter_mut` of the buckets

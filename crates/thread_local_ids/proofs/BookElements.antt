@@ -19,7 +19,7 @@ use Rattle.thread_local_ids.specs.Told.{told_of, tells, rows_tell}
 use Rattle.thread_local_ids.specs.Sharings.{Sharing, first_of, is_first, left_of}
 use Rattle.thread_local_ids.proofs.NotedElements.{at_alike}
 use Rattle.thread_local_ids.proofs.NoteElements.{noted_out, note_taken}
-use Rattle.thread_local_ids.proofs.MarkElements.{tells_note}
+use Rattle.thread_local_ids.proofs.ToldNotes.{tells_note}
 use Rattle.thread_local_ids.proofs.ToldElements.{first_is, first_only}
 use Rattle.thread_local_ids.proofs.Rows.{contents_tell}
 use Rattle.thread_local_base.proofs.Signs.{signs}

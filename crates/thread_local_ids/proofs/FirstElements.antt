@@ -1,7 +1,7 @@
 -- What lies with the word of the first ids: how each step on the word changes it. Assumes `Logic`.
 use Rattle.std.proofs.Common.{◌≡◌, ℕ, ◌+◌, ◌-◌, ◌*◌, ◌/◌, ◌%◌, ◌^◌, ◌<◌, ◌≤◌, ◌==◌, ◌&&◌, Bool, true, false, List, [], ◌∷◌, length}
 use Rattle.std.proofs.Common.{if◌then◌else◌, refl, sym, ap, subst, ◌∙◌, arith, min, eqb}
-use Rattle.std.proofs.lemmas.Bool.{ne_eqb, eqb-true}
+use Rattle.std.proofs.lemmas.Bool.{eqb-true}
 use mathlib.Core.List.{IsPrefix}
 use seplogic.Ra.Ura.{Ura}
 use base.Logic.{upd, upd_i, guard, id⊢}
@@ -21,7 +21,7 @@ use Rattle.std.proofs.Common.{◌||◌, Option, None, Some, is_some}
 use base.Stored.{Gv}
 use Rattle.thread_local_base.specs.IdMoves.{IdMove, Take, Give, held_after, noted, published_in}
 use Rattle.thread_local_ids.proofs.NoteElements.{publishing, publishing_by, noted_out, noted_back, note_taken, note_given, all_more}
-use Rattle.thread_local_ids.proofs.NoteElements.{marked_keyless, all_noted_keyless}
+use Rattle.thread_local_ids.proofs.NoteElements.{note_keyless, all_noted_keyless}
 use Rattle.thread_local_ids.proofs.NoteLaws.{noted_taken, noted_given, beside_notes, held_publishing, out_noted, out_noted_back}
 use Rattle.thread_local_ids.proofs.NoteLaws.{early_publishing, left_stays}
 use Rattle.thread_local_base.specs.SharedWord.{word_invariant}
@@ -29,11 +29,11 @@ use Rattle.thread_local_base.proofs.HeldLaws.{least_free, is_held-without, lengt
 use Rattle.thread_local_base.proofs.IdMoveLaws.{after_take, after_give}
 use Rattle.thread_local_base.proofs.SharedWord.{stepped}
 use Rattle.thread_local_base.proofs.Signs.{signs}
-use Rattle.thread_local_ids.specs.Rights.{is_out, less, right_owns, rights_own, history_owns, page_owns, tenure_of, taken_id}
+use Rattle.thread_local_ids.specs.Rights.{is_out, less, right_owns, right_with, rights_own, history_owns, page_owns, tenure_of, taken_id}
 use Rattle.thread_local_ids.specs.Rights.{note_key, note_owns, all_noted, AreNotedOut}
 use Rattle.thread_local_ids.specs.FirstIds.{IsWordOf, IsSameBeyond, IsGivenBeyond, HasFurther, AreOutOf, IsTiedTo, IsReturn, Kept, is_full, word_with}
 use Rattle.thread_local_ids.specs.Returns.{gives as times_given}
-use Rattle.thread_local_ids.specs.FirstIds.{log_key, log_owns, ledger_owns, marked, kept_with, lies_with, tried_owns}
+use Rattle.thread_local_ids.specs.FirstIds.{log_key, log_owns, ledger_owns, kept_with, lies_with, tried_owns}
 use Rattle.thread_local_ids.proofs.FirstLaws as laws
 use Rattle.thread_local_ids.proofs.Logs.{O, halved, joined, agree, grown}
 use Rattle.thread_local_ids.proofs.MoveElements.{note_take, note_give, note_publish, page_of, page_is_early}
@@ -91,7 +91,7 @@ module _ {M : Type 1} {𝓤 : Ura M} (𝓛 : Logic 𝓤) where
   -- ---- taking and giving back
   -- which rights are out once the least id is taken
   abbrev out_of : List IdMove → List ℕ → List ℕ
-  out_of moves out = noted_out (published_in moves (taken_id moves)) (taken_id moves) ((taken_id moves + 2 ^ 63) ∷ taken_id moves ∷ out)
+  out_of moves out = noted_out (published_in moves (taken_id moves)) (taken_id moves) (taken_id moves ∷ out)
 
   -- the rights of the least id go out, with its note, and its take is noted
   taken : (γ : GName) (moves : List IdMove) (out : List ℕ) → AreOutOf out (held_after moves) → AreNotedOut out moves
@@ -100,14 +100,11 @@ module _ {M : Type 1} {𝓤 : Ura M} (𝓛 : Logic 𝓤) where
       ⊢ upd 𝓤 (⟦ tried_owns γ moves true ⟧ ∗ ⟦ ledger_owns γ (noted moves Take) ⟧ ∗ ⟦ rights_own γ (out_of moves out) ⟧)
   taken γ moves out are notes low =
       let id : ℕ = taken_id moves in
-      let mark : ℕ = id + 2 ^ 63 in
       let v : Option Gv = published_in moves id in
       let more : List IdMove = noted moves Take in
       let out' : List ℕ = out_of moves out in
-      let free : is_out out id ≡ false = (are id low).0 ∙ least_free (held_after moves) in
-      let mark_free : is_out (id ∷ out) mark ≡ false =
-      rw (ne_eqb id mark (λ e. absurd (omega (arith, e)))) ((are id low).1 ∙ least_free (held_after moves)) in
-      let note_free : is_out (mark ∷ id ∷ out) (note_key id) ≡ is_some v =
+      let free : is_out out id ≡ false = are id low ∙ least_free (held_after moves) in
+      let note_free : is_out (id ∷ out) (note_key id) ≡ is_some v =
       beside_notes out id id low ∙ notes id low ∙ ap (λ (b : Bool). b || is_some v) (least_free (held_after moves)) in
       let Z = ⟦ tried_owns γ moves true ⟧ ∗ ⟦ ledger_owns γ more ⟧ ∗ ⟦ rights_own γ out' ⟧ in
       qed 𝓛 (‵ (ledger_owns γ moves) ∷ ‵ (rights_own γ out) ∷ []) ∵ fsplit ! $
@@ -115,15 +112,13 @@ module _ {M : Type 1} {𝓤 : Ura M} (𝓛 : Logic 𝓤) where
       settle 𝓛 Z (‵ (tenure_of γ moves) ⊛ ‵ (history_owns γ more)) $ suffices ! _ (upd_i 𝓤 Z) $ split ! $
       -- [the tenure; the history; what is noted; the rights]
       move ! (3 ∷ []) $ use1 𝓛 (‵ (right_owns γ id) ⊛ ‵ (rights_own γ (id ∷ out))) (rights_cut 𝓛 γ out id (omega (arith, low)) free) $ split ! $
-      move ! (1 ∷ []) $ use1 𝓛 (‵ (right_owns γ mark) ⊛ ‵ (rights_own γ (mark ∷ id ∷ out)))
-      (rights_cut 𝓛 γ (id ∷ out) mark (omega (arith, low)) mark_free) $ split ! $
-      -- [the mark; the rights; the right; the tenure; the history; what is noted]
-      move ! (1 ∷ 5 ∷ []) $
-      use2 𝓛 (‵ (note_owns γ id v) ⊛ ‵ (rights_own γ out') ⊛ ‵ (all_noted γ moves)) (note_taken 𝓛 γ moves (mark ∷ id ∷ out) id v low refl note_free) $
+      -- [the right; the rights; the tenure; the history; what is noted]
+      move ! (1 ∷ 4 ∷ []) $
+      use2 𝓛 (‵ (note_owns γ id v) ⊛ ‵ (rights_own γ out') ⊛ ‵ (all_noted γ moves)) (note_taken 𝓛 γ moves (id ∷ out) id v low refl note_free) $
       split3 ! $
-      -- [the note; the rights; what is noted; the mark; the right; the tenure; the history]
-      move ! (3 ∷ 0 ∷ []) $ fjoin ! $ move ! (3 ∷ 0 ∷ []) $ fjoin ! $
-      -- [the rights to the id; the rights; what is noted; the tenure; the history]
+      -- [the note; the rights; what is noted; the right; the tenure; the history]
+      move ! (3 ∷ 0 ∷ []) $ fjoin ! $
+      -- [the right with its note; the rights; what is noted; the tenure; the history]
       move ! (0 ∷ 3 ∷ []) $ fjoin ! $ frame ! $
       -- [the rights; what is noted; the history]
       nothing ! $ use1 𝓛 (‵ (all_noted γ (Take ∷ []))) (id⊢ 𝓤 _) $ move ! (2 ∷ 0 ∷ []) $
@@ -140,34 +135,34 @@ module _ {M : Type 1} {𝓤 : Ura M} (𝓛 : Logic 𝓤) where
       at None = note_publish 𝓛 γ moves id g
       at (Some h) = upd_i 𝓤 ⟦ history_owns γ moves ⟧
 
+  -- what comes back with an id: the right with what its slot is left with, and the tenure
+  abbrev pub gone : GName → List IdMove → ℕ → Option Gv → Fml
+  gone γ before id left = fsep (right_with γ id left) (tenure_of γ before)
+
   -- the rights to an id that was taken come back, with what its slot is left with, and its return is noted
-  given_back : (γ : GName) (moves before : List IdMove) (out : List ℕ) (id mark : ℕ) (left : Option Gv) → AreOutOf out (held_after moves)
-      → id < 2 ^ 63 - 1 → id ≡ taken_id before → mark ≡ id
-      → ⟦ ledger_owns γ moves ⟧ ∗ ⟦ rights_own γ out ⟧ ∗ ⟦ right_owns γ id ⟧ ∗ ⟦ marked γ mark left true ⟧ ∗ ⟦ tenure_of γ before ⟧
+  given_back : (γ : GName) (moves before : List IdMove) (out : List ℕ) (id : ℕ) (left : Option Gv) → AreOutOf out (held_after moves)
+      → id < 2 ^ 63 - 1 → id ≡ taken_id before
+      → ⟦ ledger_owns γ moves ⟧ ∗ ⟦ rights_own γ out ⟧ ∗ ⟦ gone γ before id left ⟧
       ⊢ guard 𝓤 ((is_held (held_after moves) id ≡ true) × IsPrefix (noted before Take) moves × (published_in (publishing moves id left) id ≡ left))
       (upd 𝓤 (⟦ page_owns γ (noted (publishing moves id left) (Give id)) ⟧ ∗ ⟦ ledger_owns γ (noted (publishing moves id left) (Give id)) ⟧
-      ∗ ⟦ rights_own γ (noted_back left id (less (less out id) (id + 2 ^ 63))) ⟧))
-  given_back γ moves before out id mark left are low is mark_is =
-      let own : ℕ = id + 2 ^ 63 in
+      ∗ ⟦ rights_own γ (noted_back left id (less out id)) ⟧))
+  given_back γ moves before out id left are low is =
       let since : List IdMove = publishing moves id left in
       let more : List IdMove = noted since (Give id) in
       let early : Type 0 = IsPrefix (noted before Take) moves in
-      let gone : List ℕ = less (less out id) own in
-      let Says : Type 0 = (published_in since id ≡ left) × (is_some left ≡ false → is_out gone (note_key id) ≡ true) in
-      let Z = ⟦ page_owns γ more ⟧ ∗ ⟦ ledger_owns γ more ⟧ ∗ ⟦ rights_own γ (noted_back left id gone) ⟧ in
-      qed 𝓛 (‵ (ledger_owns γ moves) ∷ ‵ (rights_own γ out) ∷ ‵ (right_owns γ id) ∷ ‵ (marked γ mark left true)
-      ∷ ‵ (tenure_of γ before) ∷ []) ∵
-      move ! (2 ∷ 1 ∷ []) $
-      use2 𝓛 (given (is_out out id ≡ true) (‵ (rights_own γ (less out id)))) (rights_join 𝓛 γ out id (omega (arith, low))) $
+      let back : List ℕ = less out id in
+      let Says : Type 0 = (published_in since id ≡ left) × (is_some left ≡ false → is_out back (note_key id) ≡ true) in
+      let Z = ⟦ page_owns γ more ⟧ ∗ ⟦ ledger_owns γ more ⟧ ∗ ⟦ rights_own γ (noted_back left id back) ⟧ in
+      qed 𝓛 (‵ (ledger_owns γ moves) ∷ ‵ (rights_own γ out) ∷ ‵ (gone γ before id left) ∷ []) ∵
+      move ! (2 ∷ []) $ fsplit ! $ fsplit ! $
+      -- [the right; its note; the tenure; the ledger; the rights]
+      move ! (0 ∷ 4 ∷ []) $
+      use2 𝓛 (given (is_out out id ≡ true) (‵ (rights_own γ back))) (rights_join 𝓛 γ out id (omega (arith, low))) $
       learn ! (λ off.
-      -- [the rights; the ledger; the mark with its note; the tenure]
-      move ! (2 ∷ []) $ rewrite ! 0 (λ (k : ℕ). ‵ (marked γ k left true)) mark_is refl $ fsplit ! $ move ! (0 ∷ 2 ∷ []) $
-      use2 𝓛 (given (is_out (less out id) own ≡ true) (‵ (rights_own γ gone))) (rights_join 𝓛 γ (less out id) own (omega (arith, low))) $
-      learn ! (λ _.
-      let held : is_held (held_after moves) id ≡ true = sym (are id low).0 ∙ off in
-      -- [the rights; the note; the ledger; the tenure]
-      move ! (2 ∷ []) $ fsplit ! $ move ! (2 ∷ 1 ∷ 3 ∷ []) $
-      use3 𝓛 (given Says (‵ (rights_own γ (noted_back left id gone)) ⊛ ‵ (all_noted γ since))) (note_given 𝓛 γ moves gone id left low) $
+      let held : is_held (held_after moves) id ≡ true = sym (are id low) ∙ off in
+      -- [the rights; the note; the tenure; the ledger]
+      move ! (3 ∷ []) $ fsplit ! $ move ! (2 ∷ 1 ∷ 3 ∷ []) $
+      use3 𝓛 (given Says (‵ (rights_own γ (noted_back left id back)) ⊛ ‵ (all_noted γ since))) (note_given 𝓛 γ moves back id left low) $
       learn ! (λ says. split ! $
       -- [the rights; what is noted; the history; the tenure]
       move ! (3 ∷ []) $ fsplit ! $ move ! (4 ∷ 0 ∷ []) $
@@ -180,7 +175,7 @@ module _ {M : Type 1} {𝓤 : Ura M} (𝓛 : Logic 𝓤) where
       settle 𝓛 Z (‵ (page_owns γ more) ⊛ ‵ (history_owns γ more)) $ suffices ! _ (upd_i 𝓤 Z) $ split ! $ frame ! $
       -- [the history; the rights; what is noted]
       nothing ! $ use1 𝓛 (‵ (all_noted γ (Give id ∷ []))) (id⊢ 𝓤 _) $ move ! (3 ∷ 0 ∷ []) $
-      use2 𝓛 (‵ (all_noted γ more)) (all_more 𝓛 γ since (Give id ∷ [])) $ move ! (1 ∷ 0 ∷ []) $ fjoin ! $ done !))))
+      use2 𝓛 (‵ (all_noted γ more)) (all_more 𝓛 γ since (Give id ∷ [])) $ move ! (1 ∷ 0 ∷ []) $ fjoin ! $ done !)))
 
   -- ---- what a step on the word changes
   abbrev pub took : GName → ℕ → List IdMove → Fml
@@ -205,9 +200,9 @@ module _ {M : Type 1} {𝓤 : Ura M} (𝓛 : Logic 𝓤) where
       let out' : List ℕ = out_of moves out in
       let tied' : IsTiedTo (word_with n id) more out' log = record {
         word = subst (IsWordOf (word_with n id)) (sym now) (laws.word_taken n id (held_after moves) tied.word low first);
-        rights = subst (AreOutOf out') (sym now) (out_noted ((taken_id moves + 2 ^ 63) ∷ taken_id moves ∷ out) (with_least (held_after moves))
-            (taken_id moves) (published_in moves (taken_id moves)) range
-            (laws.out_taken out (held_after moves) (taken_id moves) tied.rights refl range));
+        rights = subst (AreOutOf out') (sym now) (out_noted (taken_id moves ∷ out) (with_least (held_after moves))
+            (taken_id moves) (published_in moves (taken_id moves))
+            (laws.out_taken out (held_after moves) (taken_id moves) tied.rights refl));
         notes = noted_taken out moves (taken_id moves) (published_in moves (taken_id moves)) tied.notes refl range refl;
         beyond = subst (IsSameBeyond (held_after log)) (sym now) (laws.beyond_taken (held_after log) (held_after moves) tied.beyond least_low);
         peak = tied.peak ∙ sym (ap (λ (h : List Bool). length h - 58) now ∙ laws.peak_taken (held_after moves) least_low);
@@ -295,9 +290,9 @@ module _ {M : Type 1} {𝓤 : Ura M} (𝓛 : Logic 𝓤) where
       } in
       let tied' : IsTiedTo n more out' more = record {
         word = subst (IsWordOf n) (sym now) (laws.word_stays n held (with_least held) tied.word (laws.low_taken held high) (laws.low_peak held high));
-        rights = subst (AreOutOf out') (sym now) (out_noted ((taken_id moves + 2 ^ 63) ∷ taken_id moves ∷ out) (with_least held)
-            (taken_id moves) (published_in moves (taken_id moves)) range
-            (laws.out_taken out held (taken_id moves) tied.rights refl range));
+        rights = subst (AreOutOf out') (sym now) (out_noted (taken_id moves ∷ out) (with_least held)
+            (taken_id moves) (published_in moves (taken_id moves))
+            (laws.out_taken out held (taken_id moves) tied.rights refl));
         notes = noted_taken out moves (taken_id moves) (published_in moves (taken_id moves)) tied.notes refl range refl;
         beyond = λ id further. refl;
         peak = refl;
@@ -352,16 +347,13 @@ module _ {M : Type 1} {𝓤 : Ura M} (𝓛 : Logic 𝓤) where
   abbrev pub returned : GName → List IdMove → ℕ → Option Gv → Fml
   returned γ before id left = fex (List IdMove) (λ more. fsep (fact (Returned before id left more)) (page_owns γ more))
 
-  abbrev pub gone : GName → List IdMove → ℕ → ℕ → Option Gv → Fml
-  gone γ before id mark left = fsep (right_owns γ id) (fsep (marked γ mark left true) (tenure_of γ before))
-
-  pub gives_first : (γ : GName) (n k id mark : ℕ) (before : List IdMove) (left : Option Gv) → id < 58 → k ≡ 64 * 2 ^ id % 2 ^ 64
-      → id ≡ taken_id before → mark ≡ id
-      → ⟦ lies_with γ n ⟧ ∗ ⟦ gone γ before id mark left ⟧ ⊢ upd 𝓤 (⟦ lies_with γ ((n + (2 ^ 64 - k)) % 2 ^ 64) ⟧ ∗ ⟦ returned γ before id left ⟧)
-  gives_first γ n k id mark before left first k_is is mark_is =
+  pub gives_first : (γ : GName) (n k id : ℕ) (before : List IdMove) (left : Option Gv) → id < 58 → k ≡ 64 * 2 ^ id % 2 ^ 64
+      → id ≡ taken_id before
+      → ⟦ lies_with γ n ⟧ ∗ ⟦ gone γ before id left ⟧ ⊢ upd 𝓤 (⟦ lies_with γ ((n + (2 ^ 64 - k)) % 2 ^ 64) ⟧ ∗ ⟦ returned γ before id left ⟧)
+  gives_first γ n k id before left first k_is is =
       let n' : ℕ = (n + (2 ^ 64 - k)) % 2 ^ 64 in
       let Z = ⟦ lies_with γ n' ⟧ ∗ ⟦ returned γ before id left ⟧ in
-      qed 𝓛 (‵ (lies_with γ n) ∷ ‵ (gone γ before id mark left) ∷ []) ∵
+      qed 𝓛 (‵ (lies_with γ n) ∷ ‵ (gone γ before id left) ∷ []) ∵
       fpick ! (λ s. fsplit3 ! $ move ! (2 ∷ []) $ fsplit ! $ move ! (1 ∷ []) $
       let moves : List IdMove = s.0 in
       let out : List ℕ = s.1.0 in
@@ -369,7 +361,7 @@ module _ {M : Type 1} {𝓤 : Ura M} (𝓛 : Logic 𝓤) where
       let since : List IdMove = publishing moves id left in
       let more : List IdMove = noted since (Give id) in
       let held : List Bool = held_after moves in
-      let out' : List ℕ = noted_back left id (less (less out id) (id + 2 ^ 63)) in
+      let out' : List ℕ = noted_back left id (less out id) in
       let range : id < 2 ^ 63 - 1 = omega (arith, first) in
       let now : held_after more ≡ without held id = after_give since id ∙ ap (λ h. without h id) (held_publishing moves id left) in
       let later : IsPrefix moves more = O.trans moves since more (early_publishing moves id left) (Give id ∷ [], refl) in
@@ -377,13 +369,13 @@ module _ {M : Type 1} {𝓤 : Ura M} (𝓛 : Logic 𝓤) where
       -- [the fact; the log; the history; the rights; what comes back]
       fpick ! (λ tied. drop ! $ move ! (1 ∷ 2 ∷ 3 ∷ []) $
       use3 𝓛 (given Held (raw (upd 𝓤 (⟦ page_owns γ more ⟧ ∗ ⟦ ledger_owns γ more ⟧ ∗ ⟦ rights_own γ out' ⟧))))
-      (given_back γ moves before out id mark left tied.rights range is mark_is) $ learn ! (λ so.
+      (given_back γ moves before out id left tied.rights range is) $ learn ! (λ so.
       let plain : k ≡ 64 * 2 ^ id = k_is ∙ laws.bit_in_word id first in
       let tied' : IsTiedTo n' more out' log = record {
         word = subst (IsWordOf n') (sym now) (subst (λ (j : ℕ). IsWordOf ((n + (2 ^ 64 - j)) % 2 ^ 64) (without held id)) (sym plain)
             (laws.word_given n id held tied.word first so.0));
-        rights = subst (AreOutOf out') (sym now) (out_noted_back (less (less out id) (id + 2 ^ 63)) (without held id) id left
-            (laws.out_given out held id tied.rights range));
+        rights = subst (AreOutOf out') (sym now) (out_noted_back (less out id) (without held id) id left
+            (laws.out_given out held id tied.rights));
         notes = noted_given out moves id left tied.notes range so.0 so.2;
         beyond = subst (IsSameBeyond (held_after log)) (sym now) (laws.beyond_given (held_after log) held id tied.beyond first);
         peak = tied.peak ∙ sym (ap (λ (h : List Bool). length h - 58) now ∙ ap (λ (j : ℕ). j - 58) (length-without held id));
@@ -408,20 +400,20 @@ module _ {M : Type 1} {𝓤 : Ura M} (𝓛 : Logic 𝓤) where
   returned_further γ before log id left =
       fex (List IdMove) (λ more. fsep (fact (ReturnedFurther before log id left more)) (fsep (page_owns γ more) (log_owns γ false more)))
 
-  pub gives_further : (γ : GName) (n id mark : ℕ) (before log : List IdMove) (left : Option Gv) → 58 ≤ id → id < 2 ^ 63 - 1
-      → id ≡ taken_id before → mark ≡ id
-      → ⟦ lies_with γ n ⟧ ∗ ⟦ fsep (log_owns γ false log) (gone γ before id mark left) ⟧
+  pub gives_further : (γ : GName) (n id : ℕ) (before log : List IdMove) (left : Option Gv) → 58 ≤ id → id < 2 ^ 63 - 1
+      → id ≡ taken_id before
+      → ⟦ lies_with γ n ⟧ ∗ ⟦ fsep (log_owns γ false log) (gone γ before id left) ⟧
       ⊢ upd 𝓤 (⟦ lies_with γ n ⟧ ∗ ⟦ returned_further γ before log id left ⟧)
-  gives_further γ n id mark before log left further range is mark_is =
+  gives_further γ n id before log left further range is =
       let Z = ⟦ lies_with γ n ⟧ ∗ ⟦ returned_further γ before log id left ⟧ in
-      qed 𝓛 (‵ (lies_with γ n) ∷ ‵ (fsep (log_owns γ false log) (gone γ before id mark left)) ∷ []) ∵
+      qed 𝓛 (‵ (lies_with γ n) ∷ ‵ (fsep (log_owns γ false log) (gone γ before id left)) ∷ []) ∵
       fpick ! (λ s. fsplit3 ! $ move ! (2 ∷ []) $ fsplit ! $ move ! (1 ∷ []) $
       let moves : List IdMove = s.0 in
       let out : List ℕ = s.1.0 in
       let since : List IdMove = publishing moves id left in
       let more : List IdMove = noted since (Give id) in
       let held : List Bool = held_after moves in
-      let out' : List ℕ = noted_back left id (less (less out id) (id + 2 ^ 63)) in
+      let out' : List ℕ = noted_back left id (less out id) in
       let now : held_after more ≡ without held id = after_give since id ∙ ap (λ h. without h id) (held_publishing moves id left) in
       let later : IsPrefix moves more = O.trans moves since more (early_publishing moves id left) (Give id ∷ [], refl) in
       let Held : Type 0 = (is_held held id ≡ true) × IsPrefix (noted before Take) moves × (published_in since id ≡ left) in
@@ -434,12 +426,12 @@ module _ {M : Type 1} {𝓤 : Ura M} (𝓛 : Logic 𝓤) where
       settle 𝓛 Z (‵ (log_owns γ false more) ⊛ ‵ (log_owns γ false more)) $ split ! $
       move ! (3 ∷ 4 ∷ 2 ∷ []) $
       use3 𝓛 (given Held (raw (upd 𝓤 (⟦ page_owns γ more ⟧ ∗ ⟦ ledger_owns γ more ⟧ ∗ ⟦ rights_own γ out' ⟧))))
-      (given_back γ moves before out id mark left tied.rights range is mark_is) $ learn ! (λ so.
+      (given_back γ moves before out id left tied.rights range is) $ learn ! (λ so.
       let tied' : IsTiedTo n more out' more = record {
         word = subst (IsWordOf n) (sym now) (laws.word_stays n held (without held id) tied.word (laws.low_given held id further)
             (ap (min 58) (length-without held id)));
-        rights = subst (AreOutOf out') (sym now) (out_noted_back (less (less out id) (id + 2 ^ 63)) (without held id) id left
-            (laws.out_given out held id tied.rights range));
+        rights = subst (AreOutOf out') (sym now) (out_noted_back (less out id) (without held id) id left
+            (laws.out_given out held id tied.rights));
         notes = noted_given out moves id left tied.notes range so.0 so.2;
         beyond = λ j _. refl;
         peak = refl;
@@ -495,19 +487,19 @@ module _ {M : Type 1} {𝓤 : Ura M} (𝓛 : Logic 𝓤) where
         (fsep (page_owns γ seen) (log_owns γ false log)) (λ n.
         looks_if γ n seen log (takes && is_full n) (λ both. (laws.both_right takes (is_full n) both, has (laws.both_left takes (is_full n) both))))
 
-    pub gives : (k id mark : ℕ) (before : List IdMove) (left : Option Gv) → id < 58 → k ≡ 64 * 2 ^ id % 2 ^ 64 → id ≡ taken_id before → mark ≡ id
-        → A.inv (fbor κ I) ∗ (A.lft κ q ∗ ⟦ gone γ before id mark left ⟧)
+    pub gives : (k id : ℕ) (before : List IdMove) (left : Option Gv) → id < 58 → k ≡ 64 * 2 ^ id % 2 ^ 64 → id ≡ taken_id before
+        → A.inv (fbor κ I) ∗ (A.lft κ q ∗ ⟦ gone γ before id left ⟧)
         ⊢ asks 𝓛 (block_ptr b (o + 0)) (λ n. (n + (2 ^ 64 - k)) % 2 ^ 64) always (λ n. fsep (flft κ q) (returned γ before id left))
-    gives k id mark before left first k_is is mark_is =
-        stepped 𝓛 (lies_with γ) b (o + 0) κ q (λ n. (n + (2 ^ 64 - k)) % 2 ^ 64) (λ _. returned γ before id left) (gone γ before id mark left)
-        (λ n. gives_first γ n k id mark before left first k_is is mark_is)
+    gives k id before left first k_is is =
+        stepped 𝓛 (lies_with γ) b (o + 0) κ q (λ n. (n + (2 ^ 64 - k)) % 2 ^ 64) (λ _. returned γ before id left) (gone γ before id left)
+        (λ n. gives_first γ n k id before left first k_is is)
 
-    pub gives_under_lock : (id mark : ℕ) (before log : List IdMove) (left : Option Gv) → 58 ≤ id → id < 2 ^ 63 - 1 → id ≡ taken_id before → mark ≡ id
-        → A.inv (fbor κ I) ∗ (A.lft κ q ∗ ⟦ fsep (log_owns γ false log) (gone γ before id mark left) ⟧)
+    pub gives_under_lock : (id : ℕ) (before log : List IdMove) (left : Option Gv) → 58 ≤ id → id < 2 ^ 63 - 1 → id ≡ taken_id before
+        → A.inv (fbor κ I) ∗ (A.lft κ q ∗ ⟦ fsep (log_owns γ false log) (gone γ before id left) ⟧)
         ⊢ asks 𝓛 (block_ptr b (o + 0)) (λ n. n) always (λ n. fsep (flft κ q) (returned_further γ before log id left))
-    gives_under_lock id mark before log left further range is mark_is =
+    gives_under_lock id before log left further range is =
         stepped 𝓛 (lies_with γ) b (o + 0) κ q (λ n. n) (λ _. returned_further γ before log id left)
-        (fsep (log_owns γ false log) (gone γ before id mark left)) (λ n. gives_further γ n id mark before log left further range is mark_is)
+        (fsep (log_owns γ false log) (gone γ before id left)) (λ n. gives_further γ n id before log left further range is)
 
 pub log_keyless : (γ : GName) (whole : Bool) (log : List IdMove) → Keyless (log_owns γ whole log)
 unfolding log_owns
@@ -519,7 +511,7 @@ lies_keyless γ n s =
 
 pub tried_keyless : (γ : ℕ) (moves : List IdMove) (took : Bool) → Keyless (tried_owns γ moves took)
 tried_keyless γ moves true = (
-  (right_keyless γ (taken_id moves), marked_keyless γ (taken_id moves) (published_in moves (taken_id moves)) true),
+  (right_keyless γ (taken_id moves), note_keyless γ (taken_id moves) (published_in moves (taken_id moves))),
   (page_keyless γ (noted moves Take), held_keyless γ (taken_id moves) (times_given moves (taken_id moves))),
 )
 tried_keyless γ moves false = page_keyless γ moves

@@ -187,42 +187,16 @@ full_least held full =
     (cases_lt (least held) 58)
 
 -- ---- the rights
-pub out_taken : (out : List ℕ) (held : List Bool) (id : ℕ) → AreOutOf out held → id ≡ least held → id < 2 ^ 63 - 1
-    → AreOutOf ((id + 2 ^ 63) ∷ id ∷ out) (with_least held)
-out_taken out held id are is low j inside = (
-  rw (ne_eqb (id + 2 ^ 63) j (λ e. absurd (omega (arith, e, inside))))
-      (ap (cond (eqb id j) true) (are j inside).0
-      ∙ ap (λ (k : ℕ). cond (eqb k j) true (is_held held j)) is
-      ∙ sym (is_held-with_least held j)),
-  ⊎_elim
-      (λ (same : id ≡ j).
-      rw (eq-eqb (id + 2 ^ 63) (j + 2 ^ 63) (omega (arith, same)))
-      (sym (is_held-with_least held j ∙ rw (eq-eqb (least held) j (sym is ∙ same)) refl)))
-      (λ (apart : id ≢ j).
-      rw (ne_eqb (id + 2 ^ 63) (j + 2 ^ 63) (λ e. apart (omega (arith, e))))
-      (rw (ne_eqb id (j + 2 ^ 63) (λ e. absurd (omega (arith, e, low))))
-      ((are j inside).1 ∙ sym (is_held-with_least held j ∙ rw (ne_eqb (least held) j (λ e. apart (is ∙ e))) refl))))
-      (cases_eq id j),
-)
+pub out_taken : (out : List ℕ) (held : List Bool) (id : ℕ) → AreOutOf out held → id ≡ least held
+    → AreOutOf (id ∷ out) (with_least held)
+out_taken out held id are is j inside =
+    ap (cond (eqb id j) true) (are j inside)
+    ∙ ap (λ (k : ℕ). cond (eqb k j) true (is_held held j)) is
+    ∙ sym (is_held-with_least held j)
 
-pub out_given : (out : List ℕ) (held : List Bool) (id : ℕ) → AreOutOf out held → id < 2 ^ 63 - 1
-    → AreOutOf (less (less out id) (id + 2 ^ 63)) (without held id)
-out_given out held id are low j inside = (
-  is_out-less (less out id) (id + 2 ^ 63) j
-      ∙ rw (ne_eqb (id + 2 ^ 63) j (λ e. absurd (omega (arith, e, inside))))
-      (is_out-less out id j ∙ ap (cond (eqb id j) false) (are j inside).0 ∙ sym (is_held-without held id j)),
-  is_out-less (less out id) (id + 2 ^ 63) (j + 2 ^ 63)
-      ∙ ⊎_elim
-      (λ (same : id ≡ j).
-      rw (eq-eqb (id + 2 ^ 63) (j + 2 ^ 63) (omega (arith, same)))
-      (sym (is_held-without held id j ∙ rw (eq-eqb id j same) refl)))
-      (λ (apart : id ≢ j).
-      rw (ne_eqb (id + 2 ^ 63) (j + 2 ^ 63) (λ e. apart (omega (arith, e))))
-      (is_out-less out id (j + 2 ^ 63)
-      ∙ rw (ne_eqb id (j + 2 ^ 63) (λ e. absurd (omega (arith, e, low))))
-      ((are j inside).1 ∙ sym (is_held-without held id j ∙ rw (ne_eqb id j apart) refl))))
-      (cases_eq id j),
-)
+pub out_given : (out : List ℕ) (held : List Bool) (id : ℕ) → AreOutOf out held → AreOutOf (less out id) (without held id)
+out_given out held id are j inside =
+    is_out-less out id j ∙ ap (cond (eqb id j) false) (are j inside) ∙ sym (is_held-without held id j)
 
 -- what a further id changes of the first ones: nothing
 pub low_taken : (held : List Bool) → 58 ≤ least held → (id : ℕ) → id < 58 → is_held (with_least held) id ≡ is_held held id

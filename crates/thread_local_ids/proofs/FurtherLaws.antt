@@ -11,7 +11,8 @@ use Rattle.thread_local_base.proofs.IdMoveLaws.{after_take}
 use Rattle.thread_local_ids.specs.FirstIds.{IsSameBeyond, HasFurther}
 use Rattle.thread_local_ids.specs.Filled.{IsFilled, TakesFurther}
 use Rattle.thread_local_ids.proofs.Logs.{O}
-use Rattle.thread_local_ids.specs.Taken.{Taken, IsTakenAfter, IsTake}
+use Rattle.thread_local_ids.specs.Taken.{IsTakenAfter, IsTake}
+use Rattle.thread_local_ids.specs.declared.rights.held.HeldId.{HeldId}
 use Rattle.thread_local_ids.specs.declared.rights.page.Page.{Page}
 use Rattle.thread_local_base.specs.declared.manager.LocalError.{LocalError}
 
@@ -68,20 +69,20 @@ error_of d (Ok x) = d
 error_of d (Err e) = e
 
 -- a take extends the page
-taken_early : (table : ℕ) (early later : List IdMove) (taken : Taken) → IsTakenAfter table early later taken → IsPrefix early later
-taken_early table early later taken is =
+taken_early : (table : ℕ) (early later : List IdMove) (held : HeldId) → IsTakenAfter table early later held → IsPrefix early later
+taken_early table early later held is =
     subst (λ (l : List IdMove). IsPrefix early l) (sym is.moves)
-    (O.trans early taken.2.before (noted taken.2.before Take) is.since (Take ∷ [], refl))
+    (O.trans early held.tenure.before (noted held.tenure.before Take) is.since (Take ∷ [], refl))
 
 -- what a take says, by the clauses of `SharedIds::take`
-pub take_tells : (table : ℕ) (early later : Page) (result : Result Taken LocalError) → IsTake table early later result
-    → IfOk result (λ taken. IsTakenAfter table early.moves later.moves taken)
+pub take_tells : (table : ℕ) (early later : Page) (result : Result HeldId LocalError) → IsTake table early later result
+    → IfOk result (λ held. IsTakenAfter table early.moves later.moves held)
     × IsPrefix early.moves later.moves
     × (result ≡ Err (LocalError.Memory alloc_error) → HoldsAllBelow early.room (held_after later.moves))
     × (result ≡ Err LocalError.Exhausted → HoldsAllBelow (2 ^ 63 - 1) (held_after later.moves))
 unfolding error_of
-take_tells table early later (Ok taken) is =
-    (is, taken_early table early.moves later.moves taken is, λ no. cc, λ no. cc)
+take_tells table early later (Ok held) is =
+    (is, taken_early table early.moves later.moves held is, λ no. cc, λ no. cc)
 take_tells table early later (Err error) is =
     (tt, is.since, λ same. is.memory (ap (error_of error) same), λ same. is.exhausted (ap (error_of error) same))
 

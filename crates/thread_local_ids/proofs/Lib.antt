@@ -22,7 +22,7 @@ pub mod Markers
 pub mod RightElements
 pub mod BlankLaws
 pub mod BookElements
-pub mod MarkElements
+pub mod ToldNotes
 pub mod Rows
 pub mod ToldElements
 pub mod FirstLaws

@@ -1,28 +1,29 @@
 -- The moves of a table under its name: how they are appended to, and what pages show of them.
 -- Assumes `Logic`.
-use Rattle.std.proofs.Common.{◌≡◌, ℕ, ◌+◌, ◌≤◌, true, List, [], ◌∷◌, refl, sym, ap, ◌∙◌, subst, arith}
-use mathlib.Core.Logic.{◌∨₁◌}
+use Rattle.std.proofs.Common.{◌≡◌, ◌≢◌, ℕ, ◌+◌, ◌≤◌, true, List, [], ◌∷◌, refl, sym, ap, ◌∙◌, subst, arith}
+use native.Mathlib.Decide.{ℕ_discrete}
+use mathlib.Core.Logic.{◌∨₁◌, dite}
 use mathlib.Core.List.{IsPrefix}
 use mathlib.Core.Option.{Option, none, some}
 use base.Stored.{Gv}
 use seplogic.Ra.Ura.{Ura}
 use base.Fraction.{full_share}
 use base.Growing.{prefixes_in_line}
-use base.Logic.{SProp, ex, guard, upd, upd_i}
+use base.Logic.{SProp, ex, guard, guard_i, upd, upd_i}
 use Rattle.thread_local_ids.proofs.Logs.{O, shows, part_off, part_twice, grown}
 use base.Fml.{GName, Fml, fown}
 use base.Shift.{Keyless}
 use types.Logic.{Logic}
 use types.Keyed.{keyed}
 use types.Owned.{own_new}
-use types.Kit.{‵, raw, given, ◌⊛◌, ◌$◌, ◌∵◌, !, qed, move, drop, split, fsplit, fjoin, fpick, fpack, pick}
+use types.Kit.{‵, raw, given, ◌⊛◌, ◌$◌, ◌∵◌, !, qed, by, move, keep, drop, split, fsplit, fjoin, fpick, fpack, pick}
 use types.Kit.{learn, check, frame, rewrite, suffices, settle, use0, use1, use2, done}
 use types.Kit as kit
 use Rattle.thread_local_base.specs.Held.{is_held}
 use Rattle.thread_local_base.specs.IdMoves.{IdMove, Take, Give, Publish, held_after, noted}
 use Rattle.thread_local_ids.specs.Returns.{gives, counting, Count, count_of, counts, counts_own, counts_page, tenure_owns}
 use Rattle.thread_local_base.proofs.IdMoveLaws.{held_apart}
-use Rattle.thread_local_ids.proofs.ReturnLaws.{gives_apart, taken, page_off, page_again, not_given}
+use Rattle.thread_local_ids.proofs.ReturnLaws.{gives_apart, taken, page_off, page_again, not_given, count_once}
 use Rattle.thread_local_ids.proofs.ReturnLaws.{given as given_count}
 use Rattle.thread_local_ids.specs.Rights.{Element, moves_key, moves_own, right_owns, Head, kept, history_as, page_as, held_as}
 use Rattle.thread_local_ids.specs.Rights.{history_owns, page_with, page_owns, held_owns, taken_id, tenure_of}
@@ -303,6 +304,38 @@ module _ {M : Type 1} {𝓤 : Ura M} (𝓛 : Logic 𝓤) where
       move ! (2 ∷ 1 ∷ []) $ fjoin ! $ fpack ! ℕ (λ c. page_as γ later (c, room)) d $ fpack ! ℕ (page_with γ later) room $
       -- [the page; what is held; the own page]
       move ! (2 ∷ 1 ∷ []) $ fjoin ! $ check ! few $ done !)))))
+
+  -- an id isn't held by two
+  held_once : (γ : GName) (id n m : ℕ) (Z : SProp 𝓤) → ⟦ held_owns γ id n ⟧ ∗ ⟦ held_owns γ id m ⟧ ⊢ Z
+  unfolding held_owns
+  held_once γ id n m Z =
+      qed 𝓛 (‵ (held_owns γ id n) ∷ ‵ (held_owns γ id m) ∷ []) ∵ fpick ! (λ δ. fsplit ! $ move ! (2 ∷ []) $ fpick ! (λ δ'. fsplit ! $
+      -- [the first entry; the count; the other first entry; the other count]
+      move ! (2 ∷ 0 ∷ []) $
+      use2 𝓛 (given (δ ≡ δ') (‵ (own γ (part δ [])) ⊛ ‵ (own γ (part δ' []))))
+      (shows 𝓛 moves_key γ (part δ []) (part δ' []) (δ ≡ δ') (λ d. same_first δ δ' [] [] d.0.1 d.1.1.0.0 d.1.1.0.1)) $
+      learn ! (λ same. split ! $ keep ! (3 ∷ 2 ∷ []) $ rewrite ! 0 (λ (h : Head). ‵ (tenure_owns h.0 id n)) same refl $
+      by ! (count_once 𝓛 δ'.0 id n m Z))))
+
+  tenure_once : (γ : GName) (a b : List IdMove) → taken_id a ≡ taken_id b → (Z : SProp 𝓤) → ⟦ tenure_of γ a ⟧ ∗ ⟦ tenure_of γ b ⟧ ⊢ Z
+  tenure_once γ a b same Z =
+      qed 𝓛 (‵ (tenure_of γ a) ∷ ‵ (tenure_of γ b) ∷ []) ∵ fsplit ! $ move ! (2 ∷ []) $ fsplit ! $ keep ! (3 ∷ 1 ∷ []) $
+      rewrite ! 0 (λ (id : ℕ). ‵ (held_owns γ id (gives a (taken_id a)))) same refl $
+      by ! (held_once γ (taken_id b) (gives a (taken_id a)) (gives b (taken_id b)) Z)
+
+  -- two tenures of one table are of different ids
+  pub tenures_apart : (γ δ : GName) (a b : List IdMove)
+      → ⟦ tenure_of γ a ⟧ ∗ ⟦ tenure_of δ b ⟧
+      ⊢ guard 𝓤 (γ ≡ δ → taken_id a ≢ taken_id b) (⟦ tenure_of γ a ⟧ ∗ ⟦ tenure_of δ b ⟧)
+  tenures_apart γ δ a b =
+      let Both : SProp 𝓤 = ⟦ tenure_of γ a ⟧ ∗ ⟦ tenure_of δ b ⟧ in
+      let Apart : Type 0 = γ ≡ δ → taken_id a ≢ taken_id b in
+      dite (ℕ_discrete (taken_id a) (taken_id b))
+      (λ e. dite (ℕ_discrete γ δ)
+      (λ same.
+      subst (λ (x : ℕ). ⟦ tenure_of γ a ⟧ ∗ ⟦ tenure_of x b ⟧ ⊢ guard 𝓤 Apart Both) same (tenure_once γ a b e (guard 𝓤 Apart Both)))
+      (λ differ. guard_i 𝓤 Apart Both (λ same. absurd (differ same))))
+      (λ differ. guard_i 𝓤 Apart Both (λ _. differ))
 
 pub history_keyless : (γ : GName) (moves : List IdMove) → Keyless (history_owns γ moves)
 unfolding history_owns

@@ -1,6 +1,6 @@
 -- The notes of ids: what whoever holds an id has of what its slot was published with, and what the
 -- history keeps of it. Assumes `Logic`.
-use Rattle.std.proofs.Common.{◌≡◌, ℕ, ◌+◌, ◌-◌, ◌^◌, ◌<◌, ◌==◌, Bool, true, false, List, [], ◌∷◌, ◌++◌, if◌then◌else◌}
+use Rattle.std.proofs.Common.{◌≡◌, ℕ, ◌-◌, ◌^◌, ◌<◌, ◌==◌, Bool, true, false, List, [], ◌∷◌, ◌++◌, if◌then◌else◌}
 use Rattle.std.proofs.Common.{refl, ap, ◌∙◌, arith, Option, None, Some, is_some}
 use Rattle.std.proofs.lemmas.Bool.{eqb-true, eq-eqb}
 use Rattle.std.proofs.lemmas.Option.{same_Some}
@@ -15,9 +15,8 @@ use denote.Steps.{nothing}
 use Rattle.thread_local_base.specs.IdMoves.{IdMove, Take, Give, Publish, noted, published_in, or_else, left_coded}
 use Rattle.thread_local_base.proofs.IdMoveLaws.{published_apart}
 use Rattle.thread_local_ids.specs.Rights.{is_out, less, right_owns, rights_own, note_key, slot_key, noted_at, noted_owns, note_owns, all_noted}
-use Rattle.thread_local_ids.specs.FirstIds.{marked}
-use Rattle.thread_local_ids.specs.Told.{noted_of, noted_if}
-use Rattle.thread_local_ids.specs.Sharings.{Sharing, First, Later, sharing_of}
+use Rattle.thread_local_ids.specs.Told.{noted_of}
+use Rattle.thread_local_ids.specs.Sharings.{Sharing, First, Later}
 use Rattle.thread_local_ids.proofs.NotedElements.{at_twice, never_at, at_alike, at_keyless}
 use Rattle.thread_local_ids.proofs.RightElements.{rights_cut, rights_join, right_keyless}
 use Rattle.thread_local_base.proofs.Signs.{signs}
@@ -180,11 +179,6 @@ pub note_keyless : (γ id : ℕ) (left : Option Gv) → Keyless (note_owns γ id
 note_keyless γ id None = right_keyless γ (note_key id)
 note_keyless γ id (Some g) = noted_keyless γ id g
 
-pub marked_keyless : (γ id : ℕ) (left : Option Gv) (told : Bool) → Keyless (marked γ id left told)
-marked_keyless γ id left true = (right_keyless γ (id + 2 ^ 63), note_keyless γ id left)
-marked_keyless γ id None false = (right_keyless γ (id + 2 ^ 63), right_keyless γ (note_key id))
-marked_keyless γ id (Some g) false = (right_keyless γ (id + 2 ^ 63), at_keyless (note_key id) γ id g)
-
 pub all_noted_keyless : (γ : ℕ) (moves : List IdMove) → Keyless (all_noted γ moves)
 all_noted_keyless γ [] = tt
 all_noted_keyless γ (Take ∷ moves) = all_noted_keyless γ moves
@@ -194,8 +188,3 @@ all_noted_keyless γ (Publish id g ∷ moves) = (noted_keyless γ id g, all_note
 pub noted_of_keyless : (sharing : Sharing) (id : ℕ) (g : Gv) → Keyless (noted_of sharing id g)
 noted_of_keyless (First table) id g = at_keyless (note_key id) table id g
 noted_of_keyless (Later γ) id g = tt
-
-pub noted_if_keyless : (sharing : Option ℕ) (id : ℕ) (value : Option Gv) → Keyless (noted_if sharing id value)
-noted_if_keyless sharing id None = tt
-noted_if_keyless None id (Some g) = tt
-noted_if_keyless (Some n) id (Some g) = noted_of_keyless (sharing_of n) id g

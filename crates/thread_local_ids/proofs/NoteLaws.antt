@@ -1,5 +1,5 @@
 -- Which notes are out once an id is taken or given back.
-use Rattle.std.proofs.Common.{◌≡◌, ℕ, ◌+◌, ◌-◌, ◌^◌, ◌<◌, ◌==◌, ◌||◌, Bool, true, false, List, [], ◌∷◌, if◌then◌else◌}
+use Rattle.std.proofs.Common.{◌≡◌, ℕ, ◌-◌, ◌^◌, ◌<◌, ◌==◌, ◌||◌, Bool, true, false, List, [], ◌∷◌, if◌then◌else◌}
 use Rattle.std.proofs.Common.{refl, sym, ap, ◌∙◌, arith, Option, None, Some, is_some, ⊎_elim}
 use Rattle.std.proofs.lemmas.Bool.{eqb-true, eq-eqb, ne_eqb, cases_eq}
 use base.Stored.{Gv}
@@ -25,17 +25,13 @@ same_key id j =
     (λ apart. ne_eqb (note_key id) (note_key j) (λ e. apart (omega (arith, e))) ∙ sym (ne_eqb id j apart))
     (cases_eq id j)
 
--- the rights of an id and its mark are no notes
-pub beside_notes : (out : List ℕ) (id j : ℕ) → id < 2 ^ 63 - 1 → is_out ((id + 2 ^ 63) ∷ id ∷ out) (note_key j) ≡ is_out out (note_key j)
-beside_notes out id j low =
-    rw (ne_eqb (id + 2 ^ 63) (note_key j) (λ e. absurd (omega (arith, e, low))))
-    (rw (ne_eqb id (note_key j) (λ e. absurd (omega (arith, e, low)))) refl)
+-- the right to an id is no note
+pub beside_notes : (out : List ℕ) (id j : ℕ) → id < 2 ^ 63 - 1 → is_out (id ∷ out) (note_key j) ≡ is_out out (note_key j)
+beside_notes out id j low = rw (ne_eqb id (note_key j) (λ e. absurd (omega (arith, e, low)))) refl
 
-less_beside : (out : List ℕ) (id j : ℕ) → id < 2 ^ 63 - 1 → is_out (less (less out id) (id + 2 ^ 63)) (note_key j) ≡ is_out out (note_key j)
+less_beside : (out : List ℕ) (id j : ℕ) → id < 2 ^ 63 - 1 → is_out (less out id) (note_key j) ≡ is_out out (note_key j)
 less_beside out id j low =
-    is_out-less (less out id) (id + 2 ^ 63) (note_key j)
-    ∙ rw (ne_eqb (id + 2 ^ 63) (note_key j) (λ e. absurd (omega (arith, e, low))))
-    (is_out-less out id (note_key j) ∙ rw (ne_eqb id (note_key j) (λ e. absurd (omega (arith, e, low)))) refl)
+    is_out-less out id (note_key j) ∙ rw (ne_eqb id (note_key j) (λ e. absurd (omega (arith, e, low)))) refl
 
 -- what the history says of an id once another one was taken or given back
 says_taken : (moves : List IdMove) (id j : ℕ) → id ≡ taken_id moves
@@ -52,13 +48,13 @@ says_taken moves id j is =
 
 pub noted_taken : (out : List ℕ) (moves : List IdMove) (id : ℕ) (v : Option Gv) → AreNotedOut out moves → id ≡ taken_id moves
     → id < 2 ^ 63 - 1 → published_in moves id ≡ v
-    → AreNotedOut (noted_out v id ((id + 2 ^ 63) ∷ id ∷ out)) (noted moves Take)
+    → AreNotedOut (noted_out v id (id ∷ out)) (noted moves Take)
 noted_taken out moves id None are is low e j inside =
-    ap (λ (t : Bool). if t then true else is_out ((id + 2 ^ 63) ∷ id ∷ out) (note_key j)) (same_key id j)
+    ap (λ (t : Bool). if t then true else is_out (id ∷ out) (note_key j)) (same_key id j)
     ∙ at (id == j) (beside_notes out id j low ∙ are j inside) ∙ sym (says_taken moves id j is)
   where
-    at : (t : Bool) → is_out ((id + 2 ^ 63) ∷ id ∷ out) (note_key j) ≡ (is_held (held_after moves) j || is_some (published_in moves j))
-        → (if t then true else is_out ((id + 2 ^ 63) ∷ id ∷ out) (note_key j))
+    at : (t : Bool) → is_out (id ∷ out) (note_key j) ≡ (is_held (held_after moves) j || is_some (published_in moves j))
+        → (if t then true else is_out (id ∷ out) (note_key j))
         ≡ ((if t then true else is_held (held_after moves) j) || is_some (published_in moves j))
     at true e = refl
     at false e = e
@@ -111,15 +107,15 @@ says_given moves id j v =
 
 pub noted_given : (out : List ℕ) (moves : List IdMove) (id : ℕ) (v : Option Gv) → AreNotedOut out moves → id < 2 ^ 63 - 1
     → is_held (held_after moves) id ≡ true → published_in (publishing moves id v) id ≡ v
-    → AreNotedOut (noted_back v id (less (less out id) (id + 2 ^ 63))) (noted (publishing moves id v) (Give id))
+    → AreNotedOut (noted_back v id (less out id)) (noted (publishing moves id v) (Give id))
 noted_given out moves id None are low held e j inside =
-    is_out-less (less (less out id) (id + 2 ^ 63)) (note_key id) (note_key j)
-    ∙ ap (λ (t : Bool). if t then false else is_out (less (less out id) (id + 2 ^ 63)) (note_key j)) (same_key id j)
+    is_out-less (less out id) (note_key id) (note_key j)
+    ∙ ap (λ (t : Bool). if t then false else is_out (less out id) (note_key j)) (same_key id j)
     ∙ at (id == j) refl (less_beside out id j low ∙ are j inside) ∙ sym (says_given moves id j None)
   where
     at : (t : Bool) → (id == j) ≡ t
-        → is_out (less (less out id) (id + 2 ^ 63)) (note_key j) ≡ (is_held (held_after moves) j || is_some (published_in moves j))
-        → (if t then false else is_out (less (less out id) (id + 2 ^ 63)) (note_key j))
+        → is_out (less out id) (note_key j) ≡ (is_held (held_after moves) j || is_some (published_in moves j))
+        → (if t then false else is_out (less out id) (note_key j))
         ≡ ((if t then false else is_held (held_after moves) j) || is_some (published_in moves j))
     at true same h =
         sym (ap (λ (k : ℕ). is_some (published_in moves k)) (sym (eqb-true id j same)) ∙ ap is_some e)
@@ -137,20 +133,14 @@ noted_given out moves id (Some g) are low held e j inside =
         ∙ sym (ap (λ (k : ℕ). is_some (published_in (publishing moves id (Some g)) k)) (sym here) ∙ ap is_some e)
     at false same = ap (λ (w : Option Gv). is_held (held_after moves) j || is_some w) (sym (published_publishing moves id j (Some g) same))
 
--- the rights of ids and marks are out as before
-pub out_noted : (out : List ℕ) (held : List Bool) (id : ℕ) (v : Option Gv) → id < 2 ^ 63 - 1 → AreOutOf out held → AreOutOf (noted_out v id out) held
-out_noted out held id None low are j inside = (
-  rw (ne_eqb (note_key id) j (λ e. absurd (omega (arith, e, inside)))) (are j inside).0,
-  rw (ne_eqb (note_key id) (j + 2 ^ 63) (λ e. absurd (omega (arith, e, inside)))) (are j inside).1,
-)
-out_noted out held id (Some g) low are j inside = are j inside
+-- the rights of ids are out as before
+pub out_noted : (out : List ℕ) (held : List Bool) (id : ℕ) (v : Option Gv) → AreOutOf out held → AreOutOf (noted_out v id out) held
+out_noted out held id None are j inside = rw (ne_eqb (note_key id) j (λ e. absurd (omega (arith, e, inside)))) (are j inside)
+out_noted out held id (Some g) are j inside = are j inside
 
 pub out_noted_back : (out : List ℕ) (held : List Bool) (id : ℕ) (v : Option Gv) → AreOutOf out held → AreOutOf (noted_back v id out) held
-out_noted_back out held id None are j inside = (
-  is_out-less out (note_key id) j ∙ rw (ne_eqb (note_key id) j (λ e. absurd (omega (arith, e, inside)))) (are j inside).0,
-  is_out-less out (note_key id) (j + 2 ^ 63)
-      ∙ rw (ne_eqb (note_key id) (j + 2 ^ 63) (λ e. absurd (omega (arith, e, inside)))) (are j inside).1,
-)
+out_noted_back out held id None are j inside =
+    is_out-less out (note_key id) j ∙ rw (ne_eqb (note_key id) j (λ e. absurd (omega (arith, e, inside)))) (are j inside)
 out_noted_back out held id (Some g) are j inside = are j inside
 
 pub early_publishing : (moves : List IdMove) (id : ℕ) (v : Option Gv) → IsPrefix moves (publishing moves id v)

@@ -171,6 +171,10 @@ fact_at : (t : Bool) (n : ℕ) (a : Count) → t ≡ true → OpDef cell (count_
 fact_at true n a is d = d
 fact_at false n a is d = cc
 
+two_wholes : (t : Bool) (n m : ℕ) → t ≡ true → OpDef cell (count_if t n) (count_if t m) → ⊥
+two_wholes true n m is d = not-OpDef-full_share full_share d.1.0.0
+two_wholes false n m is d = cc
+
 bounds : (n m : ℕ) → OpDef counting.op (some full_share, n) (none, m) → m ≤ n
 bounds n m d = numbers.trans m d.0.1 n d.1.1.0.1 (d.1.1.1.0 tt)
 
@@ -220,6 +224,11 @@ module _ {M : Type 1} {𝓤 : Ura M} (𝓛 : Logic 𝓤) where
       own_sum 𝓛 (keyed counting) δ (stays id n) (pages later) (guard 𝓤 (gives later id ≤ n) Both) (λ c m.
       guard_i 𝓤 (gives later id ≤ n) Both
       (bounds n (gives later id) (fact_at (id == id) n (none, gives later id) (eq-eqb id id refl) (m.0 id))))
+
+  -- one count isn't with two
+  pub count_once : (δ : GName) (id n m : ℕ) (Z : SProp 𝓤) → ⟦ tenure_owns δ id n ⟧ ∗ ⟦ tenure_owns δ id m ⟧ ⊢ Z
+  count_once δ id n m Z =
+      own_sum 𝓛 (keyed counting) δ (stays id n) (stays id m) Z (λ c two. absurd (two_wholes (id == id) n m (eq-eqb id id refl) (two.0 id)))
 
   -- an id is given back with its count
   pub given : (δ : GName) (moves : List IdMove) (id n : ℕ) → is_held (held_after moves) id ≡ true → n ≤ gives moves id

@@ -20,7 +20,7 @@ use denote.RattleType.{RattleType}
 use Rattle.thread_local_ids.specs.Rights.{slot_key, note_key, slots_own}
 use Rattle.thread_local_ids.specs.Told.{once, untold, told}
 use Rattle.thread_local_ids.specs.Sharings.{Sharing, First, Later, first_of, later_of, sharing_of}
-use Rattle.thread_local_ids.specs.Told.{untold_of, told_of, noted_of, untold_in, told_in, noted_in, noted_if}
+use Rattle.thread_local_ids.specs.Told.{untold_of, told_of, noted_of, untold_in, told_in, noted_in}
 use Rattle.thread_local_ids.specs.Sharings.{is_first, belongs, Belongs}
 use Rattle.thread_local_ids.specs.Told.{tells, told_or_untold, all_tell, all_told_or_untold}
 use Rattle.thread_local_ids.specs.Blank.{IsBlank}
@@ -141,11 +141,6 @@ module _ {M : Type 1} {𝓤 : Ura M} (𝓛 : Logic 𝓤) where
       → ⟦ noted_in sharing id g ⟧ ⊢ ⟦ noted_in sharing id g ⟧ ∗ ⟦ noted_in sharing id g ⟧
   noted_dup None id g = qed 𝓛 (‵ ftrue ∷ []) ∵ nothing ! $ done !
   noted_dup (Some n) id g = noted_of_dup (sharing_of n) id g
-
-  pub noted_if_dup : (sharing : Option ℕ) (id : ℕ) (value : Option Gv)
-      → ⟦ noted_if sharing id value ⟧ ⊢ ⟦ noted_if sharing id value ⟧ ∗ ⟦ noted_if sharing id value ⟧
-  noted_if_dup sharing id None = qed 𝓛 (‵ ftrue ∷ []) ∵ nothing ! $ done !
-  noted_if_dup sharing id (Some g) = noted_dup sharing id g
 
   pub tells_it : (sharing : Option ℕ) (id : ℕ) (g : Gv) → ⟦ untold_in sharing id ⟧ ⊢ upd 𝓤 ⟦ told_in sharing id g ⟧
   tells_it None id g = upd_i 𝓤 ⟦ ftrue ⟧

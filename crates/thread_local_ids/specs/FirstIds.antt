@@ -8,15 +8,13 @@ use Rattle.std.specs.Prelude.{◌≡◌, ℕ, ◌+◌, ◌-◌, ◌*◌, ◌/◌
 use Rattle.std.specs.Coded.{Coded, coded_ℕ, code_by}
 use mathlib.Core.List.{IsPrefix}
 use mathlib.Core.Option.{some}
-use Rattle.std.specs.Prelude.{Option as Maybe, None, Some}
-use base.Stored.{Gv}
 use base.Fraction.{full_share, left}
 use base.Fml.{Share, Fml, fsep, fex}
 use Rattle.thread_local_base.specs.Bits.{is_set}
 use Rattle.thread_local_base.specs.Fact.{fact}
 use Rattle.thread_local_base.specs.Held.{is_held}
 use Rattle.thread_local_base.specs.IdMoves.{IdMove, Take, Give, held_after, noted, published_in}
-use Rattle.thread_local_ids.specs.Rights.{is_out, element_at, right_owns, rights_own, history_owns, page_owns, tenure_of, taken_id, note_key, noted_at, note_owns, all_noted, AreNotedOut}
+use Rattle.thread_local_ids.specs.Rights.{is_out, element_at, right_with, rights_own, history_owns, page_owns, tenure_of, taken_id, all_noted, AreNotedOut}
 
 -- what a contract sees of the word: the name of the table
 pub record FirstView : Type 0 where
@@ -56,10 +54,9 @@ pub record HasFurther (held : List Bool) : Type 0 where
   pub in_range : id < 2 ^ 63 - 1
   pub free : is_held held id ≡ false
 
--- the right to an id is out exactly where the id is held, and so is its mark
+-- the right to an id is out exactly where the id is held
 abbrev pub AreOutOf : List ℕ → List Bool → Type 0
-AreOutOf out held =
-    (id : ℕ) → id < 2 ^ 63 - 1 → (is_out out id ≡ is_held held id) × (is_out out (id + 2 ^ 63) ≡ is_held held id)
+AreOutOf out held = (id : ℕ) → id < 2 ^ 63 - 1 → is_out out id ≡ is_held held id
 
 -- how the word, all moves, the rights that are out and the moves up to the last one of a further id
 -- belong together
@@ -106,21 +103,7 @@ kept_with table n s =
 abbrev pub lies_with : ℕ → ℕ → Fml
 lies_with table n = fex Kept (kept_with table n)
 
--- the note of an id before its slot is told to be published
-abbrev pub note_by : Bool → ℕ → ℕ → Maybe Gv → Fml
-note_by true table id left = note_owns table id left
-note_by false table id None = right_owns table (note_key id)
-note_by false table id (Some value) = noted_at (note_key id) table id value
-
--- the mark of an id with its note
-abbrev pub marked : ℕ → ℕ → Maybe Gv → Bool → Fml
-marked table id left told = fsep (right_owns table (id + 2 ^ 63)) (note_by told table id left)
-
--- the rights to an id that was taken after these moves, with what they say was left in its slot
-abbrev pub rights_to : ℕ → ℕ → Maybe Gv → Fml
-rights_to table id left = fsep (right_owns table id) (marked table id left true)
-
 -- what a try left, by whether it took an id after these moves, or saw them
 abbrev pub tried_owns : ℕ → List IdMove → Bool → Fml
-tried_owns table moves true = fsep (rights_to table (taken_id moves) (published_in moves (taken_id moves))) (tenure_of table moves)
+tried_owns table moves true = fsep (right_with table (taken_id moves) (published_in moves (taken_id moves))) (tenure_of table moves)
 tried_owns table moves false = page_owns table moves

@@ -131,7 +131,7 @@ reached_owns table n = fex (List IdMove) (reached_by table n)
 unfoldable pub noted_at : ℕ → ℕ → ℕ → Gv → Fml
 noted_at key table id value = element_at key table (none, Publish id value ∷ [])
 
--- Each id has a third right, its note: the right to this number. Whoever holds the id has it, until
+-- Each id has a second right, its note: the right to this number. Whoever holds the id has it, until
 -- its slot is published.
 abbrev pub note_key : ℕ → ℕ
 note_key id = id + 2 ^ 65
@@ -145,6 +145,10 @@ noted_owns table id value =
 abbrev pub note_owns : ℕ → ℕ → Maybe Gv → Fml
 note_owns table id None = right_owns table (note_key id)
 note_owns table id (Some value) = noted_owns table id value
+
+-- the right to an id, with its note
+abbrev pub right_with : ℕ → ℕ → Maybe Gv → Fml
+right_with table id left = fsep (right_owns table id) (note_owns table id left)
 
 -- all that was published is noted
 abbrev pub all_noted : ℕ → List IdMove → Fml

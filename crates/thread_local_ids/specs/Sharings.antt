@@ -1,5 +1,5 @@
 -- Sharings as contracts see them, and what a slot was left with.
-use Rattle.std.specs.Prelude.{◌≡◌, ℕ, ◌+◌, ◌*◌, ◌/◌, ◌%◌, ◌==◌, Bool, true, false, Option, None, Some, ⊤}
+use Rattle.std.specs.Prelude.{◌≡◌, ℕ, ◌+◌, ◌*◌, ◌/◌, ◌%◌, ◌==◌, Bool, true, false, Option, None, Some, if◌then◌else◌, ⊤}
 use base.Stored.{Gv}
 use base.Fml.{GName}
 use denote.RattleType.{RattleType}
@@ -48,3 +48,9 @@ Belongs (Some n) table = belongs (sharing_of n) table
 abbrev pub left_of : (R : RattleType) → Option R.Denot → Option Gv
 left_of R None = None
 left_of R (Some x) = Some (R.coded.code x)
+
+-- what an id's note says once the slot holds this: in the first sharing of the table the value, if there is
+-- one
+abbrev pub left_after : (R : RattleType) → Option ℕ → ℕ → Option Gv → Option R.Denot → Option Gv
+left_after R sharing table left None = left
+left_after R sharing table left (Some x) = if is_first sharing table then Some (R.coded.code x) else left

@@ -62,11 +62,6 @@ abbrev pub noted_in : Option ℕ → ℕ → Gv → Fml
 noted_in None id g = ftrue
 noted_in (Some n) id g = noted_of (sharing_of n) id g
 
--- that it is noted what a slot is published with, or nothing where it isn't published
-abbrev pub noted_if : Option ℕ → ℕ → Option Gv → Fml
-noted_if sharing id None = ftrue
-noted_if sharing id (Some g) = noted_in sharing id g
-
 module _ (R : RattleType) (sharing : Option ℕ) where
   -- it is told that the slot of an id was published with this value, or that it was not published
   abbrev pub tells : ℕ → Option R.Denot → Fml

@@ -18,8 +18,7 @@ ghost use Rattle.thread_local_ids.specs.FirstIds.{IsWordOf, IsSameBeyond, IsGive
 ghost use Rattle.thread_local_ids.specs.FirstIds.{is_full as is_full_word, word_with as word_that_holds};
 
 use crate::locks::word::exchange;
-use crate::rights::held::{HeldId, Taken};
-use crate::rights::mark::Mark;
+use crate::rights::held::HeldId;
 use crate::rights::page::{Page, Tenure};
 use crate::rights::right::{Right, SlotRights};
 use crate::tokens::book::Book;
@@ -86,8 +85,8 @@ impl Model for Trace {
 
 impl FirstIds {
     /// The first ids of a new table whose further ids the manager gives out. Beside them are the log,
-    /// the table's right, to the number that lies between the ids and their marks, the page from
-    /// before any id is taken, and the rights to its slots.
+    /// the table's right, to the number behind the last id, the page from before any id is taken, and
+    /// the rights to its slots.
     pub(crate) fn begun(manager: &ThreadIdManager) -> (FirstIds, Log, (Right, Page, SlotRights))
         ensures log { (result.1.table ≡ result.0.table) × (result.1.moves ≡ []) × (result.1.whole ≡ false) }
         ensures right { (result.2.0.table ≡ result.0.table) × (result.2.0.id ≡ 2 ^ 63 - 1) }
@@ -132,9 +131,9 @@ impl FirstIds {
     /// Takes the least id of the table, if it is one of the first, by one compare and exchange. It
     /// answers none where all of these are held, or where other threads changed the word each time
     /// that it tried. The page is then left as it is.
-    pub(crate) fn take(&self, page: &mut Page) -> Option<Taken>
+    pub(crate) fn take(&self, page: &mut Page) -> Option<HeldId>
         requires { page.old.table ≡ self.now.table }
-        ensures taken { IfSome result (λ taken. IsTakenAfter self.now.table page.old.moves page.new.moves taken) }
+        ensures taken { IfSome result (λ held. IsTakenAfter self.now.table page.old.moves page.new.moves held) }
         ensures table { page.new.table ≡ page.old.table }
         ensures none { result ≡ None → page.new ≡ page.old }
     {
@@ -146,7 +145,7 @@ impl FirstIds {
             }
             let (found, trace) = self.try_take(seen, word_with(seen, id as u64), id, page);
             if found == seen {
-                return Some(trace.into_taken(id, page));
+                return Some(trace.into_held(id, page));
             }
             seen = found;
         }
@@ -205,18 +204,16 @@ impl FirstIds {
     }
 
     /// Gives one of the first ids back, whose bit is given, by one atomic step.
-    pub(crate) fn give(&self, right: Right, mark: Mark, tenure: Tenure, bit: u64) -> Page
-        requires table { (right.table ≡ self.now.table) × (mark.table ≡ self.now.table) × (tenure.table ≡ self.now.table) }
-        requires id { (right.id ≡ taken_id tenure.before) × (mark.id ≡ right.id) }
-        requires told { mark.told ≡ true }
+    pub(crate) fn give(&self, right: Right, tenure: Tenure, bit: u64) -> Page
+        requires table { (right.table ≡ self.now.table) × (tenure.table ≡ self.now.table) }
+        requires id { right.id ≡ taken_id tenure.before }
         requires first { right.id < 58 }
         requires bit { bit ≡ 64 * 2 ^ right.id % 2 ^ 64 }
         ensures table { result.table ≡ self.now.table }
         ensures moves { IsReturn tenure.before right.id result.moves }
-        ensures left { published_in result.moves right.id ≡ mark.left }
+        ensures left { published_in result.moves right.id ≡ right.left }
     {
         let Right { marker: _ } = right;
-        let Mark { marker: _ } = mark;
         let Tenure { marker: _ } = tenure;
         unsafe { raw::fetch_sub::<Brand>(&raw const self.word, bit, SeqCst) };
         Page {
@@ -225,26 +222,18 @@ impl FirstIds {
     }
 
     /// Notes that a further id is given back, at an atomic load of the word.
-    pub(crate) fn give_further(
-        &self,
-        log: &mut Log,
-        right: Right,
-        mark: Mark,
-        tenure: Tenure,
-    ) -> Page
-        requires table { (right.table ≡ self.now.table) × (mark.table ≡ self.now.table) × (tenure.table ≡ self.now.table) }
+    pub(crate) fn give_further(&self, log: &mut Log, right: Right, tenure: Tenure) -> Page
+        requires table { (right.table ≡ self.now.table) × (tenure.table ≡ self.now.table) }
         requires log { (log.old.table ≡ self.now.table) × (log.old.whole ≡ false) }
-        requires id { (right.id ≡ taken_id tenure.before) × (mark.id ≡ right.id) }
-        requires told { mark.told ≡ true }
+        requires id { right.id ≡ taken_id tenure.before }
         requires further { (58 ≤ right.id) × (right.id < 2 ^ 63 - 1) }
         ensures table { result.table ≡ self.now.table }
         ensures moves { IsReturn tenure.before right.id result.moves }
-        ensures left { published_in result.moves right.id ≡ mark.left }
+        ensures left { published_in result.moves right.id ≡ right.left }
         ensures given { IsGivenBeyond (held_after log.old.moves) (held_after result.moves) right.id }
         ensures log { (log.new.table ≡ log.old.table) × (log.new.whole ≡ false) × (log.new.moves ≡ result.moves) }
     {
         let Right { marker: _ } = right;
-        let Mark { marker: _ } = mark;
         let Tenure { marker: _ } = tenure;
         let _ = log;
         unsafe { raw::load::<Brand>(&raw const self.word, SeqCst) };
@@ -256,37 +245,31 @@ impl FirstIds {
 
 impl Trace {
     /// The id that a step took, with its right. The page becomes that of the moves with the take.
-    pub(crate) fn into_taken(self, id: usize, page: &mut Page) -> Taken
+    pub(crate) fn into_held(self, id: usize, page: &mut Page) -> HeldId
         requires took { (self.took ≡ true) × (self.table ≡ page.old.table) }
         requires id { (id ≡ taken_id self.before) × (id < 2 ^ 63 - 1) }
         requires early { IsPrefix page.old.moves self.before }
         ensures taken { IsTakenAfter self.table page.old.moves page.new.moves result }
         ensures table { page.new.table ≡ page.old.table }
     {
-        let ((right, mark), tenure) = self.into_rights();
+        let (right, tenure) = self.into_rights();
         *page = tenure.page();
-        (HeldId { id, mark }, right, tenure)
+        HeldId { id, right, tenure }
     }
 
     /// Takes out what a step that took an id left.
-    fn into_rights(self) -> ((Right, Mark), Tenure)
+    fn into_rights(self) -> (Right, Tenure)
         requires { self.took ≡ true }
-        ensures tables { (result.0.0.table ≡ self.table) × (result.0.1.table ≡ self.table) × (result.1.table ≡ self.table) }
-        ensures ids { (result.0.0.id ≡ taken_id self.before) × (result.0.1.id ≡ taken_id self.before) }
-        ensures left { result.0.1.left ≡ published_in self.before (taken_id self.before) }
-        ensures told { result.0.1.told ≡ true }
+        ensures tables { (result.0.table ≡ self.table) × (result.1.table ≡ self.table) }
+        ensures id { result.0.id ≡ taken_id self.before }
+        ensures left { result.0.left ≡ published_in self.before (taken_id self.before) }
         ensures before { result.1.before ≡ self.before }
     {
         let Self { marker: _ } = self;
         (
-            (
-                Right {
-                    marker: PhantomData,
-                },
-                Mark {
-                    marker: PhantomData,
-                },
-            ),
+            Right {
+                marker: PhantomData,
+            },
             Tenure {
                 marker: PhantomData,
             },

@@ -3,14 +3,14 @@ ghost use Rattle.std.specs.Prelude.{◌≡◌, ◌+◌, ◌-◌, ◌^◌, ◌≤
 ghost use mathlib.Core.List.{IsPrefix};
 ghost use Rattle.thread_local_base.specs.IdMoves.{held_after, published_in};
 ghost use Rattle.thread_local_base.specs.Held.{NeedsMemory, IsExhausted};
-ghost use Rattle.thread_local_ids.specs.Taken.{IsHeldIn, IsTry};
+ghost use Rattle.thread_local_ids.specs.Taken.{IsTry};
 ghost use Rattle.thread_local_ids.specs.FirstIds.{IsReturn, IsSameBeyond};
 ghost use Rattle.thread_local_ids.specs.Filled.{IsFilled, TakesFurther};
 
 use crate::first::{FIRST_IDS, FirstIds, Log, is_full, peak};
 use crate::locks::lock::Fits;
-use crate::rights::held::{HeldId, Taken};
-use crate::rights::page::{Page, Tenure};
+use crate::rights::held::HeldId;
+use crate::rights::page::Page;
 use crate::rights::right::{Right, SlotRights};
 use std::marker::Model;
 use thread_local_base::{LocalError, ThreadIdManager};
@@ -55,7 +55,7 @@ impl Further {
         &mut self,
         first: &FirstIds,
         page: &mut Page,
-    ) -> Option<Result<Taken, LocalError>>
+    ) -> Option<Result<HeldId, LocalError>>
         requires { (first.now.table ≡ self.old.table) × (page.old.table ≡ self.old.table) }
         ensures take { IsTry first.now.table page.old page.new result }
         ensures table { (self.new.table ≡ self.old.table) × (page.new.table ≡ page.old.table) }
@@ -69,7 +69,7 @@ impl Further {
                     return None;
                 }
                 self.reached = self.reached.max(id - (FIRST_IDS - 1));
-                Some(Ok(trace.into_taken(id, page)))
+                Some(Ok(trace.into_held(id, page)))
             }
             Err(error) => {
                 let (word, trace) = first.look(&mut self.log, page, false);
@@ -83,22 +83,15 @@ impl Further {
     }
 
     /// Takes a further id back.
-    pub(crate) fn give(
-        &mut self,
-        first: &FirstIds,
-        held: HeldId,
-        right: Right,
-        tenure: Tenure,
-    ) -> Page
-        requires table { first.now.table ≡ self.old.table }
-        requires held { IsHeldIn self.old.table (held, right, tenure) }
+    pub(crate) fn give(&mut self, first: &FirstIds, held: HeldId) -> Page
+        requires table { (first.now.table ≡ self.old.table) × (held.tenure.table ≡ self.old.table) }
         requires further { 58 ≤ held.id }
         ensures table { (self.new.table ≡ self.old.table) × (result.table ≡ self.old.table) }
-        ensures moves { IsReturn tenure.before held.id result.moves }
-        ensures left { published_in result.moves held.id ≡ held.mark.left }
+        ensures moves { IsReturn held.tenure.before held.id result.moves }
+        ensures left { published_in result.moves held.id ≡ held.right.left }
     {
-        let HeldId { id, mark } = held;
-        let page = first.give_further(&mut self.log, right, mark, tenure);
+        let HeldId { id, right, tenure } = held;
+        let page = first.give_further(&mut self.log, right, tenure);
         self.manager.free(id);
         page
     }

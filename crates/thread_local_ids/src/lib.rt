@@ -12,10 +12,8 @@ pub mod shared_ids;
 pub mod tokens;
 
 pub use locks::lock::{Fits, Lock, LockGuard};
-pub use rights::held::{HeldId, Taken};
-pub use rights::mark::{Mark, Noted};
+pub use rights::held::HeldId;
 pub use rights::page::{Page, Tenure};
-pub use rights::reached::Reached;
 pub use rights::right::{Right, SlotRights};
 pub use shared_ids::SharedIds;
 pub use tokens::book::Book;

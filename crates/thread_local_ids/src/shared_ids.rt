@@ -6,15 +6,14 @@ ghost use Rattle.thread_local_base.specs.Buckets.{values};
 ghost use Rattle.thread_local_base.specs.Held.{is_held, HoldsAllBelow};
 ghost use Rattle.thread_local_ids.specs.Sharings.{IsFirst, left_of};
 ghost use Rattle.thread_local_ids.specs.SharedIds.{AreNew};
-ghost use Rattle.thread_local_ids.specs.Taken.{IsHeldIn, IsTakenAfter, IsTake};
+ghost use Rattle.thread_local_ids.specs.Taken.{IsTakenAfter, IsTake};
 ghost use Rattle.thread_local_ids.specs.FirstIds.{IsReturn};
 
 use crate::first::{FIRST_IDS, FirstIds};
 use crate::further::Further;
 use crate::locks::lock::Lock;
-use crate::rights::held::{HeldId, Taken};
-use crate::rights::page::{Page, Tenure};
-use crate::rights::reached::Reached;
+use crate::rights::held::HeldId;
+use crate::rights::page::Page;
 use crate::rights::right::{Right, SlotRights};
 use crate::tokens::book::Book;
 use std::alloc::{AllocError, Global};
@@ -98,9 +97,9 @@ impl SharedIds {
     /// from 58 on are held that there is room for; the first 58 need none. `Exhausted` means that
     /// all 2^63 - 1 ids are held.
     #[inline]
-    pub fn take<R: Wait>(&self, rt: &R, page: &mut Page) -> Result<Taken, LocalError>
+    pub fn take<R: Wait>(&self, rt: &R, page: &mut Page) -> Result<HeldId, LocalError>
         requires { page.old.table ≡ self.now.table }
-        ensures taken { IfOk result (λ taken. IsTakenAfter self.now.table page.old.moves page.new.moves taken) }
+        ensures taken { IfOk result (λ held. IsTakenAfter self.now.table page.old.moves page.new.moves held) }
         ensures early { IsPrefix page.old.moves page.new.moves }
         ensures table { page.new.table ≡ page.old.table }
         ensures memory { result ≡ Err (LocalError.Memory alloc_error)
@@ -108,8 +107,8 @@ impl SharedIds {
         ensures exhausted { result ≡ Err LocalError.Exhausted
             → HoldsAllBelow (2 ^ 63 - 1) (held_after page.new.moves) }
     {
-        if let Some(taken) = self.first.take(page) {
-            return Ok(taken);
+        if let Some(held) = self.first.take(page) {
+            return Ok(held);
         }
         self.take_further(rt, page)
     }
@@ -117,7 +116,7 @@ impl SharedIds {
     /// Takes the least id, where no first id could be taken a moment ago.
     #[cold]
     #[inline(never)]
-    fn take_further<R: Wait>(&self, rt: &R, page: &mut Page) -> Result<Taken, LocalError>
+    fn take_further<R: Wait>(&self, rt: &R, page: &mut Page) -> Result<HeldId, LocalError>
         requires { page.old.table ≡ self.now.table }
         ensures take { IsTake self.now.table page.old page.new result }
         ensures table { page.new.table ≡ page.old.table }
@@ -127,8 +126,8 @@ impl SharedIds {
             if let Some(tried) = tried {
                 return tried;
             }
-            if let Some(taken) = self.first.take(page) {
-                return Ok(taken);
+            if let Some(held) = self.first.take(page) {
+                return Ok(held);
             }
         }
         unreachable!()
@@ -137,44 +136,41 @@ impl SharedIds {
     /// Takes an id back, and answers the page that ends with its return. It waits only for the lock of
     /// the further ids, where the id is one of these.
     #[inline]
-    pub fn give<R: Wait>(&self, rt: &R, held: HeldId, right: Right, tenure: Tenure) -> Page
-        requires held { IsHeldIn self.now.table (held, right, tenure) }
+    pub fn give<R: Wait>(&self, rt: &R, held: HeldId) -> Page
+        requires table { held.tenure.table ≡ self.now.table }
         ensures table { result.table ≡ self.now.table }
-        ensures moves { IsReturn tenure.before held.id result.moves }
-        ensures left { published_in result.moves held.id ≡ held.mark.left }
+        ensures moves { IsReturn held.tenure.before held.id result.moves }
+        ensures left { published_in result.moves held.id ≡ held.right.left }
     {
         if held.id >= FIRST_IDS {
-            return self.give_further(rt, held, right, tenure);
+            return self.give_further(rt, held);
         }
-        let HeldId { id, mark } = held;
-        self.first.give(right, mark, tenure, 64 << id)
+        let HeldId { id, right, tenure } = held;
+        self.first.give(right, tenure, 64 << id)
     }
 
     /// Takes a further id back, under the lock.
     #[cold]
     #[inline(never)]
-    fn give_further<R: Wait>(&self, rt: &R, held: HeldId, right: Right, tenure: Tenure) -> Page
-        requires held { IsHeldIn self.now.table (held, right, tenure) }
+    fn give_further<R: Wait>(&self, rt: &R, held: HeldId) -> Page
+        requires table { held.tenure.table ≡ self.now.table }
         requires further { 58 ≤ held.id }
         ensures table { result.table ≡ self.now.table }
-        ensures moves { IsReturn tenure.before held.id result.moves }
-        ensures left { published_in result.moves held.id ≡ held.mark.left }
+        ensures moves { IsReturn held.tenure.before held.id result.moves }
+        ensures left { published_in result.moves held.id ≡ held.right.left }
     {
-        self.further.lock(rt).give(&self.first, held, right, tenure)
+        self.further.lock(rt).give(&self.first, held)
     }
 
-    /// The most ids that were held at once since the table was made or cleared, which is no less than
-    /// was reached. It extends the page by all that was done by then. It takes the lock, so it may
-    /// wait.
-    pub fn peak<R: Wait>(&self, rt: &R, reached: Reached, page: &mut Page) -> usize
-        requires tables { (reached.table ≡ self.now.table) × (page.old.table ≡ self.now.table) }
+    /// The most ids that were held at once since the table was made or cleared. It extends the page by
+    /// all that was done by then. It takes the lock, so it may wait.
+    pub fn peak<R: Wait>(&self, rt: &R, page: &mut Page) -> usize
+        requires { page.old.table ≡ self.now.table }
         ensures table { page.new.table ≡ self.now.table }
         ensures early { IsPrefix page.old.moves page.new.moves }
         ensures peak { result ≡ length (held_after page.new.moves) }
-        ensures reached { reached.ids ≤ result }
     {
-        let seen = reached.into_page(page);
-        let (peak, later) = self.further.lock(rt).peak(&self.first, &seen);
+        let (peak, later) = self.further.lock(rt).peak(&self.first, page);
         *page = later;
         peak
     }

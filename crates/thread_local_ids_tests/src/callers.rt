@@ -1,8 +1,6 @@
 //! Callers of ids that are proved by contracts alone, and tests that run them.
-ghost use Rattle.std.specs.Prelude.{◌≡◌, ◌≢◌, IfOk, IsSome, Some, None};
+ghost use Rattle.std.specs.Prelude.{◌≡◌, ◌≢◌, IfOk, IsSome};
 ghost use Rattle.thread_local_base.specs.IdMoves.{Take, noted, published_in};
-ghost use Rattle.thread_local_ids.specs.Taken.{IsHeldIn};
-ghost use Rattle.thread_local_ids.specs.Sharings.{Belongs, IsFirst, left_of};
 ghost use mathlib.Core.List.{IsPrefix};
 
 use crate::same::assert_same;
@@ -11,7 +9,7 @@ use std::alloc::Global;
 use std::sync::Wait;
 use std::test::Fail;
 use thread_local_base::{LocalError, ThreadIdManager};
-use thread_local_ids::{HeldId, Noted, Page, SharedIds, Taken};
+use thread_local_ids::{HeldId, Page, SharedIds};
 
 /// The six ids of three takes, the returns of 1 and of 0, and three takes more, where nobody else
 /// takes any.
@@ -38,14 +36,18 @@ fn the_least_ids_come_again(rt: HostRuntime) -> Result<(), Fail> {
 }
 
 /// Two ids of one table are two, whatever other threads do, and the second was taken after the first.
-fn take_two<R: Wait>(ids: &SharedIds, rt: &R, page: &mut Page) -> Result<(Taken, Taken), LocalError>
+fn take_two<R: Wait>(
+    ids: &SharedIds,
+    rt: &R,
+    page: &mut Page,
+) -> Result<(HeldId, HeldId), LocalError>
     requires { page.old.table ≡ ids.now.table }
-    ensures differ { IfOk result (λ two. two.0.0.id ≢ two.1.0.id) }
-    ensures in_turn { IfOk result (λ two. IsPrefix (noted two.0.2.before Take) two.1.2.before) }
+    ensures differ { IfOk result (λ two. two.0.id ≢ two.1.id) }
+    ensures in_turn { IfOk result (λ two. IsPrefix (noted two.0.tenure.before Take) two.1.tenure.before) }
 {
     let mut first = ids.take(rt, page)?;
     let mut second = ids.take(rt, page)?;
-    first.1.apart(&mut second.1);
+    first.right.apart(&mut second.right);
     Ok((first, second))
 }
 
@@ -53,59 +55,47 @@ fn take_two<R: Wait>(ids: &SharedIds, rt: &R, page: &mut Page) -> Result<(Taken,
 fn an_id_is_held_once(rt: HostRuntime) -> Result<(), Fail> {
     let table = Table::new(rt.alloc());
     let (first, second) = take_two(&table.ids, &rt, &mut table.start.again())?;
-    assert_same(&rt, (first.0.id, second.0.id), (0, 1));
+    assert_same(&rt, (first.id, second.id), (0, 1));
     Ok(())
 }
 
-/// Two held ids of one table are two, as their marks show.
+/// Two held ids of one table are two, as their tenures show.
 fn are_two(one: &mut HeldId, other: &mut HeldId)
-    requires { one.old.mark.table ≡ other.old.mark.table }
+    requires { one.old.tenure.table ≡ other.old.tenure.table }
     ensures differ { one.old.id ≢ other.old.id }
     ensures same { (one.new.id ≡ one.old.id) × (other.new.id ≡ other.old.id) }
 {
-    one.mark.apart(&mut other.mark);
+    one.tenure.apart(&mut other.tenure);
 }
 
 #[test]
-fn two_held_ids_have_two_marks(rt: HostRuntime) -> Result<(), Fail> {
+fn two_held_ids_have_two_tenures(rt: HostRuntime) -> Result<(), Fail> {
     let table = Table::new(rt.alloc());
-    let (mut first, _, _) = table.take(&rt)?;
-    let (mut second, _, _) = table.take(&rt)?;
+    let mut first = table.take(&rt)?;
+    let mut second = table.take(&rt)?;
     are_two(&mut first, &mut second);
     assert_same(&rt, (first.id, second.id), (0, 1));
     Ok(())
 }
 
-/// Notes for whoever holds an id what its slot is about to be published with, and answers that twice.
-fn note_twice<T>(held: &mut HeldId, nothing: Noted, value: &T) -> (Noted, Noted)
-    requires sharing { Belongs nothing.sharing held.old.mark.table }
-    requires none { held.old.mark.left ≡ None }
-    ensures same { result.0 ≡ result.1 }
-    ensures value { (result.0.id ≡ held.old.id) × (result.0.value ≡ left_of T.row (Some value.now)) }
-    ensures left { IsFirst nothing.sharing held.old.mark.table → held.new.mark.left ≡ result.0.value }
-    ensures held { (held.new.id ≡ held.old.id) × (held.new.mark.table ≡ held.old.mark.table) }
-{
-    held.mark.note(nothing, value).twice()
-}
-
-/// Gives an id back, and takes one. The history has what the given mark notes of its slot. If that is
-/// a value and the id comes again, its new mark notes the same. It notes the same, a value or none,
-/// if nothing was done with the ids in between.
+/// Gives an id back, and takes one. The history has what the given id's note says of its slot. If that
+/// is a value and the id comes again, its note says the same. It says the same, a value or none, if
+/// nothing was done with the ids in between.
 fn give_and_take<R: Wait>(
     ids: &SharedIds,
     rt: &R,
-    given: Taken,
-) -> Result<(Page, Taken), LocalError>
-    requires held { IsHeldIn ids.now.table given }
-    ensures history { IfOk result (λ both. published_in both.0.moves given.0.id ≡ given.0.mark.left) }
+    given: HeldId,
+) -> Result<(Page, HeldId), LocalError>
+    requires held { given.tenure.table ≡ ids.now.table }
+    ensures history { IfOk result (λ both. published_in both.0.moves given.id ≡ given.right.left) }
     ensures value { IfOk result (λ both.
-        both.1.0.id ≡ given.0.id → IsSome given.0.mark.left → both.1.0.mark.left ≡ given.0.mark.left) }
+        both.1.id ≡ given.id → IsSome given.right.left → both.1.right.left ≡ given.right.left) }
     ensures at_once { IfOk result (λ both.
-        both.1.0.id ≡ given.0.id
-        → both.1.2.before ≡ both.0.moves
-        → both.1.0.mark.left ≡ given.0.mark.left) }
+        both.1.id ≡ given.id
+        → both.1.tenure.before ≡ both.0.moves
+        → both.1.right.left ≡ given.right.left) }
 {
-    let page = ids.give(rt, given.0, given.1, given.2);
+    let page = ids.give(rt, given);
     let again = ids.take(rt, &mut page.again())?;
     Ok((page, again))
 }
@@ -120,7 +110,7 @@ fn a_note_comes_back_with_its_id(rt: HostRuntime) -> Result<(), Fail> {
         }
         let given = table.take(&rt)?;
         let (_, again) = give_and_take(&table.ids, &rt, given)?;
-        assert_same(&rt, again.0.id, id);
+        assert_same(&rt, again.id, id);
     }
     Ok(())
 }

@@ -21,7 +21,7 @@ fn take_and_give<R: Wait>(
 ) -> Result<u64, LocalError> {
     let mut wrong = 0u64;
     for _ in 0..times {
-        let (held, right, tenure) = table.take(rt)?;
+        let held = table.take(rt)?;
         if let Some(mark) = used.get(held.id.wrapping_sub(first)) {
             if mark.swap(true, SeqCst) {
                 wrong = wrong.saturating_add(1);
@@ -30,7 +30,7 @@ fn take_and_give<R: Wait>(
         } else {
             wrong = wrong.saturating_add(1);
         }
-        table.ids.give(rt, held, right, tenure);
+        table.ids.give(rt, held);
     }
     Ok(wrong)
 }

@@ -4,7 +4,7 @@ ghost use Rattle.std.specs.Prelude.{◌≡◌};
 use crate::same::assert_same;
 use std::mem;
 use thread_local_base::manager::IDS;
-use thread_local_ids::{Mark, Noted, Page, Right, SharedIds, SlotRights};
+use thread_local_ids::{Page, Right, SharedIds, SlotRights, Tenure};
 
 /// Where a right may stand: in a struct and in an enum.
 #[derive(Drop)]
@@ -34,11 +34,10 @@ fn a_right_takes_no_bytes(rt: HostRuntime) {
     let sizes = [
         mem::size_of::<Right>(),
         mem::size_of::<SlotRights>(),
-        mem::size_of::<Mark>(),
-        mem::size_of::<Noted>(),
         mem::size_of::<Page>(),
+        mem::size_of::<Tenure>(),
     ];
-    assert_same(&rt, sizes, [0; 5]);
+    assert_same(&rt, sizes, [0; 4]);
 }
 
 #[test]

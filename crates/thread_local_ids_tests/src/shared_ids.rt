@@ -3,7 +3,6 @@ ghost use Rattle.std.specs.Prelude.{◌≡◌, IfOk, []};
 ghost use Rattle.std.specs.Coded.{Coded-set};
 ghost use Rattle.thread_local_base.specs.IdMoves.{moves_coded};
 ghost use Rattle.thread_local_ids.specs.SharedIds.{AreNew};
-ghost use Rattle.thread_local_ids.specs.Taken.{IsHeldIn};
 
 use crate::same::assert_same;
 use std::alloc::{AllocError, Global};
@@ -13,7 +12,7 @@ use std::test::Fail;
 use std::thread;
 use std::thread::Threads;
 use thread_local_base::LocalError;
-use thread_local_ids::{Page, Right, SharedIds, SlotRights, Taken};
+use thread_local_ids::{HeldId, Page, Right, SharedIds, SlotRights};
 
 /// The ids of a table, with its first page.
 #[derive(Drop)]
@@ -44,8 +43,8 @@ impl Table {
     }
 
     /// Takes an id.
-    pub fn take<R: Wait>(&self, rt: &R) -> Result<Taken, LocalError>
-        ensures { IfOk result (λ taken. IsHeldIn self.now.ids.table taken) }
+    pub fn take<R: Wait>(&self, rt: &R) -> Result<HeldId, LocalError>
+        ensures { IfOk result (λ held. held.tenure.table ≡ self.now.ids.table) }
     {
         let mut page = self.start.again();
         self.ids.take(rt, &mut page)
@@ -53,13 +52,13 @@ impl Table {
 
     /// Takes an id, and never gives it back.
     pub fn take_for_ever<R: Wait>(&self, rt: &R) -> Result<usize, LocalError> {
-        Ok(self.take(rt)?.0.id)
+        Ok(self.take(rt)?.id)
     }
 
     /// Takes an id, and never gives it back. Answers it, and how many ids were held at once by then.
     fn take_and_peak<R: Wait>(&self, rt: &R) -> Result<(usize, usize), LocalError> {
-        let (held, _, tenure) = self.take(rt)?;
-        let peak = self.ids.peak(rt, tenure.reached(), &mut self.start.again());
+        let held = self.take(rt)?;
+        let peak = self.ids.peak(rt, &mut held.tenure.page());
         Ok((held.id, peak))
     }
 
@@ -71,11 +70,11 @@ impl Table {
     }
 
     /// Gives an id back, and answers it.
-    fn give<R: Wait>(&self, rt: &R, taken: Taken) -> usize
-        requires { IsHeldIn self.now.ids.table taken }
+    fn give<R: Wait>(&self, rt: &R, held: HeldId) -> usize
+        requires { held.tenure.table ≡ self.now.ids.table }
     {
-        let id = taken.0.id;
-        self.ids.give(rt, taken.0, taken.1, taken.2);
+        let id = held.id;
+        self.ids.give(rt, held);
         id
     }
 }
@@ -89,7 +88,7 @@ fn the_least_id_is_taken_past_the_first_ones(rt: HostRuntime) -> Result<(), Fail
     let first = table.take(&rt)?;
     let further = table.take(&rt)?;
     let last = table.take(&rt)?;
-    let taken = (first.0.id, further.0.id, last.0.id);
+    let taken = (first.id, further.id, last.id);
     assert_same(&rt, taken, (57, 58, 59));
     table.give(&rt, further);
     assert_same(&rt, table.take_for_ever(&rt)?, 58);
@@ -134,7 +133,7 @@ fn held_ids_are_swapped_moved_and_forgotten(rt: HostRuntime) -> Result<(), Fail>
     let mut second = table.take(&rt)?;
     let third = table.take(&rt)?;
     swap(&mut first, &mut second);
-    let swapped = (first.0.id, second.0.id, third.0.id);
+    let swapped = (first.id, second.id, third.id);
     let there = &table;
     let given = thread::join(&rt, || there.give(&rt, first), || there.give(&rt, second));
     forget(third);

@@ -22,7 +22,7 @@ use Rattle.thread_local_buckets.specs.Slots.{value_offset}
 use Rattle.thread_local_ids.specs.Rights.{note_owns}
 use Rattle.thread_local_ids.specs.Told.{tells, untold_in}
 use Rattle.thread_local_ids.specs.Sharings.{first_of, is_first, left_of}
-use Rattle.thread_local_ids.proofs.MarkElements.{untold_note, tells_note}
+use Rattle.thread_local_ids.proofs.ToldNotes.{untold_note, tells_note}
 use Rattle.thread_local_ids.proofs.ToldElements.{first_only}
 use Rattle.thread_local_ids.proofs.ToldElements.{tells_alike, telling_alike}
 use Rattle.thread_local_base.specs.Learnt.{Learnt, Unknown, Missing, Standing, Vacant, Holding}

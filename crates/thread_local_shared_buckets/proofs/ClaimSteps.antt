@@ -3,6 +3,7 @@
 use Rattle.std.proofs.Common.{◌≡◌, ℕ, ◌+◌, ◌*◌, ◌/◌, ◌%◌, ◌^◌, ◌<◌, Bool, true, false, [], ◌∷◌, refl, ap, ◌∙◌}
 use Rattle.std.proofs.Common.{lit<, Option, None, Some, is_some}
 use Rattle.std.proofs.lemmas.Nat.{mod_below}
+use base.Stored.{Gv}
 use seplogic.Ra.Ura.{Ura}
 use base.Logic.{SProp, ex, guard, upd, upd_i}
 use base.Fml.{GName, Share, Fml, fsep, fbor, flft, ftrue, fex}
@@ -14,6 +15,7 @@ use denote.Steps.{nothing}
 use denote.RawPtr.{Ptr, block_ptr, count_of}
 use Rattle.std.specs.Sync.RawAtomic.{asks, always}
 use Rattle.thread_local_ids.specs.Rights.{right_owns}
+use Rattle.thread_local_ids.specs.Sharings.{Belongs}
 use Rattle.thread_local_buckets.specs.Slots.{word_offset}
 use Rattle.thread_local_base.specs.Fact.{fact}
 use Rattle.thread_local_base.specs.Bits.{is_set}
@@ -140,15 +142,15 @@ module _ {M : Type 1} {𝓤 : Ura M} (𝓛 : Logic 𝓤) (R : RattleType) (slot 
   abbrev pub with_flag : ℕ → ℕ
   with_flag n = (n + flag) % 2 ^ 64
 
-  pub publishes : (q : Share) (x : R.Denot)
+  pub publishes : (q : Share) (left : Option Gv) (same : Belongs d.sharing d.table) (x : R.Denot)
       → A.inv (fbor t.life I)
       ∗ (A.lft t.life q
-      ∗ (⟦ Which ⟧ ∗ ⟦ moves.Offer 𝓛 R t b s.block_life d.sharing d.table k e η x ⟧))
-      ⊢ asks 𝓛 chunk_word with_flag always (λ _. fsep (flft t.life q) (moves.Gain 𝓛 R t b s.block_life d.sharing d.table k e η x))
-  publishes q x =
-      let Gained : Fml = moves.Gain 𝓛 R t b s.block_life d.sharing d.table k e η x in
+      ∗ (⟦ Which ⟧ ∗ ⟦ moves.Offer 𝓛 R t b s.block_life d.sharing d.table k e η left same x ⟧))
+      ⊢ asks 𝓛 chunk_word with_flag always (λ _. fsep (flft t.life q) (moves.Gain 𝓛 R t b s.block_life d.sharing d.table k e η left same x))
+  publishes q left same x =
+      let Gained : Fml = moves.Gain 𝓛 R t b s.block_life d.sharing d.table k e η left same x in
       let Gains : ℕ → Fml = λ _. Gained in
-      let Offered : Fml = moves.Offer 𝓛 R t b s.block_life d.sharing d.table k e η x in
+      let Offered : Fml = moves.Offer 𝓛 R t b s.block_life d.sharing d.table k e η left same x in
       general.stepped_by 𝓛 R slot q with_flag Gains Offered
       (λ n fits v w is.
       let F : Option R.Denot × Who → SProp 𝓤 = Turned q with_flag Gains n v in
@@ -156,7 +158,7 @@ module _ {M : Type 1} {𝓤 : Ura M} (𝓛 : Logic 𝓤) (R : RattleType) (slot 
       use3 𝓛
       (raw
       (upd 𝓤 (guard 𝓤 (v ≡ None) (⟦ Stays (Some x) ⟧ ∗ ⟦ Had (Some x) claimed ⟧ ∗ ⟦ Gained ⟧))))
-      (moves.publishes 𝓛 R t b s.block_life d.sharing d.table k e η v w x) $
+      (moves.publishes 𝓛 R t b s.block_life d.sharing d.table k e η left same v w x) $
       settle 𝓛 (ex 𝓤 F)
       (given (v ≡ None) (‵ (Stays (Some x)) ⊛ ‵ (Had (Some x) claimed) ⊛ ‵ Gained)) $
       suffices ! _ (upd_i 𝓤 (ex 𝓤 F)) $ learn ! (λ none. split3 ! $

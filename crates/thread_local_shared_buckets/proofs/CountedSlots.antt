@@ -120,7 +120,7 @@ module _ (In : ℕ → Type 0) (in_table : (id : ℕ) → In id → bucket_of id
       }
 
   -- what it shows where it stands allows for all slots up to it
-  allowed_by : (t : Bool) (size ids : ℕ) → nat_lt (id_at bucket 0) reserved ≡ t → size ≡ 2 ^ bucket → ids ≡ ids_shown true t bucket
+  allowed_by : (t : Bool) (size ids : ℕ) → nat_lt (id_at bucket 0) reserved ≡ t → size ≡ 2 ^ bucket → ids_shown true t bucket ≤ ids
       → slots + size ≤ max reserved (2 * ids - 1)
   allowed_by true size ids is_low is shown =
       let below : id_at bucket 0 < reserved = ltb-true (id_at bucket 0) reserved is_low in
@@ -131,6 +131,6 @@ module _ (In : ℕ → Type 0) (in_table : (id : ℕ) → In id → bucket_of id
       let most : 2 * ids - 1 ≤ max reserved (2 * ids - 1) = le-max_right reserved (2 * ids - 1) in
       omega (arith, some, most, few, is, shown)
 
-  pub allowed : (size ids : ℕ) → size ≡ 2 ^ bucket → ids ≡ ids_shown true (nat_lt (id_at bucket 0) reserved) bucket
+  pub allowed : (size ids : ℕ) → size ≡ 2 ^ bucket → ids_shown true (nat_lt (id_at bucket 0) reserved) bucket ≤ ids
       → slots + size ≤ max reserved (2 * ids - 1)
   allowed size ids = allowed_by (nat_lt (id_at bucket 0) reserved) size ids refl

@@ -8,7 +8,7 @@ use base.Fml.{Lft, GName, Share, Incl, Fml, ftrue, fsep, fseps, fex, fwand, fupd
 use base.Before.{before}
 use contract.Monad.{fact_i, fact_use}
 use contract.Monad as monad
-use contract.BorrowLft.{meet_⊑_left, meet_⊑_right, ⊑_meet}
+use contract.BorrowLft.{meet_⊑_left, meet_⊑_right, ⊑_meet, lft_logic}
 use ghost.Rules.{Toks, span}
 use types.Logic.{Logic, lfts}
 use types.Kit.{‵, raw, ◌⊛◌, given, later, group, ◌$◌, ◌∵◌, !, qed, by, move, keep, drop, use1, use2, use3, split}
@@ -392,3 +392,17 @@ module _ {M : Type 1} {𝓤 : Ura M} (𝓛 : Logic 𝓤) where
     lends_claim Missing = shows_none Missing
     lends_claim Standing = shows_none Standing
     lends_claim Vacant = shows_none Vacant
+
+    -- the same of a claim with the note of its id
+    pub lends_noted : (N : Fml) (t : Learnt R.Denot) → Lends 𝓛 (fsep (claim_owns R β table c t state) N) (claim_shares R β c t state) l
+    lends_noted N t = λ κ ts inc sp.
+        let P : Fml = claim_owns R β table c t state in
+        qed 𝓛 (‵ (fbor κ (fsep P N)) ∷ raw (lfts 𝓛 ts) ∷ []) ∵ updating ! $
+        use2 𝓛 (later (‵ (fbor κ P) ⊛ raw (lfts 𝓛 ts)))
+        (by_one 𝓛 κ ts sp (A.bor κ (fsep P N)) ⟦ fbor κ P ⟧ (λ q.
+        qed 𝓛 (‵ (fbor κ (fsep P N)) ∷ ‵ (flft κ q) ∷ []) ∵ updating ! $
+        use2 𝓛 (later (‵ (fbor κ P) ⊛ ‵ (fbor κ N) ⊛ ‵ (flft κ q))) ((lft_logic 𝓛).LftL_bor_split κ q P N) $
+        await ! tt $ split3 ! $ now ! $ keep ! (0 ∷ 2 ∷ []) $ done !)) $
+        await ! tt $ split ! $
+        use2 𝓛 (later (‵ (claim_shares R β c t state κ) ⊛ raw (lfts 𝓛 ts))) (lends_claim t κ ts inc sp) $
+        await ! tt $ split ! $ now ! $ done !

@@ -11,12 +11,14 @@ use types.Kit.{‵, raw, ◌⊛◌, given, settle, suffices, use1, check, ◌$�
 use types.Kit.{rewrite, fsplit, fsplit3, fjoin, fjoin3, learn, use2, use3, split3, done}
 use denote.RattleType.{RattleType}
 use Rattle.std.specs.Coded.{coded_option}
-use Rattle.thread_local_ids.specs.Rights.{right_owns}
+use Rattle.thread_local_ids.specs.Rights.{right_owns, note_owns}
 use Rattle.thread_local_ids.proofs.RightElements.{right_once}
 use Rattle.thread_local_shared_buckets.specs.Shared.{Turn, Who, free, claimed, early, value_code, pinned}
 use Rattle.thread_local_shared_buckets.specs.Shared.{pinned_and_told, opened, holds, stays, lies_with_slot}
-use Rattle.thread_local_ids.specs.Told.{tells, noted_in}
-use Rattle.thread_local_ids.proofs.ToldElements.{tells_dup, tells_some}
+use Rattle.thread_local_ids.specs.Told.{tells}
+use Rattle.thread_local_ids.specs.Sharings.{Belongs, left_after}
+use Rattle.thread_local_ids.proofs.ToldElements.{tells_dup}
+use Rattle.thread_local_ids.proofs.ToldNotes.{publishes_noted}
 use Rattle.thread_local_base.proofs.Signs.{signs}
 use Rattle.std.proofs.lemmas.Option.{same_Some}
 
@@ -164,43 +166,42 @@ module _ {M : Type 1} {𝓤 : Ura M} (𝓛 : Logic 𝓤) (R : RattleType) (t : T
       rewrite ! 0 (λ (z : Option R.Denot). ‵ (Holds z)) (sym same) refl $ move ! (2 ∷ 0 ∷ []) $
       fjoin ! $ move ! (2 ∷ 0 ∷ 1 ∷ []) $ done !)
 
-  -- what is noted before the value is published
-  abbrev pub Noted : R.Denot → Fml
-  Noted x = noted_in sharing k (R.coded.code x)
+  module _ (left : Option Gv) (same : Belongs sharing table) where
+    -- what stays with the slot once the value is published, and the note of its id
+    abbrev pub Offer : R.Denot → Fml
+    Offer x = fsep (fsep (right_owns t.vacant k) (fsep (pinned R η x) (opened R t b ν e x))) (note_owns table k left)
 
-  -- what stays with the slot once the value is published, and that this is noted
-  abbrev pub Offer : R.Denot → Fml
-  Offer x = fsep (fsep (right_owns t.vacant k) (fsep (pinned R η x) (opened R t b ν e x))) (Noted x)
+    -- what the claim has of it then, beside the value
+    abbrev pub Gain : R.Denot → Fml
+    Gain x = fsep (right_owns t.filled k) (fsep (tells R sharing k (Some x)) (note_owns table k (left_after R sharing table left (Some x))))
 
-  -- what the claim has of it then, beside the value
-  abbrev pub Gain : R.Denot → Fml
-  Gain x = fsep (right_owns t.filled k) (tells R sharing k (Some x))
+    abbrev Made : Option R.Denot → R.Denot → SProp 𝓤
+    Made v x = guard 𝓤 (v ≡ None) (⟦ Stays (Some x) ⟧ ∗ ⟦ Had (Some x) claimed ⟧ ∗ ⟦ Gain x ⟧)
 
-  abbrev Made : Option R.Denot → R.Denot → SProp 𝓤
-  Made v x = guard 𝓤 (v ≡ None) (⟦ Stays (Some x) ⟧ ∗ ⟦ Had (Some x) claimed ⟧ ∗ ⟦ Gain x ⟧)
-
-  -- the claim of a slot that holds no value publishes one
-  pub publishes : (v : Option R.Denot) (w : Who) (x : R.Denot)
-      → ⟦ Stays v ⟧ ∗ ⟦ Had v w ⟧ ∗ ⟦ Offer x ⟧ ⊢ upd 𝓤 (Made v x)
-  publishes (Some z) w x =
-      qed 𝓛 (‵ (Stays (Some z)) ∷ ‵ (Had (Some z) w) ∷ ‵ (Offer x) ∷ []) ∵ fsplit3 ! $
-      move ! (4 ∷ []) $ fsplit ! $ fsplit3 ! $ keep ! (0 ∷ 4 ∷ []) $ by ! (twice t.vacant _)
-  publishes None free x =
-      qed 𝓛 (‵ (Stays None) ∷ ‵ (Had None free) ∷ ‵ (Offer x) ∷ []) ∵ drop ! $ fsplit ! $
-      move ! (1 ∷ []) $ fsplit3 ! $ move ! (4 ∷ []) $ fsplit ! $ fsplit3 ! $ keep ! (0 ∷ 4 ∷ []) $
-      by ! (twice t.vacant _)
-  publishes None early x =
-      qed 𝓛 (‵ (Stays None) ∷ ‵ (Had None early) ∷ ‵ (Offer x) ∷ []) ∵ drop ! $ fsplit ! $
-      move ! (1 ∷ []) $ fsplit3 ! $ move ! (4 ∷ []) $ fsplit ! $ fsplit3 ! $ keep ! (0 ∷ 4 ∷ []) $
-      by ! (twice t.vacant _)
-  publishes None claimed x =
-      let Told : Fml = tells R sharing k (Some x) in
-      let Z : SProp 𝓤 = Made None x in
-      qed 𝓛 (‵ (Stays None) ∷ ‵ (Had None claimed) ∷ ‵ (Offer x) ∷ []) ∵ fsplit ! $
-      move ! (3 ∷ []) $ fsplit ! $ move ! (3 ∷ 1 ∷ []) $
-      use2 𝓛 (raw (upd 𝓤 ⟦ Told ⟧)) (tells_some 𝓛 R sharing k x) $ settle 𝓛 Z (‵ Told) $
-      suffices ! _ (upd_i 𝓤 Z) $ use1 𝓛 (‵ Told ⊛ ‵ Told) (tells_dup 𝓛 R sharing k (Some x)) $ split ! $
-      move ! (2 ∷ []) $ fsplit3 ! $
-      -- [vacant; the pin; opened; what is told, twice; filled; who has it]
-      move ! (1 ∷ 3 ∷ []) $ fjoin ! $ move ! (1 ∷ 0 ∷ 2 ∷ []) $ fjoin3 ! $ move ! (2 ∷ 1 ∷ []) $
-      fjoin ! $ check ! refl $ move ! (1 ∷ 2 ∷ 0 ∷ []) $ done !
+    -- the claim of a slot that holds no value publishes one
+    pub publishes : (v : Option R.Denot) (w : Who) (x : R.Denot)
+        → ⟦ Stays v ⟧ ∗ ⟦ Had v w ⟧ ∗ ⟦ Offer x ⟧ ⊢ upd 𝓤 (Made v x)
+    publishes (Some z) w x =
+        qed 𝓛 (‵ (Stays (Some z)) ∷ ‵ (Had (Some z) w) ∷ ‵ (Offer x) ∷ []) ∵ fsplit3 ! $
+        move ! (4 ∷ []) $ fsplit ! $ fsplit3 ! $ keep ! (0 ∷ 4 ∷ []) $ by ! (twice t.vacant _)
+    publishes None free x =
+        qed 𝓛 (‵ (Stays None) ∷ ‵ (Had None free) ∷ ‵ (Offer x) ∷ []) ∵ drop ! $ fsplit ! $
+        move ! (1 ∷ []) $ fsplit3 ! $ move ! (4 ∷ []) $ fsplit ! $ fsplit3 ! $ keep ! (0 ∷ 4 ∷ []) $
+        by ! (twice t.vacant _)
+    publishes None early x =
+        qed 𝓛 (‵ (Stays None) ∷ ‵ (Had None early) ∷ ‵ (Offer x) ∷ []) ∵ drop ! $ fsplit ! $
+        move ! (1 ∷ []) $ fsplit3 ! $ move ! (4 ∷ []) $ fsplit ! $ fsplit3 ! $ keep ! (0 ∷ 4 ∷ []) $
+        by ! (twice t.vacant _)
+    publishes None claimed x =
+        let Told : Fml = tells R sharing k (Some x) in
+        let Note : Fml = note_owns table k (left_after R sharing table left (Some x)) in
+        let Z : SProp 𝓤 = Made None x in
+        qed 𝓛 (‵ (Stays None) ∷ ‵ (Had None claimed) ∷ ‵ (Offer x) ∷ []) ∵ fsplit ! $
+        move ! (3 ∷ []) $ fsplit ! $ move ! (3 ∷ 1 ∷ []) $
+        use2 𝓛 (raw (upd 𝓤 (⟦ Told ⟧ ∗ ⟦ Note ⟧))) (publishes_noted 𝓛 R sharing table k left x same) $ settle 𝓛 Z (‵ Told ⊛ ‵ Note) $
+        suffices ! _ (upd_i 𝓤 Z) $ split ! $ use1 𝓛 (‵ Told ⊛ ‵ Told) (tells_dup 𝓛 R sharing k (Some x)) $ split ! $
+        move ! (3 ∷ []) $ fsplit3 ! $
+        -- [vacant; the pin; opened; what is told, twice; the note; filled; who has it]
+        move ! (1 ∷ 3 ∷ []) $ fjoin ! $ move ! (1 ∷ 0 ∷ 2 ∷ []) $ fjoin3 ! $ move ! (1 ∷ 2 ∷ []) $ fjoin ! $
+        -- [what is told, with the note; what stays; filled; who has it]
+        move ! (2 ∷ 0 ∷ []) $ fjoin ! $ check ! refl $ move ! (1 ∷ 2 ∷ 0 ∷ []) $ done !

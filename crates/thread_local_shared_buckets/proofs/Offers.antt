@@ -13,7 +13,7 @@ use Rattle.std.specs.Coded.{coded_option}
 use seplogic.Ra.Ura.{Ura}
 use mir.Syntax.{Ty}
 use base.Fraction.{full_share, left, right}
-use base.Stored.{gnil}
+use base.Stored.{Gv, gnil}
 use base.Logic.{SProp, ex, guard, upd, upd_i, guard_i, id⊢}
 use base.Fml.{Lft, GName, Share, Incl, Incl-trans, Fml, ftrue, ffalse, fsep, fex, flft, fdead, fobs, fauth, fres, fbor, flent}
 use contract.BorrowLft.{meet_⊑_left, meet_⊑_right, ⊑_meet}
@@ -32,7 +32,7 @@ use Rattle.std.specs.Sync.RawAtomic.Pointer.{cell, alike, compares}
 use Rattle.std.specs.declared.alloc.Global.{Global}
 use Rattle.std.specs.contracts.impls.GlobalAllocator.TheImpl.{ghosts}
 use Rattle.std.proofs.GlobalToken.{dealloc_token-Testable}
-use Rattle.thread_local_ids.specs.Rights.{right_owns}
+use Rattle.thread_local_ids.specs.Rights.{right_owns, note_owns}
 use Rattle.thread_local_ids.proofs.RightElements.{right_once}
 use Rattle.thread_local_base.specs.Judged.{Judged}
 use Rattle.thread_local_base.specs.Bits.{is_set_in}
@@ -45,9 +45,10 @@ use Rattle.thread_local_shared_buckets.specs.Shared.{by as lent_by}
 use Rattle.thread_local_shared_buckets.specs.Shared.{numbered_slot, AreFlagWords, slots_under, slots_stand, block_stands}
 use Rattle.thread_local_shared_buckets.specs.Shared.{slots_side, all_unborn, Sized, len, first, standing, beside_pointer, grown}
 use Rattle.thread_local_shared_buckets.specs.Shared.{bucket_invariant}
-use Rattle.thread_local_ids.specs.Told.{untold_in, tells, noted_in, noted_if}
-use Rattle.thread_local_ids.specs.Sharings.{left_of}
-use Rattle.thread_local_ids.proofs.ToldElements.{tells_dup, tells_some}
+use Rattle.thread_local_ids.specs.Told.{untold_in, tells}
+use Rattle.thread_local_ids.specs.Sharings.{Belongs, left_after}
+use Rattle.thread_local_ids.proofs.ToldElements.{tells_dup}
+use Rattle.thread_local_ids.proofs.ToldNotes.{publishes_noted}
 use Rattle.thread_local_shared_buckets.proofs.Rested.{publishes}
 use Rattle.thread_local_base.proofs.Pointers.{Compared, opened_to_compare, alike_null}
 use Rattle.thread_local_shared_buckets.proofs.Loads.{part, glimpse, parted}
@@ -137,6 +138,10 @@ module _ {M : Type 1} {𝓤 : Ura M} (𝓛 : Logic 𝓤) (R : RattleType) (t : T
   abbrev pub won_by : Option GName → Option R.Denot → ℕ → Fml
   won_by sharing None j = right_owns t.pass j
   won_by sharing (Some x) j = fsep (right_owns t.filled j) (tells R sharing j (Some x))
+
+  -- the same, with the note of the slot's id
+  abbrev pub Won_by : Option GName → ℕ → Option Gv → Option R.Denot → ℕ → Fml
+  Won_by sharing table says v j = fsep (won_by sharing v j) (note_owns table j (left_after R sharing table says v))
 
   module _ (b ν : ℕ) where
     abbrev κ : Lft
@@ -304,45 +309,47 @@ module _ {M : Type 1} {𝓤 : Ura M} (𝓛 : Logic 𝓤) (R : RattleType) (t : T
             move ! (2 ∷ 1 ∷ []) $ res_agree ! (coded_option R.coded) {x = Some x} {y = c} (λ z. drop ! $ drop ! $
             rewrite ! 0 (λ (u : Option R.Denot). ‵ (content_at R u b e)) (sym z) refl $ now ! $ keep ! (0 ∷ []) $ done !))
 
-        module _ (sharing : Option GName) (table k : ℕ) (ns : List ℕ) where
+        module _ (sharing : Option GName) (table k : ℕ) (ns : List ℕ) (says : Option Gv) (same : Belongs sharing table) where
           -- the slot is born with its value, for the claim that has its pass
           full_reborn : (i : ℕ) (η : GName) → is_set_in ns i ≡ true
               → ⟦ right_owns t.vacant (i + k) ⟧ ∗ ⟦ fsep (right_owns t.filled (i + k)) (untold_in sharing (i + k)) ⟧
               ∗ ⟦ right_owns table (i + k) ⟧ ∗ ⟦ right_owns t.pass (i + k) ⟧ ∗ ⟦ full (value_offset R o i) η ⟧
-              ∗ ⟦ noted_in sharing (i + k) (R.coded.code x) ⟧
-              ⊢ upd 𝓤 (⟦ numbered_slot R t b ν sharing table k o ns η i ⟧ ∗ ⟦ won_by sharing (Some x) (i + k) ⟧)
+              ∗ ⟦ note_owns table (i + k) says ⟧
+              ⊢ upd 𝓤 (⟦ numbered_slot R t b ν sharing table k o ns η i ⟧ ∗ ⟦ Won_by sharing table says (Some x) (i + k) ⟧)
           full_reborn i η set =
               let j : ℕ = i + k in
               let e : ℕ = value_offset R o i in
               let bit : Bool = is_set_in ns i in
               let v : Option R.Denot = Some x in
               let Told : Fml = tells R sharing j v in
-              let Z : SProp 𝓤 = ⟦ numbered_slot R t b ν sharing table k o ns η i ⟧ ∗ ⟦ won_by sharing v j ⟧ in
+              let Note : Fml = note_owns table j (left_after R sharing table says v) in
+              let Z : SProp 𝓤 = ⟦ numbered_slot R t b ν sharing table k o ns η i ⟧ ∗ ⟦ Won_by sharing table says v j ⟧ in
               qed 𝓛 (‵ (right_owns t.vacant j) ∷ ‵ (fsep (right_owns t.filled j) (untold_in sharing j))
-              ∷ ‵ (right_owns table j) ∷ ‵ (right_owns t.pass j) ∷ ‵ (full e η) ∷ ‵ (noted_in sharing j (R.coded.code x)) ∷ []) ∵
+              ∷ ‵ (right_owns table j) ∷ ‵ (right_owns t.pass j) ∷ ‵ (full e η) ∷ ‵ (note_owns table j says) ∷ []) ∵
               move ! (1 ∷ []) $ fsplit ! $ move ! (1 ∷ 6 ∷ []) $
-              use2 𝓛 (raw (upd 𝓤 ⟦ Told ⟧)) (tells_some 𝓛 R sharing j x) $ settle 𝓛 Z (‵ Told) $
-              suffices ! _ (upd_i 𝓤 Z) $ use1 𝓛 (‵ Told ⊛ ‵ Told) (tells_dup 𝓛 R sharing j v) $ split ! $
-              move ! (6 ∷ []) $ fsplit3 ! $
-              -- [the way to its end; pinned; opened; told, twice; filled; vacant; the right; the pass]
-              move ! (1 ∷ 3 ∷ []) $ fjoin ! $ move ! (5 ∷ 0 ∷ 2 ∷ []) $ fjoin3 ! $
-              -- [what stays; the way to its end; told; filled; the right; the pass]
-              move ! (4 ∷ 5 ∷ []) $ fjoin ! $ move ! (1 ∷ 0 ∷ []) $ fjoin ! $
+              use2 𝓛 (raw (upd 𝓤 (⟦ Told ⟧ ∗ ⟦ Note ⟧))) (publishes_noted 𝓛 R sharing table j says x same) $ settle 𝓛 Z (‵ Told ⊛ ‵ Note) $
+              suffices ! _ (upd_i 𝓤 Z) $ split ! $ use1 𝓛 (‵ Told ⊛ ‵ Told) (tells_dup 𝓛 R sharing j v) $ split ! $
+              move ! (7 ∷ []) $ fsplit3 ! $
+              -- [the way to its end; pinned; opened; told, twice; the note; filled; vacant; the right; the pass]
+              move ! (1 ∷ 3 ∷ []) $ fjoin ! $ move ! (6 ∷ 0 ∷ 2 ∷ []) $ fjoin3 ! $
+              -- [what stays; the way to its end; told; the note; filled; the right; the pass]
+              move ! (5 ∷ 6 ∷ []) $ fjoin ! $ move ! (1 ∷ 0 ∷ []) $ fjoin ! $
               nothing ! $ fpack ! (bit ≡ is_some v) (λ _. ftrue) set $ fjoin ! $
               fpack ! (Option R.Denot × Who) (shared_slot_as R t b ν sharing table bit j e η) (v, claimed) $
-              move ! (1 ∷ 0 ∷ []) $ fjoin ! $ move ! (2 ∷ 1 ∷ []) $ fjoin ! $ move ! (1 ∷ 0 ∷ []) $ done !
+              -- [the slot, as it is; the way to its end; told; the note; filled]
+              move ! (1 ∷ 0 ∷ []) $ fjoin ! $ move ! (3 ∷ 1 ∷ []) $ fjoin ! $ move ! (0 ∷ 2 ∷ []) $ fjoin ! $ move ! (1 ∷ 0 ∷ []) $ done !
 
           -- so it is whoever has the slot: with the pass it is the claim
           full_born : (i : ℕ) (η : GName) (w : Bool) → is_set_in ns i ≡ true
               → ⟦ right_owns t.vacant (i + k) ⟧ ∗ ⟦ fsep (right_owns t.filled (i + k)) (untold_in sharing (i + k)) ⟧
               ∗ ⟦ slots_side R w table t.pass (i + k) ⟧ ∗ ⟦ right_owns t.pass (i + k) ⟧ ∗ ⟦ full (value_offset R o i) η ⟧
-              ∗ ⟦ noted_in sharing (i + k) (R.coded.code x) ⟧
-              ⊢ upd 𝓤 (⟦ numbered_slot R t b ν sharing table k o ns η i ⟧ ∗ ⟦ won_by sharing (Some x) (i + k) ⟧)
+              ∗ ⟦ note_owns table (i + k) says ⟧
+              ⊢ upd 𝓤 (⟦ numbered_slot R t b ν sharing table k o ns η i ⟧ ∗ ⟦ Won_by sharing table says (Some x) (i + k) ⟧)
           full_born i η false set =
               let j : ℕ = i + k in
               qed 𝓛 (‵ (right_owns t.vacant j) ∷ ‵ (fsep (right_owns t.filled j) (untold_in sharing j))
               ∷ ‵ (right_owns t.pass j) ∷ ‵ (right_owns t.pass j) ∷ ‵ (full (value_offset R o i) η)
-              ∷ ‵ (noted_in sharing j (R.coded.code x)) ∷ []) ∵
+              ∷ ‵ (note_owns table j says) ∷ []) ∵
               keep ! (2 ∷ 3 ∷ []) $ by ! (right_once 𝓛 t.pass j _)
           full_born i η true set = full_reborn i η set
 
@@ -373,20 +380,20 @@ module _ {M : Type 1} {𝓤 : Ura M} (𝓛 : Logic 𝓤) (R : RattleType) (t : T
         takes_mine None e η = takes_one e η
         takes_mine (Some x) e η = takes_full L x e η
 
-        module _ (sharing : Option GName) (table k : ℕ) (ns : List ℕ) where
+        module _ (sharing : Option GName) (table k : ℕ) (ns : List ℕ) (says : Option Gv) (same : Belongs sharing table) where
           mine_born : (v : Option R.Denot) (i : ℕ) (η : GName) (w : Bool) → is_set_in ns i ≡ is_some v
               → ⟦ right_owns t.vacant (i + k) ⟧ ∗ ⟦ fsep (right_owns t.filled (i + k)) (untold_in sharing (i + k)) ⟧
               ∗ ⟦ slots_side R w table t.pass (i + k) ⟧ ∗ ⟦ right_owns t.pass (i + k) ⟧ ∗ ⟦ mine v (value_offset R o i) η ⟧
-              ∗ ⟦ noted_if sharing (i + k) (left_of R v) ⟧
-              ⊢ upd 𝓤 (⟦ numbered_slot R t b ν sharing table k o ns η i ⟧ ∗ ⟦ won_by sharing v (i + k) ⟧)
+              ∗ ⟦ note_owns table (i + k) says ⟧
+              ⊢ upd 𝓤 (⟦ numbered_slot R t b ν sharing table k o ns η i ⟧ ∗ ⟦ Won_by sharing table says v (i + k) ⟧)
           mine_born None i η w clear =
               let j : ℕ = i + k in
               qed 𝓛 (‵ (right_owns t.vacant j) ∷ ‵ (Unborn sharing table k ns j) ∷ ‵ (slots_side R w table t.pass j) ∷ ‵ (right_owns t.pass j)
-              ∷ ‵ (bare (value_offset R o i) η) ∷ ‵ ftrue ∷ []) ∵
-              suffices ! _ (upd_i 𝓤 (⟦ numbered_slot R t b ν sharing table k o ns η i ⟧ ∗ ⟦ right_owns t.pass j ⟧)) $
-              keep ! (0 ∷ 1 ∷ 2 ∷ 4 ∷ 3 ∷ []) $ group ! 4 $
+              ∷ ‵ (bare (value_offset R o i) η) ∷ ‵ (note_owns table j says) ∷ []) ∵
+              suffices ! _ (upd_i 𝓤 (⟦ numbered_slot R t b ν sharing table k o ns η i ⟧ ∗ ⟦ Won_by sharing table says None j ⟧)) $
+              move ! (3 ∷ 5 ∷ []) $ fjoin ! $ move ! (1 ∷ 2 ∷ 3 ∷ 4 ∷ 0 ∷ []) $ group ! 4 $
               use1 𝓛 (‵ (numbered_slot R t b ν sharing table k o ns η i)) (born_one sharing table k ns i η w clear) $ done !
-          mine_born (Some x) i η w set = full_born L x sharing table k ns i η w set
+          mine_born (Some x) i η w set = full_born L x sharing table k ns says same i η w set
 
   unborn_apart : (sharing : Option GName) (table n m r k j : ℕ) → n ≡ m + r → j ≡ m + k
       → ⟦ all_unborn R sharing table t n k ⟧ ⊢ ⟦ all_unborn R sharing table t m k ⟧ ∗ ⟦ all_unborn R sharing table t r j ⟧
@@ -562,155 +569,156 @@ module _ {M : Type 1} {𝓤 : Ura M} (𝓛 : Logic 𝓤) (R : RattleType) (t : T
     abbrev pub id : ℕ
     id = at + first R d
 
-    -- what the claim gets when the block is installed
-    abbrev pub Won : Fml
-    Won = won_by d.sharing v id
+    module _ (says : Option Gv) (same : Belongs d.sharing d.table) where
+      -- what the claim gets when the block is installed
+      abbrev pub Won : Fml
+      Won = Won_by d.sharing d.table says v id
 
-    -- what the claim needs for that: its pass, and that its value is noted if there is one
-    abbrev pub Noted : Fml
-    Noted = noted_if d.sharing id (left_of R v)
+      -- what the claim needs for that: its pass, and the note of its id
+      abbrev pub Note : Fml
+      Note = note_owns d.table id says
 
-    abbrev pub Ticket : Fml
-    Ticket = fsep (right_owns t.pass id) Noted
+      abbrev pub Ticket : Fml
+      Ticket = fsep (right_owns t.pass id) Note
 
-    -- the block's slots are born under the turn, the claim's for whoever has its pass
-    born_block : (p : Ptr) (ν : ℕ) (z : Names) → Lies p z
-        → ⟦ all_unborn R d.sharing d.table t n (first R d) ⟧ ∗ ⟦ idle p ν z ⟧ ∗ ⟦ right_owns t.pass id ⟧ ∗ ⟦ Noted ⟧
-        ⊢ upd 𝓤 (⟦ fsep (block_stands R d t p (block_as p ν z)) (heap_token τ p) ⟧
-        ∗ ⟦ Won ⟧)
-    born_block p ν z so =
-        let b : ℕ = block_of p in
-        let o : ℕ = count_of p in
-        let k : ℕ = first R d in
-        let s : StandingBlock = block_as p ν z in
-        let Z : SProp 𝓤 = ⟦ fsep (block_stands R d t p s) (heap_token τ p) ⟧ ∗ ⟦ Won ⟧ in
-        let Rest : ℕ → Fml = λ m. all_unborn R d.sharing d.table t rest m in
-        let Unborn : ℕ → ℕ → Fml = λ m j. all_unborn R d.sharing d.table t m j in
-        let from_first : k ≡ 0 + k = omega arith in
-        let next : suc id ≡ suc at + k = omega arith in
-        qed 𝓛 (‵ (Unborn n k) ∷ ‵ (idle p ν z) ∷ ‵ (right_owns t.pass id) ∷ ‵ Noted ∷ []) ∵
-        use1 𝓛 (‵ (Unborn at k) ⊛ ‵ (Unborn (suc rest) id)) (unborn_apart d.sharing d.table n at (suc rest) k id many refl) $ split ! $
-        move ! (1 ∷ []) $ fsplit ! $
-        -- [the claim's slot, unborn; the slots behind, unborn; the slots before, unborn; the block; the pass]
-        fsplit3 ! $ move ! (2 ∷ []) $ fpick ! (λ w. move ! (5 ∷ []) $ fsplit3 ! $ fpick ! (λ ns. fsplit3 ! $ fpick ! (λ are. drop ! $
-        -- [the words; nothing; the slots; the ends; what waits; vacant; filled; the slots behind, unborn; before, unborn; the pass]
-        move ! (1 ∷ []) $ drop ! $ move ! (1 ∷ []) $ fsplit3 ! $
-        -- [the slots before; the claim's; those behind; the words; the ends; what waits; vacant; filled; the slots behind, unborn;
-        -- before, unborn; the pass]
-        let N : GName → ℕ → Fml = numbered_slot R t b ν d.sharing d.table k o ns in
-        move ! (6 ∷ 7 ∷ 5 ∷ 10 ∷ 1 ∷ 11 ∷ []) $ group ! 6 $
-        use1 𝓛 (raw (upd 𝓤 (⟦ N z.here at ⟧ ∗ ⟦ Won ⟧)))
-        (mine_born b ν o L d.sharing d.table k ns v at z.here w (here_set R v at rest ns are.1)) $
-        settle 𝓛 Z (‵ (N z.here at) ⊛ ‵ Won) $ suffices ! _ (upd_i 𝓤 Z) $ split ! $
-        -- [the claim's slot; what the claim gets; the slots before; behind; the words; the ends; behind, unborn; before, unborn]
-        move ! (7 ∷ []) $ rewrite ! 0 (λ (m : ℕ). ‵ (Unborn at m)) from_first refl $
-        rewrite ! 0 (λ (m : ℕ). ‵ (Unborn m (0 + k))) (sym so.before) refl $ move ! (0 ∷ 3 ∷ []) $
-        use2 𝓛 (‵ (each N z.before 0))
-        (born_all b ν o d.sharing d.table k ns z.before 0 (λ j near.
-        let is : j ≡ j + 0 = omega arith in
-        subst (λ (i : ℕ). is_set_in ns i ≡ false) is
-        (before_clear R v at rest ns are.1 j (omega (arith, near, so.before))))) $
-        -- [the slots before; the claim's; what the claim gets; behind; the words; the ends; behind, unborn]
-        move ! (6 ∷ []) $ rewrite ! 0 (λ (m : ℕ). ‵ (Rest m)) next refl $
-        rewrite ! 0 (λ (m : ℕ). ‵ (Unborn m (suc at + k))) (sym so.behind) refl $ move ! (0 ∷ 4 ∷ []) $
-        use2 𝓛 (‵ (each N z.behind (suc at)))
-        (born_all b ν o d.sharing d.table k ns z.behind (suc at) (λ j near.
-        behind_clear R v at rest ns are.1 j (j + suc at) refl)) $
-        -- [the slots behind; before; the claim's; what the claim gets; the words; the ends]
-        move ! (2 ∷ 0 ∷ []) $ fjoin ! $ move ! (1 ∷ 0 ∷ []) $
-        use2 𝓛 (‵ (slots_stand R d t p s ns))
-        (each_joined 𝓛 N z.before (z.here ∷ z.behind) 0 at (omega (arith, so.before))) $
-        -- [the slots; what its claim gets; the words; the ends]
-        move ! (2 ∷ []) $ rewrite ! 0 (λ (m : ℕ). ‵ (each (flags_at R m b o) ns 0)) as_many refl $ move ! (0 ∷ 1 ∷ []) $
-        fjoin ! $ nothing ! $ fpack ! (AreFlagWords R n ns) (λ _. ftrue) (flag_words R v at rest ns are.1 n many are.0) $
-        fjoin ! $ fpack ! (List ℕ) (slots_under R n b o (slots_stand R d t p s)) ns $
-        move ! (2 ∷ []) $ fsplit ! $ move ! (2 ∷ 0 ∷ []) $ fjoin ! $ move ! (1 ∷ []) $
-        fpack ! Global (λ y. ghosts.dealloc_token y τ p) a $ move ! (1 ∷ 0 ∷ []) $ fjoin ! $ done !)))
+      -- the block's slots are born under the turn, the claim's for whoever has its pass
+      born_block : (p : Ptr) (ν : ℕ) (z : Names) → Lies p z
+          → ⟦ all_unborn R d.sharing d.table t n (first R d) ⟧ ∗ ⟦ idle p ν z ⟧ ∗ ⟦ right_owns t.pass id ⟧ ∗ ⟦ Note ⟧
+          ⊢ upd 𝓤 (⟦ fsep (block_stands R d t p (block_as p ν z)) (heap_token τ p) ⟧
+          ∗ ⟦ Won ⟧)
+      born_block p ν z so =
+          let b : ℕ = block_of p in
+          let o : ℕ = count_of p in
+          let k : ℕ = first R d in
+          let s : StandingBlock = block_as p ν z in
+          let Z : SProp 𝓤 = ⟦ fsep (block_stands R d t p s) (heap_token τ p) ⟧ ∗ ⟦ Won ⟧ in
+          let Rest : ℕ → Fml = λ m. all_unborn R d.sharing d.table t rest m in
+          let Unborn : ℕ → ℕ → Fml = λ m j. all_unborn R d.sharing d.table t m j in
+          let from_first : k ≡ 0 + k = omega arith in
+          let next : suc id ≡ suc at + k = omega arith in
+          qed 𝓛 (‵ (Unborn n k) ∷ ‵ (idle p ν z) ∷ ‵ (right_owns t.pass id) ∷ ‵ Note ∷ []) ∵
+          use1 𝓛 (‵ (Unborn at k) ⊛ ‵ (Unborn (suc rest) id)) (unborn_apart d.sharing d.table n at (suc rest) k id many refl) $ split ! $
+          move ! (1 ∷ []) $ fsplit ! $
+          -- [the claim's slot, unborn; the slots behind, unborn; the slots before, unborn; the block; the pass]
+          fsplit3 ! $ move ! (2 ∷ []) $ fpick ! (λ w. move ! (5 ∷ []) $ fsplit3 ! $ fpick ! (λ ns. fsplit3 ! $ fpick ! (λ are. drop ! $
+          -- [the words; nothing; the slots; the ends; what waits; vacant; filled; the slots behind, unborn; before, unborn; the pass]
+          move ! (1 ∷ []) $ drop ! $ move ! (1 ∷ []) $ fsplit3 ! $
+          -- [the slots before; the claim's; those behind; the words; the ends; what waits; vacant; filled; the slots behind, unborn;
+          -- before, unborn; the pass]
+          let N : GName → ℕ → Fml = numbered_slot R t b ν d.sharing d.table k o ns in
+          move ! (6 ∷ 7 ∷ 5 ∷ 10 ∷ 1 ∷ 11 ∷ []) $ group ! 6 $
+          use1 𝓛 (raw (upd 𝓤 (⟦ N z.here at ⟧ ∗ ⟦ Won ⟧)))
+          (mine_born b ν o L d.sharing d.table k ns says same v at z.here w (here_set R v at rest ns are.1)) $
+          settle 𝓛 Z (‵ (N z.here at) ⊛ ‵ Won) $ suffices ! _ (upd_i 𝓤 Z) $ split ! $
+          -- [the claim's slot; what the claim gets; the slots before; behind; the words; the ends; behind, unborn; before, unborn]
+          move ! (7 ∷ []) $ rewrite ! 0 (λ (m : ℕ). ‵ (Unborn at m)) from_first refl $
+          rewrite ! 0 (λ (m : ℕ). ‵ (Unborn m (0 + k))) (sym so.before) refl $ move ! (0 ∷ 3 ∷ []) $
+          use2 𝓛 (‵ (each N z.before 0))
+          (born_all b ν o d.sharing d.table k ns z.before 0 (λ j near.
+          let is : j ≡ j + 0 = omega arith in
+          subst (λ (i : ℕ). is_set_in ns i ≡ false) is
+          (before_clear R v at rest ns are.1 j (omega (arith, near, so.before))))) $
+          -- [the slots before; the claim's; what the claim gets; behind; the words; the ends; behind, unborn]
+          move ! (6 ∷ []) $ rewrite ! 0 (λ (m : ℕ). ‵ (Rest m)) next refl $
+          rewrite ! 0 (λ (m : ℕ). ‵ (Unborn m (suc at + k))) (sym so.behind) refl $ move ! (0 ∷ 4 ∷ []) $
+          use2 𝓛 (‵ (each N z.behind (suc at)))
+          (born_all b ν o d.sharing d.table k ns z.behind (suc at) (λ j near.
+          behind_clear R v at rest ns are.1 j (j + suc at) refl)) $
+          -- [the slots behind; before; the claim's; what the claim gets; the words; the ends]
+          move ! (2 ∷ 0 ∷ []) $ fjoin ! $ move ! (1 ∷ 0 ∷ []) $
+          use2 𝓛 (‵ (slots_stand R d t p s ns))
+          (each_joined 𝓛 N z.before (z.here ∷ z.behind) 0 at (omega (arith, so.before))) $
+          -- [the slots; what its claim gets; the words; the ends]
+          move ! (2 ∷ []) $ rewrite ! 0 (λ (m : ℕ). ‵ (each (flags_at R m b o) ns 0)) as_many refl $ move ! (0 ∷ 1 ∷ []) $
+          fjoin ! $ nothing ! $ fpack ! (AreFlagWords R n ns) (λ _. ftrue) (flag_words R v at rest ns are.1 n many are.0) $
+          fjoin ! $ fpack ! (List ℕ) (slots_under R n b o (slots_stand R d t p s)) ns $
+          move ! (2 ∷ []) $ fsplit ! $ move ! (2 ∷ 0 ∷ []) $ fjoin ! $ move ! (1 ∷ []) $
+          fpack ! Global (λ y. ghosts.dealloc_token y τ p) a $ move ! (1 ∷ 0 ∷ []) $ fjoin ! $ done !)))
 
-    -- the exchange of null for the block
-    module _ (b o : ℕ) (q : Share) (nb no : ℕ) (ν : ℕ) (z : Names) (so : Lies (block_ptr nb no) z) where
-      abbrev new : Ptr
-      new = block_ptr nb no
+      -- the exchange of null for the block
+      module _ (b o : ℕ) (q : Share) (nb no : ℕ) (ν : ℕ) (z : Names) (so : Lies (block_ptr nb no) z) where
+        abbrev new : Ptr
+        new = block_ptr nb no
 
-      abbrev s : StandingBlock
-      s = block_as new ν z
+        abbrev s : StandingBlock
+        s = block_as new ν z
 
-      abbrev J : Fml
-      J = bucket_invariant R d t b o
+        abbrev J : Fml
+        J = bucket_invariant R d t b o
 
-      abbrev Held : Ptr → Fml
-      Held p = fsep (cell b o p) (beside_pointer R d t p)
+        abbrev Held : Ptr → Fml
+        Held p = fsep (cell b o p) (beside_pointer R d t p)
 
-      abbrev pub won : Ptr → Fml
-      won p = fsep (part 𝓛 R d t new (s, right full_share)) Won
+        abbrev pub won : Ptr → Fml
+        won p = fsep (part 𝓛 R d t new (s, right full_share)) Won
 
-      abbrev pub lost : Ptr → Fml
-      lost p = fsep (fsep (private new ν z) (glimpse 𝓛 R d t ffalse ftrue p)) Ticket
+        abbrev pub lost : Ptr → Fml
+        lost p = fsep (fsep (private new ν z) (glimpse 𝓛 R d t ffalse ftrue p)) Ticket
 
-      abbrev F : Ptr × Bool → SProp 𝓤
-      F = Compared 𝓛 t.life q J b o null_ptr new won lost
+        abbrev F : Ptr × Bool → SProp 𝓤
+        F = Compared 𝓛 t.life q J b o null_ptr new won lost
 
-      abbrev IsAs : Type 0
-      IsAs = (s.at ≡ new) × (length s.names ≡ n) × Sized R n new
+        abbrev IsAs : Type 0
+        IsAs = (s.at ≡ new) × (length s.names ≡ n) × Sized R n new
 
-      is_as : IsAs
-      is_as = (refl, names_long new z so, so.sized)
+        is_as : IsAs
+        is_as = (refl, names_long new z so, so.sized)
 
-      -- what the exchange finds in the pointer
-      abbrev Finds : Ptr → Type 1
-      Finds p = ⟦ cell b o p ⟧ ∗ ⟦ beside_pointer R d t p ⟧ ∗ ⟦ private new ν z ⟧ ∗ ⟦ grown d ⟧ ∗ ⟦ Ticket ⟧ ⊢ ex 𝓤 F
+        -- what the exchange finds in the pointer
+        abbrev Finds : Ptr → Type 1
+        Finds p = ⟦ cell b o p ⟧ ∗ ⟦ beside_pointer R d t p ⟧ ∗ ⟦ private new ν z ⟧ ∗ ⟦ grown d ⟧ ∗ ⟦ Ticket ⟧ ⊢ ex 𝓤 F
 
-      -- no block was installed: this one is
-      found_none : Finds null_ptr
-      found_none = let m = block_code s in let γ : GName = t.which in let G : SProp 𝓤 = ⟦ J ⟧ ∗ ⟦ won null_ptr ⟧ in
-          qed 𝓛
-          (‵ (cell b o null_ptr) ∷ ‵ (beside_pointer R d t null_ptr) ∷ ‵ (private new ν z) ∷ ‵ (grown d) ∷ ‵ Ticket ∷ []) ∵
-          show ! F (null_ptr, true) $ frame ! $
-          use0 𝓛 (‵ (alike null_ptr null_ptr true)) (alike_null 𝓛 null_ptr (lit< tt)) $ frame ! $
-          assume ! (‵ (cell b o new)) $ move ! (1 ∷ []) $ fsplit3 ! $ drop ! $
-          use1 𝓛 (raw (upd 𝓤 (A.obs γ m ∗ A.auth γ m))) (𝓛.names.name_set_upd γ gnil gnil m) $
-          settle 𝓛 G (‵ (fobs γ m) ⊛ ‵ (fauth γ m)) $ split ! $
-          -- [what the name says now; its authority; what waits; the pointer; the private block; what it shows; the pass]
-          use1 𝓛 (‵ (fres γ m)) (𝓛.names.obs-res γ m) $ move ! (1 ∷ 0 ∷ 5 ∷ []) $ fjoin3 ! $ move ! (3 ∷ []) $ fsplit ! $
-          -- [its own token; the block; settled; what waits; the pointer; the ticket]
-          move ! (5 ∷ []) $ fsplit ! $ move ! (5 ∷ 3 ∷ 0 ∷ 1 ∷ []) $ group ! 4 $
-          use1 𝓛 (raw (upd 𝓤 (⟦ fsep (block_stands R d t new s) (heap_token τ new) ⟧ ∗ ⟦ Won ⟧))) (born_block new ν z so) $
-          settle 𝓛 G (‵ (fsep (block_stands R d t new s) (heap_token τ new)) ⊛ ‵ Won) $
-          suffices ! _ (upd_i 𝓤 G) $ split ! $
-          -- [the block; what the claim gets; its own token; settled; the pointer]
-          move ! (3 ∷ 2 ∷ 0 ∷ []) $ fjoin3 ! $ nothing ! $ fpack ! IsAs (λ _. ftrue) is_as $ fjoin ! $
-          use1 𝓛 (‵ (standing R d t new (s, left full_share))
-          ⊛ ‵ (part 𝓛 R d t new (s, right full_share)))
-          (parted 𝓛 R d t new (s, full_share)) $
-          split ! $
-          fpack ! (StandingBlock × Share) (standing R d t new) (s, left full_share) $
-          -- [beside the pointer; the part; what the claim gets; the pointer]
-          move ! (1 ∷ 2 ∷ []) $ fjoin ! $ move ! (2 ∷ 1 ∷ []) $ fjoin ! $ fpack ! Ptr Held new $ done !
+        -- no block was installed: this one is
+        found_none : Finds null_ptr
+        found_none = let m = block_code s in let γ : GName = t.which in let G : SProp 𝓤 = ⟦ J ⟧ ∗ ⟦ won null_ptr ⟧ in
+            qed 𝓛
+            (‵ (cell b o null_ptr) ∷ ‵ (beside_pointer R d t null_ptr) ∷ ‵ (private new ν z) ∷ ‵ (grown d) ∷ ‵ Ticket ∷ []) ∵
+            show ! F (null_ptr, true) $ frame ! $
+            use0 𝓛 (‵ (alike null_ptr null_ptr true)) (alike_null 𝓛 null_ptr (lit< tt)) $ frame ! $
+            assume ! (‵ (cell b o new)) $ move ! (1 ∷ []) $ fsplit3 ! $ drop ! $
+            use1 𝓛 (raw (upd 𝓤 (A.obs γ m ∗ A.auth γ m))) (𝓛.names.name_set_upd γ gnil gnil m) $
+            settle 𝓛 G (‵ (fobs γ m) ⊛ ‵ (fauth γ m)) $ split ! $
+            -- [what the name says now; its authority; what waits; the pointer; the private block; what it shows; the pass]
+            use1 𝓛 (‵ (fres γ m)) (𝓛.names.obs-res γ m) $ move ! (1 ∷ 0 ∷ 5 ∷ []) $ fjoin3 ! $ move ! (3 ∷ []) $ fsplit ! $
+            -- [its own token; the block; settled; what waits; the pointer; the ticket]
+            move ! (5 ∷ []) $ fsplit ! $ move ! (5 ∷ 3 ∷ 0 ∷ 1 ∷ []) $ group ! 4 $
+            use1 𝓛 (raw (upd 𝓤 (⟦ fsep (block_stands R d t new s) (heap_token τ new) ⟧ ∗ ⟦ Won ⟧))) (born_block new ν z so) $
+            settle 𝓛 G (‵ (fsep (block_stands R d t new s) (heap_token τ new)) ⊛ ‵ Won) $
+            suffices ! _ (upd_i 𝓤 G) $ split ! $
+            -- [the block; what the claim gets; its own token; settled; the pointer]
+            move ! (3 ∷ 2 ∷ 0 ∷ []) $ fjoin3 ! $ nothing ! $ fpack ! IsAs (λ _. ftrue) is_as $ fjoin ! $
+            use1 𝓛 (‵ (standing R d t new (s, left full_share))
+            ⊛ ‵ (part 𝓛 R d t new (s, right full_share)))
+            (parted 𝓛 R d t new (s, full_share)) $
+            split ! $
+            fpack ! (StandingBlock × Share) (standing R d t new) (s, left full_share) $
+            -- [beside the pointer; the part; what the claim gets; the pointer]
+            move ! (1 ∷ 2 ∷ []) $ fjoin ! $ move ! (2 ∷ 1 ∷ []) $ fjoin ! $ fpack ! Ptr Held new $ done !
 
-      -- another one was installed first
-      found_other : (pb po : ℕ) → Finds (block_ptr pb po)
-      found_other pb po =
-          let p : Ptr = block_ptr pb po in
-          qed 𝓛 (‵ (cell b o p) ∷ ‵ (beside_pointer R d t p) ∷ ‵ (private new ν z) ∷ ‵ (grown d) ∷ ‵ Ticket ∷ []) ∵
-          keep ! (0 ∷ 1 ∷ 2 ∷ 4 ∷ []) $ show ! F (p, false) $ frame ! $ fpick ! (λ y. fsplit ! $ fpick ! (λ h. drop ! $
-          nothing ! $ fpack ! ((y.0.at ≡ p) × (length y.0.names ≡ n) × Sized R n p) (λ _. ftrue) h $ fjoin ! $
-          use1 𝓛 (‵ (standing R d t p (y.0, left y.1)) ⊛ ‵ (part 𝓛 R d t p (y.0, right y.1)))
-          (parted 𝓛 R d t p y) $
-          split ! $ fpack ! (StandingBlock × Share) (standing R d t p) (y.0, left y.1) $
-          use0 𝓛 (‵ (alike p null_ptr false)) (alike_null 𝓛 p h.2.1) $ frame ! $
-          assume ! (‵ (cell b o p)) $ suffices ! _ (upd_i 𝓤 (⟦ J ⟧ ∗ ⟦ lost p ⟧)) $ fjoin ! $
-          fpack ! Ptr Held p $ frame ! $
-          fpack ! (StandingBlock × Share) (part 𝓛 R d t p) (y.0, right y.1) $ nothing ! $
-          move ! (1 ∷ 0 ∷ []) $ fjoin ! $ move ! (1 ∷ 0 ∷ []) $ fjoin ! $ fjoin ! $ done !))
+        -- another one was installed first
+        found_other : (pb po : ℕ) → Finds (block_ptr pb po)
+        found_other pb po =
+            let p : Ptr = block_ptr pb po in
+            qed 𝓛 (‵ (cell b o p) ∷ ‵ (beside_pointer R d t p) ∷ ‵ (private new ν z) ∷ ‵ (grown d) ∷ ‵ Ticket ∷ []) ∵
+            keep ! (0 ∷ 1 ∷ 2 ∷ 4 ∷ []) $ show ! F (p, false) $ frame ! $ fpick ! (λ y. fsplit ! $ fpick ! (λ h. drop ! $
+            nothing ! $ fpack ! ((y.0.at ≡ p) × (length y.0.names ≡ n) × Sized R n p) (λ _. ftrue) h $ fjoin ! $
+            use1 𝓛 (‵ (standing R d t p (y.0, left y.1)) ⊛ ‵ (part 𝓛 R d t p (y.0, right y.1)))
+            (parted 𝓛 R d t p y) $
+            split ! $ fpack ! (StandingBlock × Share) (standing R d t p) (y.0, left y.1) $
+            use0 𝓛 (‵ (alike p null_ptr false)) (alike_null 𝓛 p h.2.1) $ frame ! $
+            assume ! (‵ (cell b o p)) $ suffices ! _ (upd_i 𝓤 (⟦ J ⟧ ∗ ⟦ lost p ⟧)) $ fjoin ! $
+            fpack ! Ptr Held p $ frame ! $
+            fpack ! (StandingBlock × Share) (part 𝓛 R d t p) (y.0, right y.1) $ nothing ! $
+            move ! (1 ∷ 0 ∷ []) $ fjoin ! $ move ! (1 ∷ 0 ∷ []) $ fjoin ! $ fjoin ! $ done !))
 
-      found : (p : Ptr) → Finds p
-      found null_ptr = found_none
-      found (block_ptr pb po) = found_other pb po
+        found : (p : Ptr) → Finds p
+        found null_ptr = found_none
+        found (block_ptr pb po) = found_other pb po
 
-      pub offers : A.inv (fbor t.life J) ∗ (A.lft t.life q ∗ (⟦ private new ν z ⟧ ∗ ⟦ grown d ⟧ ∗ ⟦ Ticket ⟧))
-          ⊢ compares 𝓛 (block_ptr b o) null_ptr new (λ p. fsep (flft t.life q) (won p))
-          (λ p. fsep (flft t.life q) (lost p))
-      offers =
-          opened_to_compare 𝓛 t.life q J b o null_ptr new won lost (⟦ private new ν z ⟧ ∗ ⟦ grown d ⟧ ∗ ⟦ Ticket ⟧)
-          (qed 𝓛 (‵ J ∷ ‵ (private new ν z) ∷ ‵ (grown d) ∷ ‵ Ticket ∷ []) ∵ suffices ! _ (upd_i 𝓤 (ex 𝓤 F)) $ fpick ! (λ p.
-          fsplit ! $ by ! (found p)))
+        pub offers : A.inv (fbor t.life J) ∗ (A.lft t.life q ∗ (⟦ private new ν z ⟧ ∗ ⟦ grown d ⟧ ∗ ⟦ Ticket ⟧))
+            ⊢ compares 𝓛 (block_ptr b o) null_ptr new (λ p. fsep (flft t.life q) (won p))
+            (λ p. fsep (flft t.life q) (lost p))
+        offers =
+            opened_to_compare 𝓛 t.life q J b o null_ptr new won lost (⟦ private new ν z ⟧ ∗ ⟦ grown d ⟧ ∗ ⟦ Ticket ⟧)
+            (qed 𝓛 (‵ J ∷ ‵ (private new ν z) ∷ ‵ (grown d) ∷ ‵ Ticket ∷ []) ∵ suffices ! _ (upd_i 𝓤 (ex 𝓤 F)) $ fpick ! (λ p.
+            fsplit ! $ by ! (found p)))

@@ -1,12 +1,12 @@
 -- A claim's parts. The room that it has for a value: a vacant slot, or a block that was made for its
 -- missing bucket. What filling the slot leaves.
-use Rattle.std.specs.Prelude.{◌≡◌, ◌⊎◌, ℕ, ◌^◌, ◌<◌, Option, None, Some, true}
+use Rattle.std.specs.Prelude.{◌≡◌, ◌⊎◌, ℕ, ◌^◌, ◌-◌, ◌<◌, Option, None, Some}
 use Rattle.thread_local_base.specs.Learnt.{Learnt, Missing, Vacant, Holding}
 use Rattle.thread_local_base.specs.Place.{index_of}
 use Rattle.thread_local_buckets.specs.Slots.{empty_slots}
 use Rattle.thread_local_ids.specs.Sharings.{Belongs}
-use Rattle.thread_local_ids.specs.declared.rights.held.HeldId.{HeldId}
-use Rattle.thread_local_ids.specs.declared.rights.reached.Reached.{Reached}
+use Rattle.thread_local_ids.specs.Rights.{taken_id}
+use Rattle.thread_local_ids.specs.declared.rights.page.Tenure.{Tenure}
 use Rattle.thread_local_shared_buckets.specs.Announcing.{Announcing, BeginsWithFirst}
 use Rattle.thread_local_shared_buckets.specs.Known.{HasLooked}
 use Rattle.thread_local_shared_buckets.specs.declared.claimed.ClaimedSlot.{ClaimedSlot}
@@ -20,20 +20,19 @@ HasRoom heap bucket learnt None = learnt ≡ Vacant
 HasRoom heap bucket learnt (Some block) =
     (learnt ≡ Missing) × (block.heap ≡ heap) × (block.slots ≡ empty_slots (2 ^ bucket)) × (block.left ≡ 0)
 
--- What a claim keeps of its slot, the held id with its mark, the word of announced buckets, and how many
--- ids it knows to have been held at once: all are of the same table, and the slot is that of the id.
-abbrev pub IsClaim : {V : Type 0} → ClaimedSlot V → HeldId → Announcing → Reached → Type 0
-IsClaim slot held word reached =
-    (slot.id ≡ held.id)
-    × (slot.index ≡ index_of held.id)
+-- What a claim keeps of its slot, the id, the word of announced buckets, and the tenure of the id: all are
+-- of the same table, and the slot is that of the id.
+abbrev pub IsClaim : {V : Type 0} → ClaimedSlot V → ℕ → Announcing → Tenure → Type 0
+IsClaim slot id word tenure =
+    (slot.id ≡ id)
+    × (slot.index ≡ index_of id)
+    × (id < 2 ^ 63 - 1)
     × HasLooked slot.learnt
-    × (held.mark.table ≡ slot.table)
-    × (held.mark.told ≡ true)
     × Belongs slot.sharing slot.table
     × (slot.word ≡ word)
     × BeginsWithFirst word
-    × (reached.table ≡ slot.table)
-    × (held.id < reached.ids)
+    × (tenure.table ≡ slot.table)
+    × (id ≡ taken_id tenure.before)
 
 -- no value is known: the bucket was missing, or the slot is vacant
 abbrev pub IsEmpty : {V : Type 0} → Learnt V → Type 0

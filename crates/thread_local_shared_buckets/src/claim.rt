@@ -5,7 +5,10 @@ ghost use Rattle.std.specs.Prelude.{IfOk, OnOk, IfErr, OnErr, MatchBool, MatchOp
 ghost use Rattle.thread_local_base.specs.Learnt.{Unknown, Missing, Vacant, Holding, Finds, learnt_by_publish};
 ghost use Rattle.thread_local_base.specs.Place.{IsPlaceOf, bucket_of, id_at};
 ghost use Rattle.thread_local_buckets.specs.Slots.{empty_slots, slot_value, flag_word_at};
+ghost use Rattle.thread_local_base.specs.Held.{is_held};
+ghost use Rattle.thread_local_base.specs.IdMoves.{Take, held_after, noted};
 ghost use Rattle.thread_local_ids.specs.Sharings.{Belongs, is_first, left_of};
+ghost use mathlib.Core.List.{IsPrefix};
 ghost use Rattle.thread_local_shared_buckets.specs.Known.{HasLooked, value_held};
 ghost use Rattle.thread_local_shared_buckets.specs.Room.{IsEmpty, HasRoom, IsFilledBy};
 
@@ -15,23 +18,22 @@ use std::alloc::{AllocError, Global};
 use std::marker::Model;
 use thread_local_base::{Thread, bucket_size};
 use thread_local_buckets::{Block, BucketPointer, flag_word_at};
-use thread_local_ids::{HeldId, Reached, Right, Token};
+use thread_local_ids::{HeldId, Page, Tenure, Token};
 
 /// The slot of an id, for the holder of the id, whose right lies with the slot meanwhile. Contracts
-/// see its table, the sharing, its id, whether its bucket is reserved, and what it has learnt of
-/// the slot: that the bucket was missing, that the slot is vacant, or the value that the slot
-/// holds.
+/// see its table, the sharing, its id, what was done with the table's ids before the id was taken,
+/// whether its bucket is reserved, and what it has learnt of the slot: that the bucket was missing,
+/// that the slot is vacant, or the value that the slot holds.
 ///
 /// No call waits, but a closure that a call runs may, and so may the drop of one that it doesn't run.
 /// Only `fill`, `try_fill`, `set` and `room` take memory. These, `Shared::claim`, `publish_in` and
 /// `publish` make atomic steps.
 pub struct Claim<'a, T> {
     slot: ClaimedSlot<'a, T>,
-    held: HeldId,
+    id: usize,
     /// The word in which the claim announces its bucket before it installs one.
     announcements: &'a Announcements,
-    /// That all ids up to its own were held at once, which an install shows.
-    reached: Reached,
+    tenure: Tenure,
 }
 
 impl<'a, T> Model for Claim<'a, T> {
@@ -46,45 +48,44 @@ impl<'a, T> Model for Claim<'a, T> {
         record {
           table = c.slot.table;
           sharing = c.slot.sharing;
-          id = c.held.id;
+          id = c.id;
+          before = c.tenure.before;
           reserved = c.slot.reserved;
           learnt = c.slot.learnt;
         } };
 
-    ghost invariant = { λ c. IsClaim c.slot c.held c.announcements.now c.reached };
+    ghost invariant = { λ c. IsClaim c.slot c.id c.announcements.now c.tenure };
 }
 
 impl<T> Shared<T> {
     /// Claims the slot of a held id, for as long as the buckets are borrowed: one atomic load of
     /// the bucket's pointer, and where the bucket stands, one of the word that has the slot's flag.
-    /// The bucket of a reserved slot is never missing. All ids up to this one were held at once.
-    pub fn claim(&self, held: HeldId, right: Right, reached: Reached) -> Claim<'_, T>
-        requires table { (right.table ≡ self.now.table) × (held.mark.table ≡ self.now.table) }
-        requires told { held.mark.told ≡ true }
+    /// The bucket of a reserved slot is never missing.
+    pub fn claim(&self, held: HeldId) -> Claim<'_, T>
+        requires table { held.tenure.table ≡ self.now.table }
         requires sharing { Belongs self.now.sharing self.now.table }
-        requires id { right.id ≡ held.id }
-        requires reached { (reached.table ≡ self.now.table) × (held.id < reached.ids) }
         ensures same_slot { (result.table ≡ self.now.table)
             × (result.sharing ≡ self.now.sharing)
-            × (result.id ≡ held.id) }
+            × (result.id ≡ held.id)
+            × (result.before ≡ held.tenure.before) }
         ensures found { Finds Unknown result.learnt }
         ensures learnt { HasLooked result.learnt }
         ensures reserved { id_at (bucket_of held.id) 0 < self.now.reserved → result.learnt ≢ Missing }
         ensures left { is_first self.now.sharing self.now.table ≡ true
-            → held.mark.left ≡ left_of T.row (value_held result.learnt) }
+            → held.right.left ≡ left_of T.row (value_held result.learnt) }
     {
-        let thread = Thread::new(held.id);
+        let HeldId { id, right, tenure } = held;
+        let thread = Thread::new(id);
         let pointers = &self.parts().pointers;
         let bucket = &pointers.pointers.pointers[thread.bucket];
         let mut slot = ClaimedSlot::hold(bucket, thread.index, right);
         slot.find(thread.index, flag_word_of::<T>(thread));
-        let mut held = held;
-        slot.notes(&mut held.mark);
+        slot.notes();
         Claim {
             slot,
-            held,
+            id,
             announcements: &pointers.announced,
-            reached,
+            tenure,
         }
     }
 }
@@ -105,7 +106,7 @@ impl<'a, T> Claim<'a, T> {
         if self.slot.state() == HOLDING {
             return Ok(());
         }
-        let thread = Thread::new(self.held.id);
+        let thread = Thread::new(self.id);
         if self.is_missing() {
             return self.fill_missing(alloc, thread, create);
         }
@@ -129,7 +130,7 @@ impl<'a, T> Claim<'a, T> {
         ensures ok { OnOk result (IsFilledBy (F.post create) self.old self.new) }
         ensures err { OnErr result (self.new ≡ self.old) }
     {
-        if self.held.id != 0 {
+        if self.id != 0 {
             return self.fill_further(alloc, thread, create);
         }
         let first = Thread::new(0);
@@ -175,7 +176,7 @@ impl<'a, T> Claim<'a, T> {
         if self.slot.state() == HOLDING {
             return Ok(Ok(()));
         }
-        let thread = Thread::new(self.held.id);
+        let thread = Thread::new(self.id);
         let block = self.room(&alloc, thread)?;
         match create() {
             Ok(value) => {
@@ -204,12 +205,11 @@ impl<'a, T> Claim<'a, T> {
             × (block.left ≡ 0) }
         ensures { self.new ≡ record self.old { learnt = Vacant } }
     {
-        let noted = self.slot.nothing();
         let announced = self.announcements.announce(thread.bucket);
-        let reached = &self.reached;
+        let tenure = &self.tenure;
         let back = self
             .slot
-            .exchange(thread.index, block, reached, announced, VACANT, noted);
+            .exchange(thread.index, block, tenure, announced, VACANT);
         if let Some(block) = back {
             block.release(alloc, bucket_size(thread.bucket));
         }
@@ -224,7 +224,7 @@ impl<'a, T> Claim<'a, T> {
         ensures err { IfErr result (λ given.
             (given ≡ value) × (self.old.learnt ≡ Missing) × (self.new ≡ self.old)) }
     {
-        let thread = Thread::new(self.held.id);
+        let thread = Thread::new(self.id);
         match self.room(&alloc, thread) {
             Ok(block) => {
                 self.publish_in(&alloc, thread, block, value);
@@ -279,15 +279,10 @@ impl<'a, T> Claim<'a, T> {
         let Some(block) = block else {
             return self.publish_standing(thread, value);
         };
-        let held = &mut self.held;
-        let noted = self.slot.note(held, &value);
         let block = filled(block, alloc, thread, value);
         let announced = self.announcements.announce(thread.bucket);
-        let reached = &self.reached;
-        self.slot
-            .install(alloc, thread, block, reached, announced, noted);
-        let held = &mut self.held;
-        self.slot.told(held);
+        let tenure = &self.tenure;
+        self.slot.install(alloc, thread, block, tenure, announced);
     }
 
     /// `publish`, which is never inlined, so that the way of who installs a block is short.
@@ -310,12 +305,8 @@ impl<'a, T> Claim<'a, T> {
         ensures same { self.new ≡ record self.old { learnt = self.new.learnt } }
         ensures learnt { learnt_by_publish self.old.learnt value ≡ Some self.new.learnt }
     {
-        let held = &mut self.held;
-        let noted = self.slot.note(held, &value);
         self.slot
-            .publish(thread.index, flag_word_of::<T>(thread), value, noted);
-        let held = &mut self.held;
-        self.slot.told(held);
+            .publish(thread.index, flag_word_of::<T>(thread), value);
     }
 
     /// The id whose slot it is.
@@ -323,7 +314,7 @@ impl<'a, T> Claim<'a, T> {
         ensures id { result ≡ self.now.id }
         ensures in_range { result < 2 ^ 63 - 1 }
     {
-        self.held.id
+        self.id
     }
 
     /// Whether the bucket was missing when the claim looked for it last.
@@ -359,7 +350,7 @@ impl<'a, T> Claim<'a, T> {
         if self.slot.state() != HOLDING {
             return None;
         }
-        Some(self.slot.token(self.held.id))
+        Some(self.slot.token(self.id))
     }
 
     /// Shows that the slot holds what a token says that it was published with. At run time it does
@@ -374,25 +365,26 @@ impl<'a, T> Claim<'a, T> {
         self.slot.agrees(token);
     }
 
-    /// Gives the claim up, and returns the held id with its right. The id's note says what the slot is
-    /// left with.
-    pub fn give_up(self) -> (HeldId, Right)
-        ensures table { (result.1.table ≡ self.entry.table) × (result.0.mark.table ≡ self.entry.table) }
-        ensures id { (result.0.id ≡ self.entry.id) × (result.1.id ≡ self.entry.id) }
-        ensures told { result.0.mark.told ≡ true }
+    /// Gives the claim up, and returns the held id. The id's note says what the slot is left with.
+    pub fn give_up(self) -> HeldId
+        ensures table { result.tenure.table ≡ self.entry.table }
+        ensures id { (result.id ≡ self.entry.id) × (result.tenure.before ≡ self.entry.before) }
         ensures left { is_first self.entry.sharing self.entry.table ≡ true
-            → result.0.mark.left ≡ left_of T.row (value_held self.entry.learnt) }
+            → result.right.left ≡ left_of T.row (value_held self.entry.learnt) }
     {
         let Self {
             slot,
-            held,
+            id,
             announcements: _,
-            reached: _,
+            tenure,
         } = self;
         let mut slot = slot;
-        let mut held = held;
-        slot.notes(&mut held.mark);
-        (held, slot.give_up())
+        slot.notes();
+        HeldId {
+            id,
+            right: slot.give_up(),
+            tenure,
+        }
     }
 
     /// Shows that two claims of one table are of different slots. At run time it does nothing.
@@ -401,9 +393,24 @@ impl<'a, T> Claim<'a, T> {
         ensures ids { self.old.id ≢ other.old.id }
         ensures same { (self.new ≡ self.old) × (other.new ≡ other.old) }
     {
-        let mine = &mut self.held;
-        let theirs = &mut other.held;
-        mine.mark.apart(&mut theirs.mark)
+        self.tenure.apart(&mut other.tenure)
+    }
+
+    /// The page of the table's ids that ends with the take of this id. At run time it does nothing.
+    pub fn page(&self) -> Page
+        ensures { (result.table ≡ self.now.table) × (result.moves ≡ noted self.now.before Take) }
+    {
+        self.tenure.page()
+    }
+
+    /// Shows that the id is held after all moves of a later page. At run time it does nothing.
+    pub fn held_at(&mut self, page: Page)
+        requires table { page.table ≡ self.old.table }
+        requires later { IsPrefix (noted self.old.before Take) page.moves }
+        ensures held { is_held (held_after page.moves) self.old.id ≡ true }
+        ensures same { self.new ≡ self.old }
+    {
+        self.tenure.held_at(page);
     }
 }
 
@@ -420,7 +427,7 @@ impl<'a, T: Sync> Claim<'a, T> {
             × (self.now.learnt ≡ Holding x.1.now)) }
     {
         if self.slot.state() == HOLDING {
-            let token = self.slot.token(self.held.id);
+            let token = self.slot.token(self.id);
             Some((token, self.slot.lasting()))
         } else {
             None

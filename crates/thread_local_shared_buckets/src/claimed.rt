@@ -1,12 +1,15 @@
 //! A claimed slot as it is stored: it points to the bucket's pointer until the bucket is found, and
 //! to the slot's value from then on.
-ghost use Rattle.std.specs.Prelude.{◌≡◌, ◌≢◌, ◌<◌, ◌^◌, ◌⊎◌, ℕ, Bool, true, Option, Some, is_some};
-ghost use base.Stored.{coded_bool};
+ghost use Rattle.std.specs.Prelude.{◌≡◌, ◌≢◌, ◌<◌, ◌^◌, ◌⊎◌, ℕ, Bool, true, Option, is_some};
+ghost use base.Fml.{fsep};
+ghost use base.Stored.{Gv, coded_bool};
 ghost use Rattle.std.specs.Coded.{coded_option, coded_ℕ};
 ghost use denote.RawPtr.{Ptr, coded_ptr};
 ghost use Rattle.thread_local_base.specs.Learnt.{Learnt, learnt_coded, Unknown, Missing, Vacant, Holding, Finds};
 ghost use Rattle.thread_local_base.specs.Place.{id_at};
-ghost use Rattle.thread_local_ids.specs.Sharings.{left_of};
+ghost use Rattle.thread_local_base.specs.IdMoves.{left_coded};
+ghost use Rattle.thread_local_ids.specs.Rights.{note_owns};
+ghost use Rattle.thread_local_ids.specs.Sharings.{Belongs};
 ghost use Rattle.thread_local_shared_buckets.specs.Announcing.{Announcing, announcing_coded};
 ghost use Rattle.thread_local_shared_buckets.specs.Known.{HasLooked, MayLook, state_of, value_held};
 ghost use Rattle.thread_local_shared_buckets.specs.Claims.{flag_word_of, claim_fields, claim_owns, claim_shares};
@@ -17,7 +20,7 @@ use std::mem::size_of;
 use std::sync::atomic::Ordering::SeqCst;
 use std::sync::atomic::raw;
 use std::sync::atomic::raw::ptr;
-use thread_local_ids::{Noted, Right};
+use thread_local_ids::Right;
 
 // `exchange` and what installs a block by it stand in `install`, `token`, `agrees` and `notes` in
 // `told`.
@@ -36,8 +39,9 @@ pub(crate) const VACANT: u64 = 1;
 pub(crate) const HOLDING: u64 = 2;
 
 /// The slot of an id that is claimed. Contracts see its table, its id with the index in its bucket,
-/// whether its bucket is reserved, the sharing, and what it has learnt of the slot. It stores no
-/// index: callers pass the index and, as `flag_word`, the number of the word that has the flag.
+/// whether its bucket is reserved, the sharing, what it has learnt of the slot, and what the id's note
+/// says. It stores no index: callers pass the index and, as `flag_word`, the number of the word that has
+/// the flag.
 pub(crate) struct ClaimedSlot<'a, T> {
     /// The address of the bucket's pointer, and once the bucket is found, of the slot's value.
     at: *const (),
@@ -57,12 +61,16 @@ pub(crate) struct ClaimedSlot<'a, T> {
     /// Whether the bucket is reserved.
     pub ghost reserved: { Bool } by { coded_bool },
     pub ghost learnt: { Learnt T } by { learnt_coded T.code },
+    /// What the id's note says that the slot was published with.
+    pub ghost left: { Option Gv } by { left_coded },
 }
 
 impl<'a, T> Model for ClaimedSlot<'a, T> {
     ghost also_owns = { λ c.
-        claim_owns T.row 'a c.table (claim_fields c.id c.index c.bucket c.at c.sharing c.word c.reserved)
-        c.learnt c.state };
+        fsep
+        (claim_owns T.row 'a c.table (claim_fields c.id c.index c.bucket c.at c.sharing c.word c.reserved)
+        c.learnt c.state)
+        (note_owns c.table c.id c.left) };
 
     ghost also_shares = { λ c _ κ.
         claim_shares T.row 'a (claim_fields c.id c.index c.bucket c.at c.sharing c.word c.reserved)
@@ -85,6 +93,7 @@ impl<'a, T> ClaimedSlot<'a, T> {
             × (result.id ≡ right.id)
             × (result.index ≡ index) }
         ensures unknown { result.learnt ≡ Unknown }
+        ensures left { result.left ≡ right.left }
         ensures reserved { result.reserved ≡ bucket.now.reserved }
     {
         right.lay_down();
@@ -128,17 +137,19 @@ impl<'a, T> ClaimedSlot<'a, T> {
 
     /// Publishes a value in a vacant slot: the value is written, and then the flag is set, by one
     /// atomic addition to the word `flag_word` of the block. The flag is unset, so the addition
-    /// changes no other bit, whatever others publish in the same word. It is noted before what is
-    /// published.
+    /// changes no other bit, whatever others publish in the same word.
     #[inline]
-    pub(crate) fn publish(&mut self, index: usize, flag_word: usize, value: T, noted: Noted)
+    pub(crate) fn publish(&mut self, index: usize, flag_word: usize, value: T)
         requires vacant { self.old.learnt ≡ Vacant }
         requires index { index ≡ self.old.index }
         requires flag_word { flag_word ≡ flag_word_of T.row self.old.id }
-        requires noted { (noted.sharing ≡ self.old.sharing)
-            × (noted.id ≡ self.old.id)
-            × (noted.value ≡ left_of T.row (Some value)) }
-        ensures { self.new ≡ record self.old { at = self.new.at; state = self.new.state; learnt = Holding value } }
+        requires sharing { Belongs self.old.sharing self.old.table }
+        ensures { self.new ≡ record self.old {
+          at = self.new.at;
+          state = self.new.state;
+          learnt = Holding value;
+          left = self.new.left;
+        } }
     {
         let at = self.at;
         // The words of flags lie behind the values.

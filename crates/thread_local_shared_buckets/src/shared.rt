@@ -7,6 +7,8 @@ ghost use Rattle.thread_local_base.specs.Place.{bucket_of};
 ghost use Rattle.thread_local_base.specs.Judged.{Judged};
 ghost use Rattle.thread_local_ids.specs.Sharings.{Belongs, first_of, is_first};
 ghost use Rattle.thread_local_base.specs.Buckets.{values};
+ghost use Rattle.thread_local_base.specs.IdMoves.{held_after};
+ghost use mathlib.Core.List.{IsPrefix};
 ghost use Rattle.thread_local_ids.specs.TokenLists.{AllOf};
 ghost use Rattle.thread_local_shared_buckets.specs.Grown.{only_reserved};
 ghost use Rattle.thread_local_shared_buckets.specs.TableView.{TableView, table_view_coded, IsBucketOf};
@@ -17,7 +19,7 @@ use crate::announcements::load_announced;
 use crate::parts::SharedParts;
 use std::marker::{Move, Owns, PhantomData};
 use thread_local_buckets::{BucketPointers, Buckets, take_first_bucket};
-use thread_local_ids::{Book, Reached, Right, SlotRights, Told};
+use thread_local_ids::{Book, Page, Right, SlotRights, Told};
 
 mod lends;
 
@@ -157,15 +159,18 @@ impl<T> Shared<T> {
         self.parts().reserved
     }
 
-    /// How many slots the buckets have that stand, and that so many ids of the table were held at
-    /// once, as these slots show. It loads which buckets are announced, and then the pointers of
-    /// those that aren't reserved, one after another. So a bucket that is installed meanwhile may
-    /// be counted or not. Proofs alone use `told`.
-    pub fn slots_reached(&self, told: &Told<T>) -> (usize, Reached)
+    /// How many slots the buckets have that stand, and a page that shows how many ids were held at
+    /// once, as these slots do. It extends a page at hand. It loads which buckets are announced, and
+    /// then the pointers of those that aren't reserved, one after another. So a bucket that is
+    /// installed meanwhile may be counted or not. Proofs alone use the page and `told`.
+    pub fn slots_reached(&self, page: &Page, told: &Told<T>) -> (usize, Page)
+        requires { page.now.table ≡ self.now.table }
         ensures reserved { self.now.reserved ≤ result.0 }
         ensures most { result.0 < 2 ^ 63 }
         ensures table { result.1.table ≡ self.now.table }
-        ensures grown { self.now.grown_by_ids ≡ true → result.0 ≤ max self.now.reserved (2 * result.1.ids - 1) }
+        ensures early { IsPrefix page.now.moves result.1.moves }
+        ensures grown { self.now.grown_by_ids ≡ true
+            → result.0 ≤ max self.now.reserved (2 * length (held_after result.1.moves) - 1) }
         ensures told { AllOf self.now.sharing (λ token. 2 ^ bucket_of token.id ≤ result.0) told.now }
         ensures values { IsSome self.now.sharing
             → All (λ token. token.sharing ≡ self.now.sharing) told.now
@@ -175,7 +180,7 @@ impl<T> Shared<T> {
         // That the ids are in range.
         let _ = &told.marker;
         let mut slots = self.reserved();
-        let mut reached = self.bucket(0).none_reached();
+        let mut seen = page.again();
         // The reserved buckets stand. They are the first ones, so the number of their slots is the
         // word that has their bits.
         let pointers = &self.parts().pointers;
@@ -183,12 +188,12 @@ impl<T> Shared<T> {
         let mut left = announced & !(slots as u64);
         'buckets: while left != 0 {
             let (bucket, size) = take_first_bucket(&mut left);
-            if let Some(shown) = self.bucket(bucket).reached(told) {
+            if let Some(later) = self.bucket(bucket).reached(&seen, told) {
                 slots += size;
-                reached = shown;
+                seen = later;
             }
         }
-        (slots, reached)
+        (slots, seen)
     }
 }
 

@@ -22,9 +22,8 @@ fn a_claim_goes_to_another_thread(rt: HostRuntime) -> Result<(), Fail> {
     let table = Table::new(rt.alloc());
     Cell::<u64>::judge();
     let shared = share(Buckets::with_capacity(rt.alloc(), 1)?, &table.right);
-    let (held, right, reached) = table.take_id(&rt)?;
     let claimed = Kept {
-        claim: shared.claim(held, right, reached),
+        claim: shared.claim(table.take(&rt)?),
     };
     let (published, _) = thread::join(&rt, || claimed.publish(Cell::new(7u64)), || ());
     assert_same(&rt, published, true);
@@ -44,8 +43,7 @@ fn threads_share_a_claim(rt: HostRuntime) -> Result<(), Fail> {
     let mut buckets = Buckets::new(rt.alloc());
     assert_same(&rt, buckets.insert(Thread::new(0), 5u32).is_ok(), true);
     let shared = share(buckets, &table.right);
-    let (held, right, reached) = table.take_id(&rt)?;
-    let claim = shared.claim(held, right, reached);
+    let claim = shared.claim(table.take(&rt)?);
     let both = thread::join(&rt, || found(&claim), || found(&claim));
     assert_same(&rt, both, (Some(5), Some(5)));
     claim.give_up();
@@ -71,8 +69,7 @@ fn reserved_buckets_stand(rt: HostRuntime) -> Result<(), Fail> {
         (shared.reserved(), stand(&shared)),
         (7, [true, true, false]),
     );
-    let (held, right, reached) = table.take_id(&rt)?;
-    let claim = shared.claim(held, right, reached);
+    let claim = shared.claim(table.take(&rt)?);
     let is_vacant = !claim.is_missing() && claim.get().is_none();
     let published = publish_claimed(claim, 1).1;
     assert_same(

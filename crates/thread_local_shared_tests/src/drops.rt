@@ -1,5 +1,5 @@
 //! Each value is dropped once, and a claim is forgotten.
-ghost use Rattle.std.specs.Prelude.{◌≡◌, ◌<◌, true};
+ghost use Rattle.std.specs.Prelude.{◌≡◌};
 ghost use Rattle.thread_local_ids.specs.Sharings.{Belongs};
 
 use crate::same::assert_same;
@@ -12,7 +12,7 @@ use std::sync::{Arc, Wait};
 use std::test::Fail;
 use thread_local_base::{LocalError, Thread, judge_sync};
 use thread_local_buckets::Buckets;
-use thread_local_ids::{HeldId, Reached, Right};
+use thread_local_ids::HeldId;
 use thread_local_shared_buckets::Shared;
 use thread_local_test_helpers::counted::Counted;
 
@@ -54,11 +54,11 @@ fn publish_counted<R: Wait>(
         let Ok(other) = Counted::new(drops) else {
             return published;
         };
-        let Ok((held, right, tenure)) = table.take(rt) else {
+        let Ok(held) = table.take(rt) else {
             return published;
         };
-        let (held, first) = publish(shared, (held, right), &tenure, alloc, one);
-        let (_held, second) = publish(shared, held, &tenure, alloc, other);
+        let (held, first) = publish(shared, held, alloc, one);
+        let (_held, second) = publish(shared, held, alloc, other);
         if first && !second {
             published = published.saturating_add(1);
         }
@@ -87,15 +87,12 @@ fn each_published_value_is_dropped_once(rt: HostRuntime) -> Result<(), Fail> {
 }
 
 /// What a new claim holds, which is forgotten then.
-fn found_and_forgotten(shared: &Shared<u32>, held: (HeldId, Right, Reached)) -> Option<u32>
-    requires table { (held.1.table ≡ shared.now.table) × (held.0.mark.table ≡ shared.now.table) }
-    requires told { held.0.mark.told ≡ true }
+fn found_and_forgotten(shared: &Shared<u32>, held: HeldId) -> Option<u32>
+    requires table { held.tenure.table ≡ shared.now.table }
     requires sharing { Belongs shared.now.sharing shared.now.table }
-    requires id { held.1.id ≡ held.0.id }
-    requires reached { (held.2.table ≡ shared.now.table) × (held.0.id < held.2.ids) }
 {
     let claimed = Kept {
-        claim: shared.claim(held.0, held.1, held.2),
+        claim: shared.claim(held),
     };
     let found = claimed.claim.get().copied();
     forget(claimed);
@@ -114,11 +111,10 @@ fn forget_two<R: Wait>(
     requires sharing { Belongs shared.now.sharing shared.now.table }
 {
     let found = [
-        found_and_forgotten(shared, table.take_id(rt)?),
-        found_and_forgotten(shared, table.take_id(rt)?),
+        found_and_forgotten(shared, table.take(rt)?),
+        found_and_forgotten(shared, table.take(rt)?),
     ];
-    let (held, right, tenure) = table.take(rt)?;
-    let (_third, published) = publish(shared, (held, right), &tenure, alloc, 6);
+    let (_third, published) = publish(shared, table.take(rt)?, alloc, 6);
     Ok((found, published))
 }
 

@@ -1,7 +1,6 @@
 //! Values are handed on, from thread to thread and back out of the buckets.
-ghost use Rattle.std.specs.Prelude.{◌≡◌, ◌-◌, ◌^◌, ◌<◌, true};
+ghost use Rattle.std.specs.Prelude.{◌≡◌};
 ghost use Rattle.thread_local_base.specs.Judged.{Judged};
-ghost use Rattle.thread_local_ids.specs.Taken.{IsHeldIn};
 ghost use Rattle.thread_local_ids.specs.Sharings.{Belongs};
 
 use crate::same::assert_same;
@@ -14,23 +13,17 @@ use std::thread;
 use std::thread::Threads;
 use thread_local_base::{Judge, Thread, judge_sync};
 use thread_local_buckets::Buckets;
-use thread_local_ids::{HeldId, Reached, Right, Tenure};
+use thread_local_ids::HeldId;
 use thread_local_shared_buckets::Shared;
 
 /// Adds to the number at an id, and answers what was there.
-fn add(
-    shared: &Shared<Cell<u64>>,
-    held: (HeldId, Right),
-    tenure: &Tenure,
-    more: u64,
-) -> ((HeldId, Right), Option<u64>)
-    requires held { IsHeldIn shared.now.table (held.0, held.1, tenure.now) }
+fn add(shared: &Shared<Cell<u64>>, held: HeldId, more: u64) -> (HeldId, Option<u64>)
+    requires held { held.tenure.table ≡ shared.now.table }
     requires sharing { Belongs shared.now.sharing shared.now.table }
-    ensures table { (result.0.1.table ≡ shared.now.table) × (result.0.0.mark.table ≡ shared.now.table) }
-    ensures id { (result.0.0.id ≡ held.0.id) × (result.0.1.id ≡ held.0.id) }
-    ensures told { result.0.0.mark.told ≡ true }
+    ensures table { result.0.tenure.table ≡ shared.now.table }
+    ensures id { result.0.id ≡ held.id }
 {
-    let claim = shared.claim(held.0, held.1, tenure.reached());
+    let claim = shared.claim(held);
     let found = match claim.get() {
         Some(cell) => {
             let found = cell.get();
@@ -46,17 +39,13 @@ fn add(
 fn look_while_claimed<R: Threads>(
     rt: &R,
     shared: &Shared<u32>,
-    held: (HeldId, Right, Reached),
+    held: HeldId,
 ) -> (Option<u32>, Option<u32>)
-    requires table { (held.1.table ≡ shared.now.table) × (held.0.mark.table ≡ shared.now.table) }
-    requires told { held.0.mark.told ≡ true }
+    requires table { held.tenure.table ≡ shared.now.table }
     requires sharing { Belongs shared.now.sharing shared.now.table }
-    requires id { held.1.id ≡ held.0.id }
-    requires reached { (held.2.table ≡ shared.now.table) × (held.0.id < held.2.ids) }
-    requires in_range { held.0.id < 2 ^ 63 - 1 }
 {
-    let id = held.0.id;
-    let claim = shared.claim(held.0, held.1, held.2);
+    let id = held.id;
+    let claim = shared.claim(held);
     let (seen, _) = thread::join(rt, || look(shared, id), || ());
     let own = claim.get().copied();
     claim.give_up();
@@ -68,14 +57,13 @@ fn a_number_is_handed_on_from_thread_to_thread(rt: HostRuntime) -> Result<(), Fa
     let table = Table::new(rt.alloc());
     Cell::<u64>::judge();
     let shared = share(Buckets::new(rt.alloc()), &table.right);
-    let (held, right, tenure) = table.take(&rt)?;
+    let held = table.take(&rt)?;
     let alloc = rt.alloc();
     let there = &shared;
-    let own = &tenure;
-    let first = || publish(there, (held, right), own, alloc, Cell::new(7));
+    let first = || publish(there, held, alloc, Cell::new(7));
     let (first, _) = thread::join(&rt, first, || ());
     let (held, published) = first;
-    let (second, _) = thread::join(&rt, || add(there, held, own, 5), || ());
+    let (second, _) = thread::join(&rt, || add(there, held, 5), || ());
     let found = second.1;
     let left = take_back(shared).0.into_iter().next();
     assert_same(
@@ -92,7 +80,7 @@ fn a_walker_sees_a_value_that_is_claimed(rt: HostRuntime) -> Result<(), Fail> {
     let mut buckets = Buckets::new(rt.alloc());
     assert_same(&rt, buckets.insert(Thread::new(0), 9).is_ok(), true);
     let mut shared = share(buckets, &table.right);
-    let held = table.take_id(&rt)?;
+    let held = table.take(&rt)?;
     let (own, seen) = look_while_claimed(&rt, &shared, held);
     assert_same(&rt, [own, seen, look(&shared, 1)], [Some(9), Some(9), None]);
     assert_same(&rt, shared.owner().insert(Thread::new(1), 4).is_ok(), true);
@@ -108,10 +96,10 @@ fn comes_back<R: Wait, T: Send + Drop>(rt: &R, alloc: Global, value: T) -> bool
 {
     let table = Table::new(alloc);
     let shared = share(Buckets::new(alloc), &table.right);
-    let Ok((held, right, tenure)) = table.take(rt) else {
+    let Ok(held) = table.take(rt) else {
         return false;
     };
-    let (_held, published) = publish(&shared, (held, right), &tenure, alloc, value);
+    let (_held, published) = publish(&shared, held, alloc, value);
     published && take_back(shared).0.into_iter().next().is_some()
 }
 

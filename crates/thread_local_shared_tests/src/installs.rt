@@ -1,7 +1,6 @@
 //! Blocks are installed with a value in them, and those that come second give way.
 ghost use Rattle.std.specs.Prelude.{◌≡◌, ◌<◌, ◌^◌};
 ghost use Rattle.thread_local_buckets.specs.Slots.{empty_slots};
-ghost use Rattle.thread_local_ids.specs.Taken.{IsHeldIn};
 ghost use Rattle.thread_local_ids.specs.Sharings.{Belongs};
 ghost use Rattle.thread_local_base.specs.Place.{bucket_of};
 
@@ -13,7 +12,7 @@ use std::sync::Wait;
 use std::test::Fail;
 use thread_local_base::{Thread, bucket_size};
 use thread_local_buckets::{Block, Buckets};
-use thread_local_ids::Taken;
+use thread_local_ids::HeldId;
 use thread_local_shared_buckets::{Claim, Shared};
 use thread_local_test_helpers::memory::take_all_but;
 
@@ -51,13 +50,12 @@ impl<'a, T: Drop> Kept<'a, T> {
 }
 
 /// Claims an id that was taken.
-fn claim_early<T>(shared: &Shared<T>, taken: Taken) -> Kept<'_, T>
-    requires taken { IsHeldIn shared.now.table taken }
+fn claim_early<T>(shared: &Shared<T>, held: HeldId) -> Kept<'_, T>
+    requires held { held.tenure.table ≡ shared.now.table }
     requires sharing { Belongs shared.now.sharing shared.now.table }
 {
-    let (held, right, tenure) = taken;
     Kept {
-        claim: shared.claim(held, right, tenure.reached()),
+        claim: shared.claim(held),
     }
 }
 
@@ -79,10 +77,10 @@ fn offer_by_all<R: Wait>(
     };
     let mut claims = Vec::new(heap);
     for _ in 0..count {
-        let Ok(taken) = table.take(rt) else {
+        let Ok(held) = table.take(rt) else {
             return offered;
         };
-        if claims.push(claim_early(shared, taken)).is_err() {
+        if claims.push(claim_early(shared, held)).is_err() {
             return offered;
         }
     }
@@ -111,7 +109,7 @@ fn blocks_that_come_second_are_freed(rt: HostRuntime) -> Result<(), Fail> {
     let table = Table::new(rt.alloc());
     let shared = share(Buckets::new(rt.alloc()), &table.right);
     for _ in 0..1_048_575 {
-        let _held = table.take_id(&rt)?;
+        let _held = table.take(&rt)?;
     }
     let alloc = rt.alloc();
     let taken = take_all_but(alloc, 1 << 30)?;
@@ -176,7 +174,7 @@ fn offer_two(
 fn the_second_of_two_blocks_gives_way(rt: HostRuntime) -> Result<(), Fail> {
     let table = Table::new(rt.alloc());
     let shared = share(Buckets::new(rt.alloc()), &table.right);
-    let _first = table.take_id(&rt)?;
+    let _first = table.take(&rt)?;
     let second = claim_early(&shared, table.take(&rt)?);
     let third = claim_early(&shared, table.take(&rt)?);
     let offered = offer_two(&shared, second, third, &rt.alloc());
@@ -205,7 +203,7 @@ fn publish_late(early: Kept<'_, u32>, alloc: Global, value: u32) -> bool {
 fn an_early_claim_finds_its_bucket_later(rt: HostRuntime) -> Result<(), Fail> {
     let table = Table::new(rt.alloc());
     let shared = share(Buckets::new(rt.alloc()), &table.right);
-    let _first = table.take_id(&rt)?;
+    let _first = table.take(&rt)?;
     let second = claim_early(&shared, table.take(&rt)?);
     let third = claim_early(&shared, table.take(&rt)?);
     let offered = third.offer(&rt.alloc(), 7);
@@ -242,7 +240,7 @@ fn publish_in_room(early: Kept<'_, u32>, alloc: &Global, value: u32) -> bool {
 fn an_early_claim_makes_no_block_where_its_bucket_stands(rt: HostRuntime) -> Result<(), Fail> {
     let table = Table::new(rt.alloc());
     let shared = share(Buckets::new(rt.alloc()), &table.right);
-    let _first = table.take_id(&rt)?;
+    let _first = table.take(&rt)?;
     let second = claim_early(&shared, table.take(&rt)?);
     let third = claim_early(&shared, table.take(&rt)?);
     let offered = third.offer(&rt.alloc(), 7);

@@ -1,10 +1,9 @@
 //! The first sharing of a table, in which its history of ids says what slots were published with.
-ghost use Rattle.std.specs.Prelude.{◌≡◌, ◌-◌, ◌^◌, ◌<◌, ℕ, Some, true, false};
+ghost use Rattle.std.specs.Prelude.{◌≡◌, ◌-◌, ◌^◌, ◌<◌, ℕ, true, false};
 ghost use mathlib.Core.List.{IsPrefix};
 ghost use Rattle.thread_local_base.specs.Buckets.{values};
 ghost use Rattle.thread_local_base.specs.Held.{is_held};
 ghost use Rattle.thread_local_base.specs.IdMoves.{held_after, published_in};
-ghost use Rattle.thread_local_ids.specs.Taken.{IsHeldIn};
 ghost use Rattle.thread_local_ids.specs.Sharings.{Belongs, IsFirst, left_of};
 
 use crate::same::assert_same;
@@ -13,35 +12,23 @@ use crate::tokens::told;
 use std::test::Fail;
 use thread_local_base::Thread;
 use thread_local_buckets::Buckets;
-use thread_local_ids::{Book, HeldId, Page, SharedIds, Taken, Token};
+use thread_local_ids::{Book, HeldId, Page, SharedIds};
 use thread_local_shared_buckets::Shared;
 
-/// What the holder of an id finds in its slot, which is what its mark notes.
-fn found<T: Copy>(shared: &Shared<T>, taken: Taken) -> Option<T>
-    requires held { IsHeldIn shared.now.table taken }
+/// What the holder of an id finds in its slot, which is what the id's note says.
+fn found<T: Copy>(shared: &Shared<T>, held: HeldId) -> Option<T>
+    requires held { held.tenure.table ≡ shared.now.table }
     requires first { IsFirst shared.now.sharing shared.now.table }
     requires sharing { Belongs shared.now.sharing shared.now.table }
-    ensures { taken.0.mark.left ≡ left_of T.row result }
+    ensures { held.right.left ≡ left_of T.row result }
 {
-    let claim = shared.claim(taken.0, taken.1, taken.2.reached());
+    let claim = shared.claim(held);
     let found = match claim.get() {
         Some(value) => Some(*value),
         None => None,
     };
     claim.give_up();
     found
-}
-
-/// Takes up once more that what a mark notes is told, as a token shows.
-fn told_again<T>(held: &mut HeldId, token: &Token<T>)
-    requires id { token.now.id ≡ held.old.id }
-    requires told { held.old.mark.told ≡ true }
-    requires left { held.old.mark.left ≡ left_of T.row (Some token.now.value) }
-    ensures same { (held.new.id ≡ held.old.id) × (held.new.mark.table ≡ held.old.mark.table) }
-    ensures told { held.new.mark.told ≡ true }
-    ensures left { held.new.mark.left ≡ held.old.mark.left }
-{
-    held.mark.told_by(token);
 }
 
 /// Ends the first sharing. The history goes on from a page, and says of the slots of ids that nobody
@@ -64,13 +51,10 @@ fn ended<T>(shared: Shared<T>, ids: SharedIds, page: &Page) -> (Buckets<T>, Book
 #[test]
 fn a_note_says_what_the_next_holder_finds(rt: HostRuntime) -> Result<(), Fail> {
     let (table, shared) = begun(rt.alloc());
-    let (held, right, tenure) = table.take(&rt)?;
-    let (held, token) = told(&shared, (held, right), &tenure, rt.alloc(), 7u32);
-    let (mut held, right) = held;
+    let (held, token) = told(&shared, table.take(&rt)?, rt.alloc(), 7u32);
     let token = token.expect(&rt, "a token");
     assert_same(&rt, (held.id, token.id()), (0, 0));
-    told_again(&mut held, &token);
-    let page = table.ids.give(&rt, held, right, tenure);
+    let page = table.ids.give(&rt, held);
     let seen = [
         found(&shared, table.take(&rt)?),
         found(&shared, table.take(&rt)?),

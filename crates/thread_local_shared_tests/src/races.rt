@@ -30,11 +30,11 @@ impl Racing {
     fn publish_own<R: Wait>(&self, rt: &R, alloc: Global) -> u64 {
         let mut published = 0u64;
         for _ in 0..16 {
-            let Ok((held, right, tenure)) = self.table.take(rt) else {
+            let Ok(held) = self.table.take(rt) else {
                 return published;
             };
             let id = held.id;
-            if publish(&self.shared, (held, right), &tenure, alloc, id).1 {
+            if publish(&self.shared, held, alloc, id).1 {
                 published = published.saturating_add(1);
             }
         }

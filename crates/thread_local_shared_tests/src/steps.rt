@@ -1,7 +1,6 @@
 //! What a test does with one id of a table.
-ghost use Rattle.std.specs.Prelude.{◌≡◌, ◌-◌, ◌^◌, ◌<◌, IfOk, IsSome, Some, true};
+ghost use Rattle.std.specs.Prelude.{◌≡◌, ◌-◌, ◌^◌, ◌<◌, IfOk, IsSome, Some};
 ghost use Rattle.thread_local_base.specs.Judged.{Judged};
-ghost use Rattle.thread_local_ids.specs.Taken.{IsHeldIn};
 ghost use Rattle.thread_local_ids.specs.Sharings.{Belongs, IsFirst, first_of};
 ghost use Rattle.thread_local_base.specs.Bits.{is_set};
 
@@ -9,9 +8,7 @@ use std::alloc::Global;
 use std::sync::Wait;
 use thread_local_base::{LocalError, Thread, bucket_size};
 use thread_local_buckets::{Buckets, flag_word_at};
-use thread_local_ids::{
-    Book, HeldId, Page, Reached, Right, SharedIds, SlotRights, Taken, Tenure, Told,
-};
+use thread_local_ids::{Book, HeldId, Page, Right, SharedIds, SlotRights, Told};
 use thread_local_shared_buckets::{Claim, Shared};
 
 /// The ids of a table, with the table's right and its first page.
@@ -19,7 +16,7 @@ use thread_local_shared_buckets::{Claim, Shared};
 pub struct Table {
     pub ids: SharedIds,
     pub right: Right,
-    start: Page,
+    pub start: Page,
     ghost of_one: { (right.table ≡ ids.table) × (start.table ≡ ids.table) },
 }
 
@@ -65,20 +62,10 @@ impl Table {
     }
 
     /// Takes an id that isn't given back.
-    pub fn take<R: Wait>(&self, rt: &R) -> Result<Taken, LocalError>
-        ensures { IfOk result (λ taken. IsHeldIn self.now.ids.table taken) }
+    pub fn take<R: Wait>(&self, rt: &R) -> Result<HeldId, LocalError>
+        ensures { IfOk result (λ held. held.tenure.table ≡ self.now.ids.table) }
     {
         self.ids.take(rt, &mut self.start.again())
-    }
-
-    /// The same without its tenure, but with what that says of the ids up to its own.
-    pub fn take_id<R: Wait>(&self, rt: &R) -> Result<(HeldId, Right, Reached), LocalError>
-        ensures right { IfOk result (λ taken. (taken.1.table ≡ self.now.ids.table) × (taken.1.id ≡ taken.0.id)) }
-        ensures mark { IfOk result (λ taken. (taken.0.mark.table ≡ self.now.ids.table) × (taken.0.mark.told ≡ true)) }
-        ensures reached { IfOk result (λ taken. (taken.2.table ≡ self.now.ids.table) × (taken.0.id < taken.2.ids)) }
-    {
-        let (held, right, tenure) = self.take(rt)?;
-        Ok((held, right, tenure.reached()))
     }
 }
 
@@ -142,20 +129,13 @@ impl<T> Drop for Kept<'_, T> {
 
 /// Publishes a value at an id whose slot is empty, with a block for its bucket where that is missing.
 /// Answers whether it did.
-pub fn publish<T: Drop>(
-    shared: &Shared<T>,
-    held: (HeldId, Right),
-    tenure: &Tenure,
-    alloc: Global,
-    value: T,
-) -> ((HeldId, Right), bool)
-    requires held { IsHeldIn shared.now.table (held.0, held.1, tenure.now) }
+pub fn publish<T: Drop>(shared: &Shared<T>, held: HeldId, alloc: Global, value: T) -> (HeldId, bool)
+    requires held { held.tenure.table ≡ shared.now.table }
     requires sharing { Belongs shared.now.sharing shared.now.table }
-    ensures table { (result.0.1.table ≡ shared.now.table) × (result.0.0.mark.table ≡ shared.now.table) }
-    ensures id { (result.0.0.id ≡ held.0.id) × (result.0.1.id ≡ held.0.id) }
-    ensures told { result.0.0.mark.told ≡ true }
+    ensures table { result.0.tenure.table ≡ shared.now.table }
+    ensures id { result.0.id ≡ held.id }
 {
-    let mut claim = shared.claim(held.0, held.1, tenure.reached());
+    let mut claim = shared.claim(held);
     if claim.get().is_some() {
         return (claim.give_up(), false);
     }
@@ -164,11 +144,9 @@ pub fn publish<T: Drop>(
 }
 
 /// Publishes a value in a slot that is vacant, and answers whether it did.
-pub fn publish_claimed<T: Drop>(claim: Claim<'_, T>, value: T) -> ((HeldId, Right), bool)
-    ensures table { (result.0.1.table ≡ claim.entry.table)
-        × (result.0.0.mark.table ≡ claim.entry.table) }
-    ensures id { (result.0.0.id ≡ claim.entry.id) × (result.0.1.id ≡ claim.entry.id) }
-    ensures told { result.0.0.mark.told ≡ true }
+pub fn publish_claimed<T: Drop>(claim: Claim<'_, T>, value: T) -> (HeldId, bool)
+    ensures table { result.0.tenure.table ≡ claim.entry.table }
+    ensures id { result.0.id ≡ claim.entry.id }
 {
     let mut claim = claim;
     if claim.is_missing() || claim.get().is_some() {

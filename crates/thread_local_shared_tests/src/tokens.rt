@@ -1,6 +1,5 @@
 //! What slots were published with, as tokens say it: to claims, to walkers and to an owner.
-ghost use Rattle.std.specs.Prelude.{◌≡◌, ◌≢◌, ◌-◌, ◌<◌, Some, IfSome, IsSome, true};
-ghost use Rattle.thread_local_ids.specs.Taken.{IsHeldIn};
+ghost use Rattle.std.specs.Prelude.{◌≡◌, ◌≢◌, ◌-◌, ◌<◌, Some, IfSome, IsSome};
 ghost use Rattle.thread_local_ids.specs.Sharings.{Belongs, IsFirst, left_of};
 ghost use Rattle.thread_local_base.specs.Buckets.{values};
 ghost use Rattle.thread_local_base.specs.Learnt.{Vacant};
@@ -12,31 +11,29 @@ use std::cell::Cell;
 use std::test::Fail;
 use thread_local_base::{Judge, Thread, judge_sync};
 use thread_local_buckets::Buckets;
-use thread_local_ids::{HeldId, Right, Tenure, Token, Told};
+use thread_local_ids::{HeldId, Right, Token, Told};
 use thread_local_shared_buckets::{Claim, Shared};
 
 /// Publishes a value, and answers a token of what the slot was published with. In the first sharing
-/// the mark notes that value.
+/// the id's note says that value.
 pub(crate) fn told<T: Drop>(
     shared: &Shared<T>,
-    held: (HeldId, Right),
-    tenure: &Tenure,
+    held: HeldId,
     alloc: Global,
     value: T,
-) -> ((HeldId, Right), Option<Token<T>>)
-    requires held { IsHeldIn shared.now.table (held.0, held.1, tenure.now) }
+) -> (HeldId, Option<Token<T>>)
+    requires held { held.tenure.table ≡ shared.now.table }
     requires sharing { Belongs shared.now.sharing shared.now.table }
-    ensures table { (result.0.1.table ≡ shared.now.table) × (result.0.0.mark.table ≡ shared.now.table) }
-    ensures id { (result.0.0.id ≡ held.0.id) × (result.0.1.id ≡ held.0.id) }
-    ensures told { result.0.0.mark.told ≡ true }
+    ensures table { result.0.tenure.table ≡ shared.now.table }
+    ensures id { result.0.id ≡ held.id }
     ensures token { IfSome result.1 (λ token.
-        (token.sharing ≡ shared.now.sharing) × (token.id ≡ held.0.id)) }
+        (token.sharing ≡ shared.now.sharing) × (token.id ≡ held.id)) }
     ensures left { IfSome result.1 (λ token.
         IsFirst shared.now.sharing shared.now.table
-        → result.0.0.mark.left ≡ left_of T.row (Some token.value)) }
+        → result.0.right.left ≡ left_of T.row (Some token.value)) }
 {
-    let ((held, right), _) = publish(shared, held, tenure, alloc, value);
-    let claim = shared.claim(held, right, tenure.reached());
+    let (held, _) = publish(shared, held, alloc, value);
+    let claim = shared.claim(held);
     let token = claim.token();
     (claim.give_up(), token)
 }
@@ -106,18 +103,13 @@ fn renewed<T>(shared: &mut Shared<T>, own: &Right)
 }
 
 /// What the next claim of a token's slot holds, and the id of the token that it answers.
-fn held_again(
-    shared: &Shared<u32>,
-    held: (HeldId, Right),
-    tenure: &Tenure,
-    token: &Token<u32>,
-) -> (u32, Option<usize>)
-    requires held { IsHeldIn shared.now.table (held.0, held.1, tenure.now) }
-    requires id { held.0.id ≡ token.now.id }
+fn held_again(shared: &Shared<u32>, held: HeldId, token: &Token<u32>) -> (u32, Option<usize>)
+    requires held { held.tenure.table ≡ shared.now.table }
+    requires id { held.id ≡ token.now.id }
     requires belongs { Belongs shared.now.sharing shared.now.table }
     requires sharing { (shared.now.sharing ≡ token.now.sharing) × IsSome shared.now.sharing }
 {
-    let mut claim = shared.claim(held.0, held.1, tenure.reached());
+    let mut claim = shared.claim(held);
     let seen = (holds(&mut claim, token), claim.token().map(|t| t.id()));
     claim.give_up();
     seen
@@ -139,12 +131,10 @@ fn found_by_two(
 fn a_token_says_what_was_published(rt: HostRuntime) -> Result<(), Fail> {
     let table = Table::new(rt.alloc());
     let shared = share(Buckets::new(rt.alloc()), &table.right);
-    let (held, right, tenure) = table.take(&rt)?;
-    let (held, token) = told(&shared, (held, right), &tenure, rt.alloc(), 7u32);
+    let (held, token) = told(&shared, table.take(&rt)?, rt.alloc(), 7u32);
     let token = token.expect(&rt, "a token");
-    let seen = held_again(&shared, held, &tenure, &token);
-    let (second, right, tenure) = table.take(&rt)?;
-    let (_, other) = told(&shared, (second, right), &tenure, rt.alloc(), 8);
+    let seen = held_again(&shared, held, &token);
+    let (_, other) = told(&shared, table.take(&rt)?, rt.alloc(), 8);
     let other = other.expect(&rt, "a token");
     are_one(&token, &token.again());
     let read = (*read(&shared, &token.again()), *read(&shared, &other));
@@ -162,8 +152,7 @@ fn a_token_says_what_was_published(rt: HostRuntime) -> Result<(), Fail> {
 fn a_vacant_slot_has_no_token(rt: HostRuntime) -> Result<(), Fail> {
     let table = Table::new(rt.alloc());
     let shared = share::<u32>(Buckets::with_capacity(rt.alloc(), 1)?, &table.right);
-    let (held, right, reached) = table.take_id(&rt)?;
-    let mut claim = shared.claim(held, right, reached);
+    let mut claim = shared.claim(table.take(&rt)?);
     let before = claim.token().is_none();
     let after = if claim.is_missing() || claim.get().is_some() {
         None
@@ -181,9 +170,8 @@ fn a_text_is_read_by_its_token(rt: HostRuntime) -> Result<(), Fail> {
     let table = Table::new(rt.alloc());
     judge_sync::<String>();
     let shared = share(Buckets::new(rt.alloc()), &table.right);
-    let (held, right, tenure) = table.take(&rt)?;
     let text = String::new(rt.alloc());
-    let (_, token) = told(&shared, (held, right), &tenure, rt.alloc(), text);
+    let (_, token) = told(&shared, table.take(&rt)?, rt.alloc(), text);
     let len = token.map(|token| read(&shared, &token).len());
     assert_same(&rt, len, Some(0));
     Ok(())
@@ -202,11 +190,10 @@ fn cells(alloc: Global, own: &Right) -> Shared<Cell<u32>>
 fn renewed_buckets_keep_their_values(rt: HostRuntime) -> Result<(), Fail> {
     let table = Table::new(rt.alloc());
     let mut shared = cells(rt.alloc(), &table.right);
-    let (held, right, tenure) = table.take(&rt)?;
-    let (held, first) = told(&shared, (held, right), &tenure, rt.alloc(), Cell::new(3));
+    let (held, first) = told(&shared, table.take(&rt)?, rt.alloc(), Cell::new(3));
     renewed(&mut shared, &table.right);
-    let (_, second) = told(&shared, held, &tenure, rt.alloc(), Cell::new(4));
-    let slots = shared.slots_reached(&Told::new()).0;
+    let (_, second) = told(&shared, held, rt.alloc(), Cell::new(4));
+    let slots = shared.slots_reached(&table.start, &Told::new()).0;
     let values = take_back(shared).0.into_iter().next().map(|c| c.get());
     assert_same(&rt, (first.is_some(), second.is_some()), (true, true));
     assert_same(&rt, (slots, values), (1, Some(3)));

@@ -1,6 +1,6 @@
 //! What was done with the ids of a table: its `Page`s, and the `Tenure` of each id that is held. None
 //! has bytes, and no call does anything at run time.
-ghost use Rattle.std.specs.Prelude.{◌≡◌, ℕ, List, true};
+ghost use Rattle.std.specs.Prelude.{◌≡◌, ◌≢◌, ℕ, List, true};
 ghost use mathlib.Core.List.{IsPrefix};
 ghost use mathlib.Core.Logic.{◌∨₁◌};
 ghost use denote.Sharing.{said};
@@ -15,7 +15,7 @@ use std::marker::{Model, PhantomData};
 /// and there is since.
 #[derive(Drop)]
 pub struct Page {
-    pub(crate) marker: PhantomData<()>,
+    pub marker: PhantomData<()>,
     pub ghost table: { ℕ },
     pub ghost moves: { List IdMove } by { moves_coded },
     pub ghost room: { ℕ },
@@ -50,6 +50,12 @@ impl Tenure {
             marker: PhantomData,
         }
     }
+
+    /// Shows that two tenures of one table are of different ids.
+    pub fn apart(&mut self, other: &mut Tenure)
+        ensures ids { self.old.table ≡ other.old.table → taken_id self.old.before ≢ taken_id other.old.before }
+        ensures same { (self.new ≡ self.old) × (other.new ≡ other.old) }
+    {}
 
     /// Shows that the id is held after all moves of a later page.
     pub fn held_at(&mut self, page: Page)

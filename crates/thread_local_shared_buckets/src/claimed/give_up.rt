@@ -5,9 +5,11 @@ use super::ClaimedSlot;
 use thread_local_ids::Right;
 
 impl<'a, T> ClaimedSlot<'a, T> {
-    /// Gives the claim up, and returns its right.
+    /// Gives the claim up, and returns its right with the id's note.
     pub(crate) fn give_up(self) -> Right
-        ensures right { (result.table ≡ self.entry.table) × (result.id ≡ self.entry.id) }
+        ensures right { (result.table ≡ self.entry.table)
+            × (result.id ≡ self.entry.id)
+            × (result.left ≡ self.entry.left) }
     {
         let Self {
             at: _,

@@ -1,11 +1,12 @@
 //! A claim that found its bucket missing installs a block for it, with the value of its slot if there
 //! is one.
-ghost use Rattle.std.specs.Prelude.{◌≡◌, ◌^◌, ◌<◌, None, IsSome, IfSome, MatchOption, slice_set};
+ghost use Rattle.std.specs.Prelude.{◌≡◌, ◌^◌, None, IsSome, IfSome, MatchOption, slice_set};
 ghost use Rattle.thread_local_buckets.specs.Slots.{empty_slots, slot_value};
 ghost use Rattle.thread_local_shared_buckets.specs.Known.{found_as, state_of};
 ghost use Rattle.thread_local_base.specs.Learnt.{Missing, Vacant};
 ghost use Rattle.thread_local_base.specs.Place.{IsPlaceOf, bucket_of};
-ghost use Rattle.thread_local_ids.specs.Sharings.{left_of};
+ghost use Rattle.thread_local_ids.specs.Rights.{taken_id};
+ghost use Rattle.thread_local_ids.specs.Sharings.{Belongs};
 
 use super::{ClaimedSlot, HOLDING, VACANT};
 use crate::SharedBucket;
@@ -18,21 +19,20 @@ use std::sync::atomic::Ordering::SeqCst;
 use std::sync::atomic::raw::ptr;
 use thread_local_base::{Thread, bucket_size};
 use thread_local_buckets::Block;
-use thread_local_ids::{Noted, Reached};
+use thread_local_ids::Tenure;
 
 impl<'a, T> ClaimedSlot<'a, T> {
     /// Offers a block with the value of the slot, which publishes it. Where another block was installed
     /// first, that one stays, the value is published there, and this block is freed. The bucket is
-    /// announced, and it is noted what is published.
+    /// announced.
     #[inline(always)]
     pub(crate) fn install(
         &mut self,
         alloc: &Global,
         thread: Thread,
         block: Block<T, Global>,
-        reached: &Reached,
+        tenure: &Tenure,
         announced: Announced,
-        noted: Noted,
     )
         requires missing { self.old.learnt ≡ Missing }
         requires place { IsPlaceOf thread.bucket thread.index self.old.id }
@@ -40,18 +40,20 @@ impl<'a, T> ClaimedSlot<'a, T> {
         requires block { (block.heap ≡ alloc.now) × (block.left ≡ 0) }
         requires others { slice_set block.slots thread.index None ≡ empty_slots (2 ^ thread.bucket) }
         requires value { IsSome (slot_value block.slots thread.index) }
-        requires reached { (reached.now.table ≡ self.old.table) × (self.old.id < reached.now.ids) }
+        requires tenure { (tenure.now.table ≡ self.old.table) × (self.old.id ≡ taken_id tenure.now.before) }
         requires announced { (announced.by ≡ self.old.word) × (announced.bucket ≡ thread.bucket) }
-        requires noted { (noted.sharing ≡ self.old.sharing)
-            × (noted.id ≡ self.old.id)
-            × (noted.value ≡ left_of T.row (slot_value block.slots thread.index)) }
-        ensures same { self.new ≡ record self.old { at = self.new.at; state = self.new.state; learnt = self.new.learnt } }
+        requires sharing { Belongs self.old.sharing self.old.table }
+        ensures same { self.new ≡ record self.old {
+          at = self.new.at;
+          state = self.new.state;
+          learnt = self.new.learnt;
+          left = self.new.left;
+        } }
         ensures learnt { self.new.learnt ≡ found_as (slot_value block.slots thread.index) }
     {
-        let (noted, again) = noted.twice();
-        let back = self.exchange(thread.index, block, reached, announced, HOLDING, noted);
+        let back = self.exchange(thread.index, block, tenure, announced, HOLDING);
         if let Some(block) = back {
-            self.publish_second(alloc, thread, block, again);
+            self.publish_second(alloc, thread, block);
         }
     }
 
@@ -59,28 +61,25 @@ impl<'a, T> ClaimedSlot<'a, T> {
     /// is never inlined, so that the way of the first is short.
     #[cold]
     #[inline(never)]
-    fn publish_second(
-        &mut self,
-        alloc: &Global,
-        thread: Thread,
-        block: Block<T, Global>,
-        noted: Noted,
-    )
+    fn publish_second(&mut self, alloc: &Global, thread: Thread, block: Block<T, Global>)
         requires vacant { self.old.learnt ≡ Vacant }
         requires place { IsPlaceOf thread.bucket thread.index self.old.id }
         requires index { thread.index ≡ self.old.index }
         requires block { (block.heap ≡ alloc.now) × (block.left ≡ 0) }
         requires others { slice_set block.slots thread.index None ≡ empty_slots (2 ^ thread.bucket) }
         requires value { IsSome (slot_value block.slots thread.index) }
-        requires noted { (noted.sharing ≡ self.old.sharing)
-            × (noted.id ≡ self.old.id)
-            × (noted.value ≡ left_of T.row (slot_value block.slots thread.index)) }
-        ensures same { self.new ≡ record self.old { at = self.new.at; state = self.new.state; learnt = self.new.learnt } }
+        requires sharing { Belongs self.old.sharing self.old.table }
+        ensures same { self.new ≡ record self.old {
+          at = self.new.at;
+          state = self.new.state;
+          learnt = self.new.learnt;
+          left = self.new.left;
+        } }
         ensures learnt { self.new.learnt ≡ found_as (slot_value block.slots thread.index) }
     {
         let (value, block) = emptied(block, alloc, thread);
         block.release(alloc, bucket_size(thread.bucket));
-        self.publish(thread.index, flag_word_of::<T>(thread), value, noted);
+        self.publish(thread.index, flag_word_of::<T>(thread), value);
     }
 
     /// One compare and exchange: where the bucket's pointer is null, it points to the block from
@@ -93,22 +92,24 @@ impl<'a, T> ClaimedSlot<'a, T> {
         &mut self,
         index: usize,
         block: Block<T, Global>,
-        reached: &Reached,
+        tenure: &Tenure,
         announced: Announced,
         state: u64,
-        noted: Noted,
     ) -> Option<Block<T, Global>>
         requires missing { self.old.learnt ≡ Missing }
         requires index { index ≡ self.old.index }
         requires made { (block.left ≡ 0)
             × (slice_set block.slots self.old.index None ≡ empty_slots (2 ^ bucket_of self.old.id)) }
-        requires reached { (reached.now.table ≡ self.old.table) × (self.old.id < reached.now.ids) }
+        requires tenure { (tenure.now.table ≡ self.old.table) × (self.old.id ≡ taken_id tenure.now.before) }
         requires announced { (announced.by ≡ self.old.word) × (announced.bucket ≡ bucket_of self.old.id) }
         requires state { state ≡ state_of (found_as (slot_value block.slots self.old.index)) }
-        requires noted { (noted.sharing ≡ self.old.sharing)
-            × (noted.id ≡ self.old.id)
-            × (noted.value ≡ left_of T.row (slot_value block.slots self.old.index)) }
-        ensures same { self.new ≡ record self.old { at = self.new.at; state = self.new.state; learnt = self.new.learnt } }
+        requires sharing { Belongs self.old.sharing self.old.table }
+        ensures same { self.new ≡ record self.old {
+          at = self.new.at;
+          state = self.new.state;
+          learnt = self.new.learnt;
+          left = self.new.left;
+        } }
         ensures learnt { MatchOption result
             (self.new.learnt ≡ found_as (slot_value block.slots self.old.index))
             (λ _. self.new.learnt ≡ Vacant) }

@@ -6,7 +6,7 @@ use crate::steps::{has_bit, share, take_back};
 use std::cell::{Cell, RefCell};
 use thread_local_base::{Judge, bucket_size, judge_sync};
 use thread_local_buckets::{Buckets, flag_word_at};
-use thread_local_ids::{Right, Token, Told};
+use thread_local_ids::{Page, Right, Token, Told};
 use thread_local_shared_buckets::{Row, Shared, SharedBucket};
 
 fn crosses<X: Send + Sync>(_there: &X) {}
@@ -63,10 +63,11 @@ fn cell_row(shared: &Shared<Cell<u64>>) -> Option<Row<'_, Cell<u64>>> {
     shared.bucket(3).load(&Told::new())
 }
 
-fn slots(shared: &Shared<RefCell<String>>) -> usize
+fn slots(shared: &Shared<RefCell<String>>, page: &Page) -> usize
+    requires { page.now.table ≡ shared.now.table }
     ensures { shared.now.reserved ≤ result }
 {
-    shared.slots_reached(&Told::new()).0
+    shared.slots_reached(page, &Told::new()).0
 }
 
 fn owner_slots(shared: &mut Shared<RefCell<String>>) -> usize

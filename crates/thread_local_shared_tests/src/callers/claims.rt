@@ -1,5 +1,5 @@
 //! Claims at concrete types.
-ghost use Rattle.std.specs.Prelude.{◌≡◌, ◌≢◌, ◌<◌, ◌^◌, ◌⊎◌, MatchBool, MatchOption, true};
+ghost use Rattle.std.specs.Prelude.{◌≡◌, ◌≢◌, ◌^◌, ◌⊎◌, MatchBool, MatchOption};
 ghost use Rattle.thread_local_buckets.specs.Slots.{empty_slots};
 ghost use Rattle.thread_local_base.specs.Learnt.{Missing, Vacant, Holding};
 ghost use Rattle.thread_local_base.specs.Place.{bucket_of};
@@ -9,7 +9,7 @@ use std::alloc::Global;
 use std::cell::{Cell, RefCell};
 use thread_local_base::{Thread, bucket_size};
 use thread_local_buckets::Block;
-use thread_local_ids::{HeldId, Reached, Right, Token};
+use thread_local_ids::{HeldId, Token};
 use thread_local_shared_buckets::{Claim, Shared};
 
 /// Publishes the value unless the slot holds one.
@@ -23,8 +23,8 @@ fn offered<T: Send + Drop>(claim: &mut Claim<'_, T>, value: T)
     }
 }
 
-fn number(claim: Claim<'_, u32>) -> (HeldId, Right)
-    ensures { (result.0.id ≡ claim.entry.id) × (result.1.id ≡ claim.entry.id) }
+fn number(claim: Claim<'_, u32>) -> HeldId
+    ensures { (result.id ≡ claim.entry.id) × (result.right.id ≡ claim.entry.id) }
 {
     claim.give_up()
 }
@@ -57,28 +57,19 @@ fn ref_cell(claim: &mut Claim<'_, RefCell<String>>, value: RefCell<String>)
 }
 
 /// Looks, and gives the claim up.
-fn visit<T: Send>(
-    shared: &Shared<T>,
-    held: HeldId,
-    right: Right,
-    reached: Reached,
-) -> (HeldId, Right)
-    requires table { (right.table ≡ shared.now.table) × (held.mark.table ≡ shared.now.table) }
-    requires told { held.mark.told ≡ true }
+fn visit<T: Send>(shared: &Shared<T>, held: HeldId) -> HeldId
+    requires table { held.tenure.table ≡ shared.now.table }
     requires sharing { Belongs shared.now.sharing shared.now.table }
-    requires id { right.id ≡ held.id }
-    requires reached { (reached.table ≡ shared.now.table) × (held.id < reached.ids) }
-    ensures table { (result.1.table ≡ right.table) × (result.0.mark.table ≡ right.table) }
-    ensures id { (result.0.id ≡ held.id) × (result.1.id ≡ held.id) }
-    ensures told { result.0.mark.told ≡ true }
+    ensures table { (result.right.table ≡ held.right.table) × (result.tenure.table ≡ held.tenure.table) }
+    ensures id { (result.id ≡ held.id) × (result.right.id ≡ held.id) }
 {
-    shared.claim(held, right, reached).give_up()
+    shared.claim(held).give_up()
 }
 
 /// What the look lent outlives the claim, and so does a token of it.
-fn seen<'a, T: Send + Sync>(claim: Claim<'a, T>) -> ((HeldId, Right), Option<(Token<T>, &'a T)>)
+fn seen<'a, T: Send + Sync>(claim: Claim<'a, T>) -> (HeldId, Option<(Token<T>, &'a T)>)
     requires { claim.learnt ≢ Missing }
-    ensures id { (result.0.0.id ≡ claim.entry.id) × (result.0.1.id ≡ claim.entry.id) }
+    ensures id { (result.0.id ≡ claim.entry.id) × (result.0.right.id ≡ claim.entry.id) }
     ensures value { MatchOption result.1 (claim.entry.learnt ≡ Vacant) (λ x.
         (x.0.value ≡ x.1.now) × (claim.entry.learnt ≡ Holding x.1.now)) }
 {
@@ -86,7 +77,7 @@ fn seen<'a, T: Send + Sync>(claim: Claim<'a, T>) -> ((HeldId, Right), Option<(To
     (claim.give_up(), value)
 }
 
-fn number_seen<'a>(claim: Claim<'a, u32>) -> ((HeldId, Right), Option<(Token<u32>, &'a u32)>)
+fn number_seen<'a>(claim: Claim<'a, u32>) -> (HeldId, Option<(Token<u32>, &'a u32)>)
     requires { claim.learnt ≢ Missing }
     ensures { MatchOption result.1 (claim.entry.learnt ≡ Vacant) (λ x. claim.entry.learnt ≡ Holding x.1.now) }
 {

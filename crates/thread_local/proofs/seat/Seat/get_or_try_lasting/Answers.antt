@@ -13,7 +13,7 @@ returns g c =
       ok =
           fills_by g.row.E.Denot (λ value. F.post c.args.create (Ok value)) c.args.self.now left c.unwrap.result.1.now
           c.in_ok-try_fill.ensures.ok
-          (some_lasting c.self.inside.table.now c.self.inside.claim c.self.inside.tenure.before left c.lasting.result c.unwrap.result
+          (some_lasting c.self.inside.table.now c.self.inside.claim left c.lasting.result c.unwrap.result
           c.self.view_is c.lasting.ensures c.unwrap.ensures);
       create = λ error told. absurd (ok_not_err told);
       memory = λ told. absurd (ok_not_err told);

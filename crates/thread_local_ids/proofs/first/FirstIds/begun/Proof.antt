@@ -8,7 +8,7 @@ use Rattle.thread_local_base.proofs.Names.{pass_all, free_all, look_at, sets, ag
 use Rattle.thread_local_base.proofs.Names.{u64, RefOf, shr_vals, shr_Tells, Stays, stay_dropped, alive}
 use Rattle.thread_local_base.proofs.Names.{walk_of, Goes-dropped, proved, leaves}
 use Rattle.thread_local_base.proofs.Walking.{knows}
-use Rattle.std.proofs.Common.{false, max}
+use Rattle.std.proofs.Common.{false, max, None}
 use base.Logic.{ex}
 use types.Logic.{sem}
 use types.Kit.{some}
@@ -70,7 +70,7 @@ begun_spec 𝓤 𝓛 𝓜 𝓡 wired =
     sets ! (agg ! (and_then ! (get ! refl) (and_then ! (get ! refl) (and_then ! (get ! refl) (no_more !))))) refl
     (tt, ((record { fits = lit< tt }, tt), ((tt, tt), (((tt, tt), ((tt, tt), ((tt, tt), tt))), tt)))) $
     use0 𝓛 (later (some (λ (γ : ℕ). ‵ (begun 𝓛 room γ)))) (via 𝓤 _ (begins 𝓛 room) (basic 𝓛 (ex 𝓤 Begun))) $ await ! tt $ pick ! (λ γ.
-    let r : Ri.Denot = record { marker = record {}; table = γ; id = table_key } in
+    let r : Ri.Denot = record { marker = record {}; table = γ; id = table_key; left = None } in
     let p : Pa.Denot = record { marker = record {}; table = γ; moves = []; room = room } in
     let s : Sl.Denot = record { marker = record {}; table = γ } in
     let g : Lg.Denot = record { marker = record {}; table = γ; moves = []; whole = false } in

@@ -81,8 +81,8 @@ pub look-word-requires-clause-further : goal.look-word-requires-clause-further
 look-word-requires-clause-further c = λ _.
     has_further c.self.inside.log.moves c.self.inside.manager c.alloc.new.manager c.in-Ok.id c.in-Ok.ensures.ok c.self.invariant.beyond
 
-pub into_taken-requires-clause-id : goal.into_taken-requires-clause-id
-into_taken-requires-clause-id c =
+pub into_held-requires-clause-id : goal.into_held-requires-clause-id
+into_held-requires-clause-id c =
     let before = c.look-word.result.1.before in
     let full = full_holds c.look-word.result.0 (held_after before) c.look-word.ensures.word (sym c.is_full.ensures ∙ c.if-not-is_full.false) in (
       is_least c.self.inside.log.moves before c.self.inside.manager c.alloc.new.manager c.in-Ok.id c.in-Ok.ensures.ok c.self.invariant.beyond
@@ -118,8 +118,8 @@ invariant_of-self-in-Ok c =
 
 pub returns-else-not-is_full-clause-take : goal.returns-else-not-is_full-clause-take
 returns-else-not-is_full-clause-take c =
-    subst (λ (t : ℕ). IsTakenAfter t c.args.page.now.moves c.into_taken.new.page.moves c.into_taken.result) c.look-word.ensures.table
-    c.into_taken.ensures.taken
+    subst (λ (t : ℕ). IsTakenAfter t c.args.page.now.moves c.into_held.new.page.moves c.into_held.result) c.look-word.ensures.table
+    c.into_held.ensures.taken
 
 pub returns-else-not-is_full-2-clause-take : goal.returns-else-not-is_full-2-clause-take
 returns-else-not-is_full-2-clause-take c =

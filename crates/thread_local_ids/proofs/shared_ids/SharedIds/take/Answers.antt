@@ -8,8 +8,8 @@ use Rattle.thread_local_ids.proofs.shared_ids.SharedIds.take.Goals as goal
 
 pub returns-in-Some : goal.returns-in-Some
 returns-in-Some g c =
-    let tells = take_tells c.args.self.now.table c.args.page.now c.take.new.page (Ok c.in-Some.taken)
-    (subst (λ (v : SharedView). IsTakenAfter v.table c.args.page.now.moves c.take.new.page.moves c.in-Some.taken)
+    let tells = take_tells c.args.self.now.table c.args.page.now c.take.new.page (Ok c.in-Some.held)
+    (subst (λ (v : SharedView). IsTakenAfter v.table c.args.page.now.moves c.take.new.page.moves c.in-Some.held)
     c.self.view_is c.in-Some.ensures.taken) in
     record { taken = tells.0; early = tells.1; table = c.in-Some.ensures.table; memory = tells.2; exhausted = tells.3 }
 

@@ -34,9 +34,9 @@ take-requires g c =
 
 pub returns-in-Some-take-clause-take : goal.returns-in-Some-take-clause-take
 returns-in-Some-take-clause-take g c =
-    let taken = subst (λ (p : Page). IsTakenAfter c.self.inside.first.table p.moves c.take.new.page.moves c.in-Some-take.taken)
+    let taken = subst (λ (p : Page). IsTakenAfter c.self.inside.first.table p.moves c.take.new.page.moves c.in-Some-take.held)
     (c.in_default.ensures.take ∙ c.loop.invariant) c.in-Some-take.ensures.taken in
-    subst (λ (v : SharedView). IsTakenAfter v.table c.args.page.now.moves c.take.new.page.moves c.in-Some-take.taken) c.self.view_is taken
+    subst (λ (v : SharedView). IsTakenAfter v.table c.args.page.now.moves c.take.new.page.moves c.in-Some-take.held) c.self.view_is taken
 
 pub returns-in-Some-take-clause-table : goal.returns-in-Some-take-clause-table
 returns-in-Some-take-clause-table g c =

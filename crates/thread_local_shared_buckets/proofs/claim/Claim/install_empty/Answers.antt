@@ -1,12 +1,9 @@
 -- An empty block has no value in any slot.
-use Rattle.std.proofs.Common.{◌∙◌, ◌≡◌, ◌^◌, ℕ, List, Option, None, ap, sym, subst, refl}
+use Rattle.std.proofs.Common.{◌∙◌, ◌≡◌, ◌^◌, ℕ, List, Option, None, ap, sym, subst}
 use Rattle.std.specs.Prelude.{slice_set}
-use base.Stored.{Gv}
-use denote.Param.{param}
 use Rattle.thread_local_base.specs.Learnt.{Learnt, Vacant}
 use Rattle.thread_local_base.specs.Place.{bucket_of}
 use Rattle.thread_local_buckets.specs.Slots.{empty_slots, slot_value}
-use Rattle.thread_local_ids.specs.Sharings.{left_of}
 use Rattle.thread_local_shared_buckets.specs.declared.claimed.ClaimedSlot.{ClaimedSlot}
 use Rattle.thread_local_shared_buckets.specs.Known.{HasLooked, found_as, state_of}
 use Rattle.thread_local_shared_buckets.specs.Views.{ClaimView}
@@ -14,11 +11,7 @@ use Rattle.thread_local_shared_buckets.proofs.ClaimLaws.{goes_on, seen_on}
 use Rattle.thread_local_shared_buckets.proofs.Fills.{vacant_then}
 use Rattle.thread_local_shared_buckets.proofs.BlockLaws.{none_again, none_where}
 use Rattle.thread_local_shared_buckets.proofs.claim.Claim.install_empty.Goals as goal
-use Rattle.thread_local_shared_buckets.proofs.claim.Claim.install_empty.Goals.{After-nothing-noted, After-exchange-back}
-
-none_there : (g : _) (c : After-nothing-noted g)
-    → ◌≡◌ {A = Option g.row.T.Denot} (slot_value c.args.block.slots c.self.inside.slot.index) None
-none_there g c = none_where c.args.block.slots (2 ^ c.args.thread.bucket) c.self.inside.slot.index c.requires.block.1
+use Rattle.thread_local_shared_buckets.proofs.claim.Claim.install_empty.Goals.{After-exchange-back}
 
 pub exchange-back-requires-clause-made : goal.exchange-back-requires-clause-made
 exchange-back-requires-clause-made g c =
@@ -34,14 +27,8 @@ exchange-back-requires-clause-made g c =
 
 pub exchange-back-requires-clause-state : goal.exchange-back-requires-clause-state
 exchange-back-requires-clause-state g c =
-    let none = none_there g (goal.at.exchange-back-requires-clause-state g c).After-nothing-noted in
+    let none = none_where c.args.block.slots (2 ^ c.args.thread.bucket) c.self.inside.slot.index c.requires.block.1 in
     sym (ap (λ (v : Option g.row.T.Denot). state_of (found_as v)) none)
-
-pub exchange-back-requires-clause-noted : goal.exchange-back-requires-clause-noted
-exchange-back-requires-clause-noted g c =
-    let noted = c.nothing-noted.ensures in
-    let none = none_there g (goal.at.exchange-back-requires-clause-noted g c).After-nothing-noted in
-    (noted.0, noted.1, ◌∙◌ {A = Option Gv} noted.2 (sym (ap (λ (v : Option g.row.T.Denot). left_of (param 0 g.row.T) v) none)))
 
 vacant_now : (g : _) (c : After-exchange-back g) → c.exchange-back.new.self.learnt ≡ Vacant
 vacant_now g c =
@@ -57,12 +44,12 @@ returns g c =
     let vacant = vacant_now g (goal.at.returns g c).After-exchange-back in
     let same =
     ◌∙◌ {A = ClaimedSlot g.row.T.Denot} c.exchange-back.ensures.same
-    (ap (λ (l : Learnt g.row.T.Denot). record from.slot { at = to.at; state = to.state; learnt = l }) vacant) in
-    seen_on from.slot to from.held.id from.held.id Vacant c.args.self.now same refl c.self.view_is
+    (ap (λ (l : Learnt g.row.T.Denot). record from.slot { at = to.at; state = to.state; learnt = l; left = to.left }) vacant) in
+    seen_on from.slot to from.id from.tenure.before Vacant to.left c.args.self.now same c.self.view_is
 
 pub invariant_of-self : goal.invariant_of-self
 invariant_of-self g c =
     let from = c.self.inside in
     let to = c.exchange-back.new.self in
     let looked = subst HasLooked (sym (vacant_now g (goal.at.invariant_of-self g c).After-exchange-back)) tt in
-    goes_on from.slot to from.held from.announcements.now from.reached to.learnt c.self.invariant c.exchange-back.ensures.same looked
+    goes_on from.slot to from.id from.announcements.now from.tenure to.learnt to.left c.self.invariant c.exchange-back.ensures.same looked

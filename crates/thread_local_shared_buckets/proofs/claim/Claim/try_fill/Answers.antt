@@ -14,7 +14,7 @@ returns-then-state-eq-HOLDING-clause-ok g c =
 empty_here : (g : _) (c : After-state g) → c.state.result ≢ 2 → IsEmpty c.args.self.now.learnt
 empty_here g c apart =
     empty_else c.self.inside.slot.learnt c.args.self.now.learnt c.state.result
-    (ap (λ (view : ClaimView g.row.T.Denot). view.learnt) c.self.view_is) c.self.invariant.2 c.state.ensures apart
+    (ap (λ (view : ClaimView g.row.T.Denot). view.learnt) c.self.view_is) c.self.invariant.3 c.state.ensures apart
 
 pub room-requires-clause-empty : goal.room-requires-clause-empty
 room-requires-clause-empty g c = empty_here g (goal.at.room-requires-clause-empty g c).After-state c.if-state-eq-HOLDING.false

@@ -14,8 +14,9 @@ use denote.Struct.Lending.{of_Lends}
 use Rattle.std.specs.contracts.marker.PhantomData as P
 use Rattle.thread_local_shared_buckets.specs.contracts.shared_bucket.SharedBucket as one_bucket
 use Rattle.thread_local_shared_buckets.specs.contracts.claimed.ClaimedSlot as C
+use Rattle.thread_local_ids.specs.Rights.{note_owns}
 use Rattle.thread_local_shared_buckets.specs.Claims.{claim_fields}
-use Rattle.thread_local_shared_buckets.proofs.Lending.{claim_laws, lends_claim}
+use Rattle.thread_local_shared_buckets.proofs.Lending.{claim_laws, lends_noted}
 use Rattle.thread_local_shared_buckets.proofs.claimed.ClaimedSlot.TheLaw.Statement.{statement}
 
 pub shares : (a : NamedLft) (T : RattleType) (L : Laws T) → statement a T L
@@ -38,10 +39,10 @@ shares a T L =
     )
     (λ M 𝓤 𝓛 d p.
     let l = (C.the_row a T).lives in let s = (ShrRef a.mir a.lft (one_bucket.the_row T)).lives in
-    lends_claim 𝓛 a.lft T L.shr_laws l (Incl-trans
+    lends_noted 𝓛 a.lft T L.shr_laws l (Incl-trans
     (meet_⊑_right (T.lives ++ []) (((s ++ []) ++ []) ++ [])) (Incl-trans
     (meet_⊑_left ((s ++ []) ++ []) []) (Incl-trans (meet_⊑_left (s ++ []) [])
     (Incl-trans (meet_⊑_left s []) (meet_⊑_left a.lft (one_bucket.the_row T).lives)))))
     (Shares-less 𝓛 T T.lives l (Incl-trans (meet_⊑_left (T.lives ++ []) _) (meet_⊑_left T.lives []))
     (L.shares 𝓛))
-    d.table (claim_fields d.id d.index d.bucket d.at d.sharing d.word d.reserved) d.state d.learnt)
+    d.table (claim_fields d.id d.index d.bucket d.at d.sharing d.word d.reserved) d.state (note_owns d.table d.id d.left) d.learnt)

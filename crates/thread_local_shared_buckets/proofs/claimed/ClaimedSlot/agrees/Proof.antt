@@ -64,11 +64,12 @@ agrees_spec 𝓤 𝓛 𝓜 𝓡 wired X L =
     move ! (1 ∷ 2 ∷ []) $ fsplit3 ! $ move ! (1 ∷ 2 ∷ 3 ∷ []) $ opens ! tt G b o (λ us.
     -- [its cell; what the claim owns; the open borrow, in three entries; its first part; what is
     -- told; the bucket's token; the others]
-    move ! (1 ∷ []) $ fsplit ! $ move ! (1 ∷ 7 ∷ 8 ∷ []) $
+    move ! (1 ∷ []) $ fsplit ! $ move ! (1 ∷ []) $ fsplit ! $ move ! (0 ∷ 8 ∷ 9 ∷ []) $
     use3 𝓛 (later (given Holds (‵ (claim_owns R β h.table f l₀ h.state) ⊛ ‵ (flft β q))))
     (agreed.agrees 𝓛 R x β h.table f h.state named_so 𝓡 l₀ known q) $
     await ! tt $ learn ! (λ holds. split ! $
-    move ! (2 ∷ 0 ∷ []) $ fjoin ! $ move ! (2 ∷ 0 ∷ 3 ∷ 4 ∷ 5 ∷ []) $ closes ! tt G h us b o $
+    -- [what the claim owns; the bucket's token; the note; the fields; its cell; ..]
+    move ! (0 ∷ 2 ∷ []) $ fjoin ! $ move ! (2 ∷ 0 ∷ []) $ fjoin ! $ move ! (2 ∷ 0 ∷ 3 ∷ 4 ∷ 5 ∷ []) $ closes ! tt G h us b o $
     -- [two parts of the reference; its token; the bucket's token; the first part; the others]
     sets ! (of_opd ! (unit_lit !)) refl (tt, tt) $
     move ! (4 ∷ 0 ∷ 1 ∷ []) $ fjoin3 ! $ nothing ! $ nothing ! $ fjoin ! $ move ! (1 ∷ 0 ∷ []) $

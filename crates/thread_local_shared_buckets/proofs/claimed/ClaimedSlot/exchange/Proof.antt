@@ -77,12 +77,11 @@ use Rattle.thread_local_buckets.proofs.Flags.{value_near}
 use Rattle.thread_local_base.specs.Fact.{fact as said_fact}
 use Rattle.thread_local_buckets.specs.contracts.block.Block as block
 use Rattle.thread_local_buckets.proofs.BlockFields as fields
-use Rattle.thread_local_ids.specs.Rights.{right_owns, reached_owns}
-use Rattle.thread_local_ids.specs.contracts.rights.reached.Reached as Reached
-use Rattle.thread_local_ids.proofs.ReachedElements.{reached_less}
-use Rattle.thread_local_ids.specs.Told.{noted_if}
-use Rattle.thread_local_ids.specs.Sharings.{left_of}
-use Rattle.thread_local_ids.specs.contracts.rights.mark.Noted as Noted
+use Rattle.thread_local_base.specs.IdMoves.{IdMove, Take, held_after, noted}
+use Rattle.thread_local_ids.specs.Rights.{right_owns, note_owns, page_owns, reached_owns, taken_id}
+use Rattle.thread_local_ids.specs.contracts.rights.page.Tenure as Tenure
+use Rattle.thread_local_ids.proofs.ReachedElements.{shows_reached, taken_reached}
+use Rattle.thread_local_ids.specs.Sharings.{Belongs, left_after}
 use Rattle.thread_local_ids.proofs.Markers.{token}
 use Rattle.thread_local_ids.proofs.Markers.{told as token_told}
 use Rattle.thread_local_shared_buckets.specs.Announcing.{Announcing, announced}
@@ -155,8 +154,8 @@ module _ {M : Type 1} {𝓤 : Ura M} (𝓛 : Logic 𝓤) (𝓜 : Model 𝓤 𝓛
   abbrev stayed : Stays En.signature.params En.kept
   stayed =
       let self = plain (λ κs. claim.the_row (named_lft 4 1 tt κs) R) in let number = plain (λ _. usize) in let lot = plain (λ _. Bl) in
-      let shown = RefOf (2 ∷ []) tt (plain (λ _. Reached.the_row)) (λ _. tt) in
-      let known = plain (λ _. Announced.the_row) in let noted = plain (λ _. Noted.the_row) in (
+      let shown = RefOf (2 ∷ []) tt (plain (λ _. Tenure.the_row)) (λ _. tt) in
+      let known = plain (λ _. Announced.the_row) in (
         stay_ref (0 ∷ []) tt self,
         (
           stay_dropped number yes,
@@ -164,10 +163,7 @@ module _ {M : Type 1} {𝓤 : Ura M} (𝓛 : Logic 𝓤) (𝓜 : Model 𝓤 𝓛
             stay_dropped lot no,
             (
               stay_dropped shown yes,
-              (
-                stay_dropped known yes,
-                (stay_dropped number yes, (stay_dropped noted yes, tt)),
-              ),
+              (stay_dropped known yes, (stay_dropped number yes, tt)),
             ),
           ),
         ),
@@ -234,14 +230,18 @@ module _ {M : Type 1} {𝓤 : Ura M} (𝓛 : Logic 𝓤) (𝓜 : Model 𝓤 𝓛
     abbrev bv : Val
     bv = fields.block_val p
 
-    abbrev had : Reached.the_row.Denot
+    abbrev had : Tenure.the_row.Denot
     had = a.1.1.1.0.now
 
     abbrev seen : Val
     seen = vptr a.1.1.1.0.ref_ptr.0 a.1.1.1.0.ref_ptr.1
 
     abbrev Had : Type 0
-    Had = (had.table ≡ h.table) × (h.id < had.ids)
+    Had = (had.table ≡ h.table) × (h.id ≡ taken_id had.before)
+
+    -- all that was done by the take of the id
+    abbrev by_then : List IdMove
+    by_then = noted had.before Take
 
     abbrev says : Announced.the_row.Denot
     says = a.1.1.1.1.0
@@ -249,14 +249,8 @@ module _ {M : Type 1} {𝓤 : Ura M} (𝓛 : Logic 𝓤) (𝓜 : Model 𝓤 𝓛
     abbrev Says : Type 0
     Says = (says.by ≡ h.word) × (says.bucket ≡ bucket_of h.id)
 
-    abbrev notes : Noted.the_row.Denot
-    notes = a.1.1.1.1.1.1.0
-
-    -- what is noted is what the claim's slot in the block holds
-    abbrev IsNoted : Type 0
-    IsNoted =
-        (◌≡◌ {A = Option ℕ} notes.sharing h.sharing) × (notes.id ≡ h.id)
-        × (◌≡◌ {A = Option Gv} notes.value (left_of R (slot_value x.slots h.index)))
+    abbrev OfTable : Type 0
+    OfTable = Belongs h.sharing h.table
 
     -- the number of what a look at the claim's slot in the block finds
     abbrev sn : ℕ
@@ -281,7 +275,7 @@ module _ {M : Type 1} {𝓤 : Ura M} (𝓛 : Logic 𝓤) (𝓜 : Model 𝓤 𝓛
     i = h.index
 
     abbrev y : (walk_of 𝓛 En stayed c).Ghost
-    y = ((κs, qs, bounds, a, (vptr rb ro ∷ [], (vint w64 ix ∷ [], (bv ∷ [], (seen ∷ [], (token ∷ [], (vint w64 sn ∷ [], (token ∷ [], tt)))))))), gh)
+    y = ((κs, qs, bounds, a, (vptr rb ro ∷ [], (vint w64 ix ∷ [], (bv ∷ [], (seen ∷ [], (token ∷ [], (vint w64 sn ∷ [], tt))))))), gh)
 
     abbrev Post : Val → SProp 𝓤
     Post = (walk_of 𝓛 En stayed c).post y
@@ -293,11 +287,15 @@ module _ {M : Type 1} {𝓤 : Ura M} (𝓛 : Logic 𝓤) (𝓜 : Model 𝓤 𝓛
         ‵ (cell_at full_share G.mir (value_of kept ∷ []) rb ro) ∷ ‵ (fobor κs.0 qs.0 (Owner (mem G) rb ro γ))
         ∷ ‵ (fobs γ (G.coded.code h)) ∷ ‵ (fauth γ (G.coded.code h)) ∷ []
 
-    abbrev Owned : Learnt X.Denot → ℕ → ℕ → ℕ → Fml
-    Owned knows state pb o =
+    abbrev Claimed : Learnt X.Denot → ℕ → ℕ → ℕ → Fml
+    Claimed knows state pb o =
         claim_owns R β h.table
         (claim_fields h.id h.index (block_ptr wb wo) (value_at R (block_ptr pb o) h.index) h.sharing h.word h.reserved)
         knows state
+
+    -- the same, with the note of the id
+    abbrev Owned : Learnt X.Denot → ℕ → ℕ → ℕ → Option Gv → Fml
+    Owned knows state pb o note = fsep (Claimed knows state pb o) (note_owns h.table h.id note)
 
     abbrev answer : ℕ → ℕ → ℕ → Val → Val
     answer pb o k back = vstruct (vcons (vptr pb o) (vcons (vint w64 k) (vcons back vnil)))
@@ -306,15 +304,15 @@ module _ {M : Type 1} {𝓤 : Ura M} (𝓛 : Logic 𝓤) (𝓜 : Model 𝓤 𝓛
       abbrev Ev : Env 𝓤 H
       Ev = env fn.locals l
 
-      ends : (pb o k : ℕ) → k < 2 ^ 64 → (back : Val) → Good (layout Back) back → (opt : Back.Denot) (knows : Learnt X.Denot)
+      ends : (pb o k : ℕ) → k < 2 ^ 64 → (back : Val) → Good (layout Back) back → (opt : Back.Denot) (knows : Learnt X.Denot) (note : Option Gv)
           → w ≡ block_ptr wb wo → ix ≡ h.index → h.index * stride R < 2 ^ 64
           → IfSome opt (λ was. (was.heap ≡ x.heap) × (was.slots ≡ x.slots) × (was.left ≡ 0))
           → MatchOption opt (knows ≡ found_as (slot_value x.slots h.index)) (λ _. knows ≡ Vacant)
-          → Seq (Go {0}) 𝓛 (‵ (flft β q) ∷ ‵ (Owned knows k pb o) ∷ ‵ (Back.own_val opt (back ∷ [])) ∷ ‵ others
-          ∷ (opened (kept_of h) ++ holding 𝓛 Ev ((23, answer pb o k back) ∷ (1, vptr rb ro) ∷ (2, vint w64 ix) ∷ [])))
+          → Seq (Go {0}) 𝓛 (‵ (flft β q) ∷ ‵ (Owned knows k pb o note) ∷ ‵ (Back.own_val opt (back ∷ [])) ∷ ‵ others
+          ∷ (opened (kept_of h) ++ holding 𝓛 Ev ((22, answer pb o k back) ∷ (1, vptr rb ro) ∷ (2, vint w64 ix) ∷ [])))
           (prop (Wp 𝓤 H 𝓣.C 𝓣.Λ Ev (after 6 fn.body) (at_return 𝓤 H Ev Post)))
-      ends pb o k low back held opt knows at is_index close same_back learns =
-          let F₁ : G.Denot → Type 0 = λ r. r ≡ record h { at = r.at; state = r.state; learnt = r.learnt } in
+      ends pb o k low back held opt knows note at is_index close same_back learns =
+          let F₁ : G.Denot → Type 0 = λ r. r ≡ record h { at = r.at; state = r.state; learnt = r.learnt; left = r.left } in
           let F₄ : G.Denot → Type 0 = λ r.
           MatchOption opt (r.learnt ≡ found_as (slot_value x.slots h.index)) (λ _. r.learnt ≡ Vacant) in
           let F₃ : Type 0 = IfSome opt (λ was. (was.heap ≡ x.heap) × (was.slots ≡ x.slots) × (was.left ≡ 0)) in
@@ -354,18 +352,19 @@ module _ {M : Type 1} {𝓤 : Ura M} (𝓛 : Logic 𝓤) (𝓜 : Model 𝓤 𝓛
             index = i;
             reserved = h.reserved;
             learnt = knows;
+            left = note;
           } in
           move ! (4 ∷ 0 ∷ 5 ∷ 6 ∷ 7 ∷ []) $ closes ! tt G left (value_of m ∷ []) rb ro $
           feq_i ! (List Val) (vptr rb ro ∷ []) (vptr rb ro ∷ []) refl $ fjoin3 ! $
           nothing ! $ nothing ! $ fjoin ! $ nothing ! $ fjoin ! $ nothing ! $ fjoin ! $ nothing ! $ fjoin ! $ nothing ! $ fjoin ! $
-          nothing ! $ fjoin ! $ move ! (1 ∷ 0 ∷ []) $ fjoin ! $
+          move ! (1 ∷ 0 ∷ []) $ fjoin ! $
           -- [what is left of the parameters; the reference's token; the token; what comes back; the other tokens]
           move ! (2 ∷ 4 ∷ []) $ fjoin ! $ move ! (2 ∷ 0 ∷ []) $ join ! $
           use0 𝓛 (raw (fact 𝓤 F₃)) (fact_i 𝓤 F₃ (emp 𝓤) same_back) $
           use0 𝓛 (raw (fact 𝓤 (F₄ left))) (fact_i 𝓤 (F₄ left) (emp 𝓤) learns) $ join ! $
           use0 𝓛 (raw (fact 𝓤 (F₁ left))) (fact_i 𝓤 (F₁ left) (emp 𝓤) (λ n. record left { bucket = sym at n })) $ join ! $
           returns ! (look_at ! 0 refl) $ free_all ! refl $ keep ! (1 ∷ 2 ∷ 3 ∷ 0 ∷ []) $
-          by ! (leaves 𝓛 En stayed c y back opt (left, (tt, (tt, (tt, (tt, (tt, (tt, tt))))))) (tt, (tt, (tt, (tt, (tt, (tt, (tt, tt))))))))
+          by ! (leaves 𝓛 En stayed c y back opt (left, (tt, (tt, (tt, (tt, (tt, tt)))))) (tt, (tt, (tt, (tt, (tt, (tt, tt)))))))
 
     abbrev pl : ClaimFields
     pl = claim_fields h.id i w h.at h.sharing h.word h.reserved
@@ -380,12 +379,12 @@ module _ {M : Type 1} {𝓤 : Ura M} (𝓛 : Logic 𝓤) (𝓜 : Model 𝓤 𝓛
     -- What the exchange gives, without the function's locals: the block is lent for ν beside the turn's life, whose token is
     -- borrowed from β.
     module _ (LR : Laws R) (d : BucketView) (t : Turn) (of : IsOf R h.table pl d) (v : Option X.Denot) (rest : ℕ) (many : len R d ≡ i + suc rest) (s : Share)
-        (ν : ℕ) (names : offers.Names 𝓛 R t) (so : offers.Lies 𝓛 R t LR d x.heap v i rest many new names) where
+        (ν : ℕ) (names : offers.Names 𝓛 R t) (so : offers.Lies 𝓛 R t LR d x.heap v i rest many new names) (same : Belongs d.sharing d.table) where
       abbrev won : Ptr → Fml
-      won u = fsep (flft t.life s) (offers.won 𝓛 R t LR d x.heap v i rest many wb (wo + 0) s nb no' ν names so u)
+      won u = fsep (flft t.life s) (offers.won 𝓛 R t LR d x.heap v i rest many h.left same wb (wo + 0) s nb no' ν names so u)
 
       abbrev lost : Ptr → Fml
-      lost u = fsep (flft t.life s) (offers.lost 𝓛 R t LR d x.heap v i rest many wb (wo + 0) s nb no' ν names so u)
+      lost u = fsep (flft t.life s) (offers.lost 𝓛 R t LR d x.heap v i rest many h.left same wb (wo + 0) s nb no' ν names so u)
 
       abbrev lasts : Fml
       lasts = fsep (before β t.life) (finv (fbor t.life (bucket_invariant R d t wb (wo + 0))))
@@ -399,26 +398,32 @@ module _ {M : Type 1} {𝓤 : Ura M} (𝓛 : Logic 𝓤) (𝓜 : Model 𝓤 𝓛
       abbrev of_block : (u : Ptr) → IsOf R h.table (claim_fields h.id i (block_ptr wb wo) u h.sharing h.word h.reserved) d
       of_block u = (tt, of.1, of.2, of.3, of.4, of.5, of.6, of.7)
 
+      -- what the note says once the claim's slot holds what the block has there
+      abbrev says_now : Option Gv
+      says_now = left_after R d.sharing d.table h.left v
+
       -- the block stands: the claim holds its value
       won_gives : sn ≡ state_of (found_as v) → (u : Ptr)
-          → ent 𝓤 (mean 𝓛 (‵ (won u) ⊛ ‵ lasts ⊛ way_back ⊛ ‵ gained)) (mean 𝓛 (later (‵ (flft β q) ⊛ ‵ (Owned (found_as v) sn nb no'))))
+          → ent 𝓤 (mean 𝓛 (‵ (won u) ⊛ ‵ lasts ⊛ way_back ⊛ ‵ gained)) (mean 𝓛 (later (‵ (flft β q) ⊛ ‵ (Owned (found_as v) sn nb no' says_now))))
       won_gives is_state u =
-          qed 𝓛 (‵ (won u) ∷ ‵ lasts ∷ way_back ∷ ‵ gained ∷ []) ∵ updating ! $ fsplit ! $ move ! (1 ∷ []) $ fsplit ! $ move ! (1 ∷ []) $
+          qed 𝓛 (‵ (won u) ∷ ‵ lasts ∷ way_back ∷ ‵ gained ∷ []) ∵ updating ! $ fsplit ! $ move ! (1 ∷ []) $ fsplit ! $ move ! (1 ∷ []) $ fsplit ! $
           rewrite ! 0 (λ (k : ℕ). ‵ (offers.won_by 𝓛 R t d.sharing v k)) (sym of.3) refl $
-          -- [what the claim gets; the part; the life's token; the sharing lasts; the way back; what the claim had]
-          move ! (1 ∷ 3 ∷ 2 ∷ 0 ∷ 5 ∷ []) $ group ! 5 $
-          use1 𝓛 (later (‵ (flft t.life s) ⊛ ‵ (Owned (found_as v) (state_of (found_as v)) nb no')))
+          -- [what the claim gets; the note; the part; the life's token; the sharing lasts; the way back; what the claim had]
+          move ! (2 ∷ 4 ∷ 3 ∷ 0 ∷ 6 ∷ []) $ group ! 5 $
+          use1 𝓛 (later (‵ (flft t.life s) ⊛ ‵ (Claimed (found_as v) (state_of (found_as v)) nb no')))
           (installs_own 𝓛 R d t β wb wo nb no' h.id i h.sharing h.word h.reserved h.table LR v names.here s
           (offers.block_as 𝓛 R t LR d x.heap v i rest many new ν names, _) (of_block (value_at R new i)) refl
           (name_behind names.before names.here names.behind i so.before)) $
           await ! tt $ split ! $
-          -- [the life's token; the claim; the way back]
-          move ! (1 ∷ []) $ rewrite ! 0 (λ (k : ℕ). ‵ (Owned (found_as v) k nb no')) (sym is_state) refl $
+          -- [the life's token; the claim; the note; the way back]
+          move ! (2 ∷ []) $ rewrite ! 0 (λ (k : ℕ). ‵ (note_owns d.table k says_now)) (sym of.3) refl $
+          rewrite ! 0 (λ (k : ℕ). ‵ (note_owns k h.id says_now)) of.2 refl $
+          move ! (2 ∷ []) $ rewrite ! 0 (λ (k : ℕ). ‵ (Claimed (found_as v) k nb no')) (sym is_state) refl $ fjoin ! $
           move ! (1 ∷ 2 ∷ []) $ returns_token ! β t.life q s $ await ! tt $ now ! $ done !
 
       abbrev IsMet : Ptr → ℕ × ℕ → Item 𝓤
       IsMet u first = given (u ≡ block_ptr first.0 first.1)
-          (‵ (flft β q) ⊛ ‵ (Owned Vacant 1 first.0 first.1) ⊛ ‵ (Back.own_val (Some x) (back_again ∷ [])))
+          (‵ (flft β q) ⊛ ‵ (Owned Vacant 1 first.0 first.1 h.left) ⊛ ‵ (Back.own_val (Some x) (back_again ∷ [])))
 
       -- another block stands: the claim finds its slot empty there, and this block is whole again
       lost_gives : p ≡ new → x.slots ≡ with_first i v rest → x.left ≡ 0 → (u : Ptr)
@@ -426,35 +431,36 @@ module _ {M : Type 1} {𝓤 : Ura M} (𝓛 : Logic 𝓤) (𝓜 : Model 𝓤 𝓛
       lost_gives here slots_are all_made u =
           qed 𝓛 (‵ (lost u) ∷ ‵ lasts ∷ way_back ∷ []) ∵ updating ! $ fsplit ! $ move ! (1 ∷ []) $ fsplit ! $ fsplit ! $ move ! (2 ∷ []) $ fsplit ! $
           rewrite ! 0 (λ (k : ℕ). ‵ (right_owns t.pass k)) (sym of.3) refl $
-          -- [the pass; what is noted; the private block; what was seen; the life's token; the sharing lasts; the way back]
-          move ! (1 ∷ []) $ drop ! $
+          -- [the pass; the note; the private block; what was seen; the life's token; the sharing lasts; the way back]
+          keep ! (0 ∷ 2 ∷ 3 ∷ 4 ∷ 5 ∷ 6 ∷ 1 ∷ []) $
           move ! (1 ∷ 2 ∷ 3 ∷ 4 ∷ 5 ∷ 0 ∷ []) $
           use1 𝓛 (later (‵ (Block new (with_first i v rest) 0))) (offers.take_back 𝓛 R t LR d x.heap v i rest many new ν names so) $
           await ! tt $ move ! (1 ∷ []) $
           in_a_block ! u (glimpse 𝓛 R d t ffalse ftrue) (snd∗ 𝓤 (sem 𝓛 (said_fact (d.reserved ≡ false))) (never 𝓤)) (λ pb o found.
           fsplit ! $ fpick ! (λ zz.
-          -- [the part; nothing; the block; the life's token; the sharing lasts; the way back; the pass]
+          -- [the part; nothing; the block; the life's token; the sharing lasts; the way back; the pass; the note]
           move ! (0 ∷ 4 ∷ 3 ∷ 6 ∷ []) $ group ! 4 $
-          use1 𝓛 (later (‵ (flft t.life s) ⊛ ‵ (Owned Vacant 1 pb o)))
+          use1 𝓛 (later (‵ (flft t.life s) ⊛ ‵ (Claimed Vacant 1 pb o)))
           (installs 𝓛 R d t β wb wo pb o h.id i h.sharing h.word h.reserved h.table s zz (of_block (value_at R (block_ptr pb o) i))) $
           await ! tt $ split ! $
-          -- [the life's token; the claim; nothing; the block; the way back]
+          -- [the life's token; the claim; nothing; the block; the way back; the note]
           move ! (0 ∷ 4 ∷ []) $ returns_token ! β t.life q s $ await ! tt $
-          -- [the token; the claim; nothing; the block]
+          -- [the token; the claim; nothing; the block; the note]
           move ! (3 ∷ []) $ rewrite ! 0 (λ (place : Ptr). ‵ (Block place (with_first i v rest) 0)) (sym here) refl $
           rewrite ! 0 (λ (cs : List (Option X.Denot)). ‵ (Block p cs 0)) (sym slots_are) refl $
           rewrite ! 0 (λ (n : ℕ). ‵ (Block p x.slots n)) (sym all_made) refl $
           use0 𝓛 (‵ ((fields.FieldsType R Z ghosts).own_val (p, (record {}, tt)) (bv ∷ []))) (fields.made R Z ghosts 𝓛 p) $
           fjoin ! $ use1 𝓛 (‵ (Back.own_val (Some x) (back_again ∷ []))) (Some-of 𝓛 Bl x bv) $
-          -- [the block; the token; the claim; nothing]
-          move ! (3 ∷ []) $ drop ! $ move ! (1 ∷ 2 ∷ []) $ now ! $ show ! (λ first. mean 𝓛 (IsMet u first)) (pb, o) $ check ! found $ done !))
+          -- [the block; the token; the claim; nothing; the note]
+          move ! (3 ∷ []) $ drop ! $ move ! (3 ∷ []) $ rewrite ! 0 (λ (k : ℕ). ‵ (note_owns d.table k h.left)) (sym of.3) refl $
+          rewrite ! 0 (λ (k : ℕ). ‵ (note_owns k h.id h.left)) of.2 refl $ move ! (3 ∷ 0 ∷ []) $ fjoin ! $ move ! (2 ∷ 0 ∷ []) $ now ! $ show ! (λ first. mean 𝓛 (IsMet u first)) (pb, o) $ check ! found $ done !))
 
-      -- the contexts in which the two arms begin, with the answer of the exchange in local 16
+      -- the contexts in which the two arms begin, with the answer of the exchange in local 17
       abbrev In_arm : (ℕ → ℕ) → Fml → Val → List (Item 𝓤)
       In_arm l given_back answered =
           ‵ given_back ∷ ‵ lasts ∷ way_back ∷ ‵ others ∷ ‵ gained
           ∷ (opened (kept_of h)
-          ++ holding 𝓛 (Ev l) ((18, answered) ∷ (1, vptr rb ro) ∷ (2, vint w64 ix) ∷ (3, bv) ∷ (6, vint w64 sn) ∷ (9, vptr nb no') ∷ []))
+          ++ holding 𝓛 (Ev l) ((17, answered) ∷ (1, vptr rb ro) ∷ (2, vint w64 ix) ∷ (3, bv) ∷ (6, vint w64 sn) ∷ (8, vptr nb no') ∷ []))
 
       abbrev Goes_on : (ℕ → ℕ) → Goal 𝓤 H
       Goes_on l = prop (Wp 𝓤 H 𝓣.C 𝓣.Λ (Ev l) (after 4 fn.body) (at_return 𝓤 H (Ev l) Post))
@@ -472,7 +478,7 @@ module _ {M : Type 1} {𝓤 : Ura M} (𝓛 : Logic 𝓤) (𝓜 : Model 𝓤 𝓛
           sets ! (of_opd ! (get ! refl)) refl (calls.answer_good (Ok u)) $
           -- [what was won; the sharing lasts; the way back; the other tokens; what the claim had]
           move ! (0 ∷ 1 ∷ 2 ∷ 4 ∷ []) $ group ! 4 $
-          use1 𝓛 (later (‵ (flft β q) ⊛ ‵ (Owned (found_as v) sn nb no'))) (won_gives is_state u) $
+          use1 𝓛 (later (‵ (flft β q) ⊛ ‵ (Owned (found_as v) sn nb no' says_now))) (won_gives is_state u) $
           await ! tt $ split ! $ let pb : ℕ = nb in let o : ℕ = no' in
           first ! $ switches_on ! (get_tag ! (vrt ! refl (fld ! refl (stop !))) (whole !)) $ exec ! 𝓣.C 𝓣.Λ (Ev l) (arm_body 0 arms) (Then l) $
           let nothing_good : Good (layout Back) (live 0 vnil) = (tt, (record { fits = lit< tt }, tt)) in
@@ -482,10 +488,10 @@ module _ {M : Type 1} {𝓤 : Ura M} (𝓛 : Logic 𝓤) (𝓜 : Model 𝓤 𝓛
           sets ! (agg ! (and_then ! (lit ! tt) (no_more !))) refl nothing_good $
           sets_last ! (agg ! (and_then ! (get ! refl) (and_then ! (get ! refl) (and_then ! (get ! refl) (no_more !))))) refl
           triple_good $
-          forget_but ! (Ev l) (23 ∷ 1 ∷ 2 ∷ []) refl $
+          forget_but ! (Ev l) (22 ∷ 1 ∷ 2 ∷ []) refl $
           -- [the token; the claim; the other tokens]
           use0 𝓛 (‵ (Back.own_val None (live 0 vnil ∷ []))) (none_of 𝓛 Bl) $ move ! (1 ∷ 2 ∷ []) $
-          ends l pb o sn low (live 0 vnil) nothing_good None (found_as v) (at_block w of.0) is_index close tt (sym (ap found_as is_value))
+          ends l pb o sn low (live 0 vnil) nothing_good None (found_as v) says_now (at_block w of.0) is_index close tt (sym (ap found_as is_value))
 
       lost_arm : (l : ℕ → ℕ) → p ≡ new → x.slots ≡ with_first i v rest → x.left ≡ 0 → ix ≡ h.index → i * stride R < 2 ^ 64 → (u : Ptr)
           → Seq (Go {0}) 𝓛 (In_arm l (lost u) (calls.answer_val (Err u))) (Goes_on l)
@@ -515,15 +521,15 @@ module _ {M : Type 1} {𝓤 : Ura M} (𝓛 : Logic 𝓤) (𝓜 : Model 𝓤 𝓛
           sets ! (agg ! (and_then ! (lit ! tt) (and_then ! (get ! refl) (no_more !)))) refl held $
           sets_last ! (agg ! (and_then ! (get ! refl) (and_then ! (lit ! tt) (and_then ! (get ! refl) (no_more !))))) refl
           triple_good $
-          forget_but ! (Ev l) (23 ∷ 1 ∷ 2 ∷ []) refl $
-          ends l pb o 1 (lit< tt) back held (Some x) Vacant (at_block w of.0) is_index close (refl, refl, all_made) refl))
+          forget_but ! (Ev l) (22 ∷ 1 ∷ 2 ∷ []) refl $
+          ends l pb o 1 (lit< tt) back held (Some x) Vacant h.left (at_block w of.0) is_index close (refl, refl, all_made) refl))
 
       -- the exchange, from the function's first statement on
       asks : Wired 𝓡.env code.code → (l : ℕ → ℕ) → sn < 2 ^ 64 → sn ≡ state_of (found_as v) → h.at ≡ block_ptr wb wo → p ≡ new
           → x.slots ≡ with_first i v rest → x.left ≡ 0 → ix ≡ h.index
           → i * stride R < 2 ^ 64 → slot_value x.slots h.index ≡ v
           → Seq (Go {0}) 𝓛 ((‵ (offers.private 𝓛 R t LR d x.heap v i rest many new ν names) ⊛ ‵ (grown d)
-          ⊛ ‵ (offers.Ticket 𝓛 R t LR d x.heap v i rest many))
+          ⊛ ‵ (offers.Ticket 𝓛 R t LR d x.heap v i rest many h.left same))
           ∷ ‵ lasts ∷ ‵ (finv (fbor t.life (bucket_invariant R d t wb (wo + 0)))) ∷ ‵ (flft t.life s) ∷ way_back ∷ ‵ others ∷ ‵ gained
           ∷ (opened (kept_of h) ++ holding 𝓛 (Ev l) ((1, vptr rb ro) ∷ (2, vint w64 ix) ∷ (3, bv) ∷ (6, vint w64 sn) ∷ [])))
           (runs 𝓣.C 𝓣.Λ (Ev l) fn.body (at_ret (Ev l) Post))
@@ -542,7 +548,7 @@ module _ {M : Type 1} {𝓤 : Ura M} (𝓛 : Logic 𝓤) (𝓜 : Model 𝓤 𝓛
           use3 𝓛
           (raw (𝓣.C _ (vptr wb (wo + 0) ∷ vnull ∷ vptr nb no' ∷ seq_cst ∷ seq_cst ∷ [])
           (λ u. mean 𝓛 (calls.answered 𝓛 won lost u))))
-          (via 𝓤 _ (offers.offers 𝓛 R t LR d x.heap v i rest many wb (wo + 0) s nb no' ν names so)
+          (via 𝓤 _ (offers.offers 𝓛 R t LR d x.heap v i rest many h.left same wb (wo + 0) s nb no' ν names so)
           (calls.exchanges 𝓛 𝓜 𝓡 (code.calls-std::sync::atomic::raw::ptr::compare_exchange 𝓡.env wired)
           u64 word_laws (block_ptr wb (wo + 0)) null_ptr new won lost)) $
           Calls-last ! (fm 𝓛 𝓜 𝓡) (calls.answered 𝓛 won lost)
@@ -550,40 +556,40 @@ module _ {M : Type 1} {𝓤 : Ura M} (𝓛 : Logic 𝓤) (𝓜 : Model 𝓤 𝓛
           (and_then ! (get ! refl) (and_then ! (get ! refl) (and_then ! (get ! refl) (no_more !))))))
           (λ u.
           calls.hears ! won lost
-          (λ u. lands_last ! refl (calls.answer_good (Ok u)) $ forget_but ! (Ev l) (18 ∷ 1 ∷ 2 ∷ 3 ∷ 6 ∷ 9 ∷ []) refl $
+          (λ u. lands_last ! refl (calls.answer_good (Ok u)) $ forget_but ! (Ev l) (17 ∷ 1 ∷ 2 ∷ 3 ∷ 6 ∷ 8 ∷ []) refl $
           won_arm l low is_state is_index close is_value u)
-          (λ u. lands_last ! refl (calls.answer_good (Err u)) $ forget_but ! (Ev l) (18 ∷ 1 ∷ 2 ∷ 3 ∷ 6 ∷ 9 ∷ []) refl $
+          (λ u. lands_last ! refl (calls.answer_good (Err u)) $ forget_but ! (Ev l) (17 ∷ 1 ∷ 2 ∷ 3 ∷ 6 ∷ 8 ∷ []) refl $
           lost_arm l e slots_are all_made is_index close u))
 
     walk : Wired 𝓡.env code.code → Laws R → ix < 2 ^ 64 → sn < 2 ^ 64
         → ent 𝓤 (sep 𝓤 (on_entry 𝓛 En.signature κs qs a y.0.4) ((c κs a).requires gh))
-        (WpFn 𝓤 H 𝓣.C 𝓣.Λ fn (vptr rb ro ∷ vint w64 ix ∷ bv ∷ seen ∷ token ∷ vint w64 sn ∷ token ∷ []) Post)
+        (WpFn 𝓤 H 𝓣.C 𝓣.Λ fn (vptr rb ro ∷ vint w64 ix ∷ bv ∷ seen ∷ token ∷ vint w64 sn ∷ []) Post)
     walk wired LR fits_index fits_state =
         let pl : ClaimFields = claim_fields h.id i w h.at h.sharing h.word h.reserved in
         qed 𝓛 (((‵ (flft κs.0 qs.0) ⊛ ‵ (fsep (flft β q) others)) ⊛ ‵ (owns (types_at En.signature.params κs) a y.0.4))
         ∷ raw (fact 𝓤 (Incl υ X.lives)) ∷ raw (fact 𝓤 (h.learnt ≡ Missing)) ∷ raw (fact 𝓤 (ix ≡ i))
         ∷ raw (fact 𝓤 Made) ∷ raw (fact 𝓤 Had) ∷ raw (fact 𝓤 Says) ∷ raw (fact 𝓤 IsState)
-        ∷ raw (fact 𝓤 IsNoted) ∷ []) ∵
+        ∷ raw (fact 𝓤 OfTable) ∷ []) ∵
         move ! (1 ∷ 2 ∷ 3 ∷ 4 ∷ 5 ∷ 6 ∷ 7 ∷ 8 ∷ 0 ∷ []) $ heard ! (Incl υ X.lives) (λ alive. heard ! (h.learnt ≡ Missing) (λ gone.
         heard ! (ix ≡ i) (λ is_index. heard ! Made (λ blank. heard ! Had (λ evident. heard ! Says (λ told_so. heard ! IsState (λ is_state.
-        heard ! IsNoted (λ noted_so.
+        heard ! OfTable (λ belongs.
         split ! $ split ! $ move ! (2 ∷ []) $
         fsplit3 ! $ fsplit3 ! $ move ! (4 ∷ []) $ fsplit ! $ fsplit ! $ move ! (2 ∷ []) $ fsplit ! $ fsplit ! $
-        move ! (2 ∷ []) $ fsplit ! $ fsplit ! $ move ! (2 ∷ []) $ fsplit ! $ move ! (1 ∷ []) $ fsplit ! $ fsplit ! $
-        -- [what is noted, in two entries; nothing; the number; the bucket is announced, in two entries; ..]
-        move ! (5 ∷ 1 ∷ []) $ fjoin ! $
-        keep ! (6 ∷ 10 ∷ 11 ∷ 13 ∷ 14 ∷ 8 ∷ 0 ∷ []) $ unhide ! $ fsplit ! $ drop ! $ move ! (1 ∷ 2 ∷ 3 ∷ 4 ∷ 5 ∷ 0 ∷ []) $
-        enter ! 𝓣.C 𝓣.Λ fn (vptr rb ro ∷ vint w64 ix ∷ bv ∷ seen ∷ token ∷ vint w64 sn ∷ token ∷ []) Post $ alloc_all ! (λ l.
+        move ! (2 ∷ []) $ fsplit ! $ fsplit ! $ move ! (2 ∷ []) $
+        -- [the number; the bucket is announced, in two entries; ..]
+        keep ! (4 ∷ 8 ∷ 9 ∷ 11 ∷ 12 ∷ 6 ∷ 2 ∷ []) $ unhide ! $ fsplit ! $ drop ! $ move ! (1 ∷ 2 ∷ 3 ∷ 4 ∷ 5 ∷ 0 ∷ []) $
+        enter ! 𝓣.C 𝓣.Λ fn (vptr rb ro ∷ vint w64 ix ∷ bv ∷ seen ∷ token ∷ vint w64 sn ∷ []) Post $ alloc_all ! (λ l.
         pass_all ! {E = env (behind_first fn.locals) (λ j. l (suc j))} refl (
           (tt, tt),
-          ((tt, record { fits = fits_index }), (fields.block_good p, ((tt, tt), ((tt, (tt, tt)), ((tt, record { fits = fits_state }), ((tt, (tt, tt)), tt)))))),
+          ((tt, record { fits = fits_index }), (fields.block_good p, ((tt, tt), ((tt, (tt, tt)), ((tt, record { fits = fits_state }), tt))))),
         ) $
         opens ! tt G rb ro (λ ts. move ! (1 ∷ []) $ fsplit ! $
         peeks ! D (Is D) (shows 𝓛 D) (fields_of ℓ R (kept_of h)) ts (λ is_so. drop ! $
         rewrite ! 1 (λ (ws : List Val). ‵ (cell_at full_share G.mir ws rb ro)) (told ℓ R (kept_of h) ts is_so) refl $
-        move ! (5 ∷ []) $ fsplit ! $ move ! (2 ∷ 0 ∷ 1 ∷ 7 ∷ 8 ∷ 9 ∷ []) $
-        -- [what the claim owns; the token; the other tokens; the block; how many ids were held; the bucket is
-        -- announced; the claim's cell; the open borrow, in three entries]
+        move ! (5 ∷ []) $ fsplit ! $ move ! (2 ∷ 0 ∷ 1 ∷ 7 ∷ 8 ∷ 9 ∷ []) $ fsplit ! $
+        move ! (6 ∷ 1 ∷ []) $ fjoin ! $ move ! (1 ∷ 2 ∷ 3 ∷ 4 ∷ 5 ∷ 0 ∷ []) $
+        -- [what the claim owns; the token; the other tokens; the block; the page; that the bucket is announced, with the
+        -- note; the claim's cell; the open borrow, in three entries]
         use1 𝓛 (‵ (claim_owns R β h.table pl h.learnt h.state)) (id⊢ 𝓤 _) $
         fsplit ! $ drop ! $ fpick ! (λ z. fsplit ! $ fpick ! (λ of. drop ! $ fsplit ! $
         move ! (1 ∷ []) $
@@ -642,23 +648,25 @@ module _ {M : Type 1} {𝓤 : Ura M} (𝓛 : Logic 𝓤) (𝓜 : Model 𝓤 𝓛
         move ! (2 ∷ 4 ∷ 5 ∷ 1 ∷ 6 ∷ 7 ∷ 0 ∷ 8 ∷ 9 ∷ 3 ∷ []) $
         -- [the private block; the sharing lasts; the invariant; the life's token; the way back; the
         -- pass; the other tokens; how many ids were held]
-        let enough : shown_by d ≤ had.ids = shown_reached d h.id i had.ids of.3 evident.1 in
+        let next : ℕ = taken_id had.before + 1 in
+        let all : next ≤ length (held_after by_then) = taken_reached had.before in
+        let shown : shown_by d ≤ next = shown_reached d h.id i next of.3 (omega (arith, evident.1)) in
         move ! (7 ∷ []) $
-        rewrite ! 0 (λ (n : ℕ). ‵ (reached_owns n had.ids)) (evident.0 ∙ sym of.2) refl $
-        use1 𝓛 (‵ (reached_owns d.table (shown_by d))) (reached_less 𝓛 d.table had.ids (shown_by d) enough) $
+        rewrite ! 0 (λ (n : ℕ). ‵ (page_owns n by_then)) (evident.0 ∙ sym of.2) refl $
+        use1 𝓛 (‵ (reached_owns d.table (shown_by d))) (shows_reached 𝓛 d.table (shown_by d) by_then (omega (arith, all, shown))) $
         move ! (8 ∷ []) $ fsplit ! $ move ! (2 ∷ 0 ∷ 1 ∷ []) $
         rewrite ! 1 (λ (m : Announcing). ‵ (announced m says.bucket)) (told_so.0 ∙ sym of.7) refl $
         rewrite ! 1 (λ (k : ℕ). ‵ (announced d.word k)) (told_so.1 ∙ same) refl $
         fjoin ! $
-        -- [what the block shows; what is noted; the private block; the sharing lasts; the invariant; the life's token; the way back; the
+        -- [what the block shows; the note; the private block; the sharing lasts; the invariant; the life's token; the way back; the
         -- pass; the other tokens; what its claim has]
         move ! (7 ∷ 1 ∷ []) $
-        rewrite ! 1 (λ (k : Option ℕ). ‵ (noted_if k notes.id notes.value)) (noted_so.0 ∙ sym of.6) refl $
-        rewrite ! 1 (λ (k : ℕ). ‵ (noted_if d.sharing k notes.value)) (noted_so.1 ∙ of.3) refl $
-        rewrite ! 1 (λ (k : Option Gv). ‵ (noted_if d.sharing (i + first_id R d) k)) noted_so.2 refl $
+        rewrite ! 1 (λ (k : ℕ). ‵ (note_owns k h.id h.left)) (sym of.2) refl $
+        rewrite ! 1 (λ (k : ℕ). ‵ (note_owns d.table k h.left)) of.3 refl $
         rewrite ! 0 (λ (k : ℕ). ‵ (right_owns t.pass k)) of.3 refl $ fjoin ! $ move ! (2 ∷ 1 ∷ 0 ∷ []) $ group ! 3 $
         forget_but ! (Ev l) (1 ∷ 2 ∷ 3 ∷ 6 ∷ []) refl $
-        asks LR d t of v rest many s zn.0 zn.1 so wired l fits_state is_state (leads ∙ at) e slots_are blank.0 is_index close refl)))))))))))))))))))
+        let same_of : Belongs d.sharing d.table = subst (λ (k : Option ℕ). Belongs k d.table) (sym of.6) (subst (Belongs h.sharing) (sym of.2) belongs) in
+        asks LR d t of v rest many s zn.0 zn.1 so same_of wired l fits_state is_state (leads ∙ at) e slots_are blank.0 is_index close refl)))))))))))))))))))
 
 pub exchange_spec : {M : Type 1} → statement M
 exchange_spec 𝓤 𝓛 𝓜 𝓡 wired X L =
@@ -670,13 +678,10 @@ exchange_spec 𝓤 𝓛 𝓜 𝓡 wired X L =
         (
           Goes-dropped 𝓛 4 (plain (λ _. Bl 𝓛 𝓜 𝓡 X)) no (λ κs x f. refl),
           (
-            Goes-dropped 𝓛 4 (RefOf (2 ∷ []) tt (plain (λ _. Reached.the_row)) (λ _. tt)) yes (λ κs x f. refl),
+            Goes-dropped 𝓛 4 (RefOf (2 ∷ []) tt (plain (λ _. Tenure.the_row)) (λ _. tt)) yes (λ κs x f. refl),
             (
               Goes-dropped 𝓛 4 (plain (λ _. Announced.the_row)) yes (λ κs x f. refl),
-              (
-                Goes-dropped 𝓛 4 number yes (λ κs x f. refl),
-                (Goes-dropped 𝓛 4 (plain (λ _. Noted.the_row)) yes (λ κs x f. refl), tt),
-              ),
+              (Goes-dropped 𝓛 4 number yes (λ κs x f. refl), tt),
             ),
           ),
         ),
@@ -685,7 +690,7 @@ exchange_spec 𝓤 𝓛 𝓜 𝓡 wired X L =
     (#self (bounded (a_type ∷ []) (X, tt) dnil)) (fn 𝓛 𝓜 𝓡 X) (code.unfolded 𝓤 𝓛.H 𝓜 𝓡 wired (X, tt))
     (λ κs. (
       mut_vals,
-      (uint_vals w64, ((λ x. fields.block_val x.at ∷ []), (shr_vals, ((λ x. token ∷ []), (uint_vals w64, ((λ x. token ∷ []), tt)))))),
+      (uint_vals w64, ((λ x. fields.block_val x.at ∷ []), (shr_vals, ((λ x. token ∷ []), (uint_vals w64, tt))))),
     ))
     (λ κs. (
       mut_Tells (named 0) κs.0 (claim.the_row (named_lft 4 1 tt κs) (param 0 X)),
@@ -694,11 +699,8 @@ exchange_spec 𝓤 𝓛 𝓜 𝓡 wired X L =
         (
           (λ x vs so. fields.told (param 0 X) heap.the_row ghosts x.at vs so.0),
           (
-            shr_Tells (named 2) κs.1.1.0 Reached.the_row,
-            (
-              (λ x vs so. token_told (Announced.the_type).name vs so.0),
-              (uint_Tells w64, ((λ x vs so. token_told (Noted.the_type).name vs so.0), tt)),
-            ),
+            shr_Tells (named 2) κs.1.1.0 Tenure.the_row,
+            ((λ x vs so. token_told (Announced.the_type).name vs so.0), (uint_Tells w64, tt)),
           ),
         ),
       ),

@@ -117,8 +117,8 @@ find_spec 𝓤 𝓛 𝓜 𝓡 wired X L =
     -- [what the claim owns; its cell; the open borrow, in three entries; the other tokens]
     let Cell = λ (ws : List Val). ‵ (cell_at full_share G.mir ws rb ro) in
     rewrite ! 1 Cell (told ℓ R (kept_of h) ts is_so) refl $
-    move ! (5 ∷ []) $ fsplit ! $ move ! (2 ∷ 0 ∷ 1 ∷ []) $
-    -- [what the claim owns; the token; the other tokens; its cell; the open borrow]
+    move ! (5 ∷ []) $ fsplit ! $ move ! (2 ∷ []) $ fsplit ! $ move ! (1 ∷ 3 ∷ []) $ fjoin ! $ move ! (1 ∷ 2 ∷ 0 ∷ []) $
+    -- [what the claim owns; the token; the note and the other tokens; its cell; the open borrow]
     use1 𝓛 (‵ (claim_owns R β h.table pl h.learnt h.state)) (id⊢ 𝓤 _) $
     fsplit ! $ fpick ! (λ by_state. drop ! $ fpick ! (λ z. fsplit ! $ fpick ! (λ of. drop ! $ fsplit ! $
     move ! (1 ∷ []) $
@@ -180,6 +180,7 @@ find_spec 𝓤 𝓛 𝓜 𝓡 wired X L =
       index = i;
       reserved = h.reserved;
       learnt = gone;
+      left = h.left;
     } in
     sets ! (of_opd ! (unit_lit !)) refl (tt, tt) $
     let none_yet : h.state ≡ 0 = by_state ∙ still_none l₀ unseen in
@@ -188,6 +189,8 @@ find_spec 𝓤 𝓛 𝓜 𝓡 wired X L =
     move ! (4 ∷ 2 ∷ []) $ fjoin ! $ fjoin ! $ nothing ! $
     fpack ! (IsOf R h.table pl' d) (λ _. ftrue) (tt, of.1, of.2, of.3, of.4, of.5, of.6, of.7) $ fjoin ! $
     fpack ! (BucketView × Turn) (has_at R β h.table pl' gone) z $ nothing ! $ fpack ! (IsStateOf R 0 gone) (λ _. ftrue) refl $ fjoin ! $
+    -- [what the claim owns; the token; the invariant; before; the note and the other tokens; ..]
+    move ! (4 ∷ []) $ fsplit ! $ move ! (2 ∷ 0 ∷ []) $ fjoin ! $ move ! (0 ∷ 2 ∷ 3 ∷ 4 ∷ 1 ∷ []) $
     use0 𝓛 (‵ ((FieldsType ℓ R).own_val (fields_of ℓ R m) (value_of m ∷ [])))
     (made ℓ R 𝓛 m (lit< tt)) $
     fjoin ! $
@@ -294,6 +297,7 @@ find_spec 𝓤 𝓛 𝓜 𝓡 wired X L =
     fpack ! (IsOf R h.table pl' d) (λ _. ftrue) (tt, of.1, of.2, of.3, of.4, of.5, of.6, of.7) $ fjoin ! $
     fpack ! (BucketView × Turn) (has_at R β h.table pl' (found_as v')) z $ nothing ! $
     fpack ! (IsStateOf R seen (found_as v')) (λ _. ftrue) (kept_as R v' set known.0) $ fjoin ! $
+    move ! (2 ∷ []) $ fsplit ! $ move ! (2 ∷ 0 ∷ []) $ fjoin ! $ move ! (0 ∷ 2 ∷ 1 ∷ []) $
     use0 𝓛 (‵ ((FieldsType ℓ R).own_val (fields_of ℓ R m) (value_of m ∷ [])))
     (made ℓ R 𝓛 m seen_fits) $
     fjoin ! $
@@ -310,6 +314,7 @@ find_spec 𝓤 𝓛 𝓜 𝓡 wired X L =
       index = i;
       reserved = h.reserved;
       learnt = found_as v';
+      left = h.left;
     } in
     move ! (3 ∷ 0 ∷ 4 ∷ 5 ∷ 6 ∷ []) $ closes ! tt G r (value_of m ∷ []) rb ro $
     feq_i ! _ (vptr rb ro ∷ []) _ refl $ fjoin3 ! $

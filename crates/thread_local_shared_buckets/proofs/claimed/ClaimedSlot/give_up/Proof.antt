@@ -7,7 +7,8 @@ use Rattle.thread_local_base.proofs.Names.{use2, await, rewrite, no_more, return
 use Rattle.thread_local_base.proofs.Names.{free_all, look_at, env, fact, no, RattleType, owns}
 use Rattle.thread_local_base.proofs.Names.{types_at, plain, named_lft, nothing, heard, peeks, param, bounded, Stays}
 use Rattle.thread_local_base.proofs.Names.{stay_dropped, walk_of, Goes-dropped, proved, leaves, fm, Is, shows}
-use Rattle.thread_local_base.proofs.Names.{lands_as}
+use Rattle.thread_local_base.proofs.Names.{lands_as, Option}
+use base.Stored.{Gv}
 use denote.Steps.{only}
 use denote.Triple.Call.{calls_at}
 use denote.Triple.Spec.{triple_of}
@@ -41,23 +42,24 @@ give_up_spec 𝓤 𝓛 𝓜 𝓡 wired X L =
     let y : (walk_of 𝓛 En hs c).Ghost = ((κs, qs, bounds, a, (v ∷ [], tt)), gh) in
     qed 𝓛 (((‵ (flft β q) ⊛ ‵ others) ⊛ ‵ (owns (types_at En.signature.params κs) a y.0.4))
     ∷ raw ((c κs a).requires gh) ∷ []) ∵
-    split ! $ split ! $ move ! (2 ∷ []) $ fsplit ! $ fsplit ! $ keep ! (1 ∷ 3 ∷ 4 ∷ []) $
+    split ! $ split ! $ move ! (2 ∷ []) $ fsplit ! $ fsplit ! $ move ! (1 ∷ []) $ fsplit ! $ keep ! (0 ∷ 1 ∷ 4 ∷ 5 ∷ []) $
     enter ! _ _ _ _ _ $ alloc_all ! (λ l.
     pass_all ! refl (typed (kept_of h) (in_word ℓ R (kept_of h) (v ∷ []) are.0.0), tt) $
     let Ev = env fn.locals l in
-    -- [what the claim owns; the tokens]
-    move ! (0 ∷ 1 ∷ []) $
+    -- [what the claim owns; the note; the tokens]
+    move ! (0 ∷ 2 ∷ []) $
     use2 𝓛 (later (‵ (right_owns h.table h.id) ⊛ ‵ (flft β q)))
     (surrenders 𝓛 R β h.table (claim_fields h.id h.index h.bucket h.at h.sharing h.word h.reserved) 𝓡
     h.learnt h.state q) $
     await ! tt $ split ! $
-    move ! (1 ∷ 2 ∷ []) $ join ! $ move ! (1 ∷ []) $
-    let k : takes.Ghost = ((tt, tt, tt, tt, tt), (h.table, h.id)) in
+    -- [the right; the token; the note; the other tokens]
+    move ! (1 ∷ 3 ∷ []) $ join ! $ move ! (1 ∷ 2 ∷ []) $ fjoin ! $
+    let k : takes.Ghost = ((tt, tt, tt, tt, tt), (h.table, h.id, h.left)) in
     nothing ! $ nothing ! $ join ! $ join ! $ use1 𝓛 (raw (takes.pre k)) (id⊢ 𝓤 (takes.pre k)) $
     calls_at ! (fm 𝓛 𝓜 𝓡) takes
     (taker_met.met 𝓤 𝓛 𝓜 𝓡 (code.calls-thread_local_ids::rights::right::Right::take_up 𝓡.env wired)) k
     (no_more !) (λ u.
-    let Given : right.the_row.Denot → Type 0 = λ r. (r.table ≡ h.table) × (r.id ≡ h.id) in
+    let Given : right.the_row.Denot → Type 0 = λ r. (r.table ≡ h.table) × (r.id ≡ h.id) × (◌≡◌ {A = Option Gv} r.left h.left) in
     use1 𝓛 (later (some (λ (r : right.the_row.Denot).
     (‵ ftrue ⊛ ‵ (right.the_row.own_val r (u ∷ [])))
     ⊛ some (λ (_ : Unit {0}). ‵ ftrue ⊛ raw (fact 𝓤 (Given r))))))

@@ -11,11 +11,12 @@ use Rattle.thread_local_base.proofs.Names.{shr_Tells, uint_vals, uint_Tells, Sta
 use Rattle.thread_local_base.proofs.Names.{Goes-dropped, proved, leaves, fm, ◌<◌, lit<, lit, arith, dnil, lands_as}
 use Rattle.thread_local_base.proofs.Names.{usize}
 use base.Fml.{feq}
+use base.Stored.{Gv}
 use denote.Steps.{only}
 use denote.Triple.Call.{calls_at}
 use denote.Triple.Spec.{triple_of}
 use Rattle.thread_local_base.specs.Place.{id_at}
-use Rattle.thread_local_ids.specs.Rights.{right_owns}
+use Rattle.thread_local_ids.specs.Rights.{right_owns, right_with}
 use Rattle.thread_local_ids.specs.contracts.rights.right.Right as right
 use Rattle.thread_local_ids.specs.contracts.rights.right.Right.lay_down as layer
 use Rattle.thread_local_ids.proofs.Markers.{token, told as right_told}
@@ -72,11 +73,11 @@ hold_spec 𝓤 𝓛 𝓜 𝓡 wired X L =
     (and_then ! (get ! refl) (no_more !)) (λ u.
     use1 𝓛 (later (some (λ (_ : Unit {0}).
     (‵ ftrue ⊛ ‵ (feq (List Val) (u ∷ []) (vunit ∷ [])))
-    ⊛ some (λ (_ : Unit {0} × Unit {0}). ‵ (fsep ftrue ftrue) ⊛ ‵ (right_owns r.table r.id)))))
+    ⊛ some (λ (_ : Unit {0} × Unit {0}). ‵ (fsep ftrue ftrue) ⊛ ‵ (right_with r.table r.id r.left)))))
     (id⊢ 𝓤 (lays.post k u)) $
     await ! tt $ pick ! (λ _. split ! $ split ! $ drop ! $ feq_l ! (λ eu. pick ! (λ _. split ! $
     drop ! $ lands_as ! (ap only eu) refl (tt, tt) $
-    rewrite ! 0 (λ (n : ℕ). ‵ (right_owns n r.id)) same refl $
+    fsplit ! $ rewrite ! 0 (λ (n : ℕ). ‵ (right_owns n r.id)) same refl $
     sets ! (addr ! (through ! refl (stop !))) refl (tt, tt) $
     sets ! (of_opd ! (get ! refl)) refl (tt, tt) $ sets ! (agg ! (no_more !)) refl (tt, tt) $
     let m : Kept = record { at = p; state = 0 } in
@@ -85,12 +86,12 @@ hold_spec 𝓤 𝓛 𝓜 𝓡 wired X L =
     sets ! (agg ! (and_then ! (get ! refl) (and_then ! (lit ! tt) (and_then ! (get ! refl) (no_more !)))))
     refl (typed m (lit< tt)) $
     nothing ! $ fpack ! (p ≡ p) (λ _. ftrue) refl $ fjoin ! $
-    move ! (1 ∷ []) $ unhide ! $ fsplit ! $ fpick ! (λ j. drop ! $ fpick ! (λ t. fjoin ! $
+    move ! (2 ∷ []) $ unhide ! $ fsplit ! $ fpick ! (λ j. drop ! $ fpick ! (λ t. fjoin ! $
     nothing ! $
     fpack ! (IsOf R r.table pl d) (λ _. ftrue)
     (tt, j, sym same, is_id ∙ omega arith, near, refl, refl, refl) $
     fjoin ! $ fpack ! (BucketView × Turn) (has_at R κ r.table pl no) (d, t) $
-    nothing ! $ fpack ! (IsStateOf R 0 no) (λ _. ftrue) refl $ fjoin ! $
+    nothing ! $ fpack ! (IsStateOf R 0 no) (λ _. ftrue) refl $ fjoin ! $ fjoin ! $
     use0 𝓛 (‵ ((FieldsType ℓ R).own_val (fields_of ℓ R m) (value_of m ∷ [])))
     (made ℓ R 𝓛 m (lit< tt)) $
     fjoin ! $
@@ -107,8 +108,10 @@ hold_spec 𝓤 𝓛 𝓜 𝓡 wired X L =
       index = i;
       reserved = d.reserved;
       learnt = no;
+      left = r.left;
     } in
     knows ! (h.reserved ≡ d.reserved) refl $
+    knows ! (◌≡◌ {A = Option Gv} h.left r.left) refl $ join ! $
     knows ! (h.learnt ≡ Unknown) refl $
     join ! $
     use0 𝓛

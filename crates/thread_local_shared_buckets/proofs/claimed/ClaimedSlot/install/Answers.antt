@@ -1,13 +1,10 @@
 -- The search for these takes seconds.
 use Rattle.std.proofs.Common.{◌∙◌, ◌^◌, ℕ, List, Option, None, ap, sym, subst}
 use Rattle.std.specs.Prelude.{IsSome, slice_set}
-use base.Stored.{Gv}
-use denote.Param.{param}
 use Rattle.thread_local_base.specs.Learnt.{Learnt}
 use Rattle.thread_local_base.specs.Place.{bucket_of, index_of}
 use Rattle.thread_local_buckets.specs.Slots.{slot_value, empty_slots}
-use Rattle.thread_local_ids.specs.declared.rights.mark.Noted.{Noted}
-use Rattle.thread_local_ids.specs.Sharings.{left_of}
+use Rattle.thread_local_ids.specs.Sharings.{Belongs}
 use Rattle.thread_local_shared_buckets.specs.declared.claimed.ClaimedSlot.{ClaimedSlot}
 use Rattle.thread_local_shared_buckets.specs.Known.{found_as, state_of}
 use Rattle.thread_local_shared_buckets.proofs.Fills.{holding_number}
@@ -17,7 +14,6 @@ pub exchange-back-requires : goal.exchange-back-requires
 exchange-back-requires g c =
     let slots = c.args.block.slots in
     let none : Option g.row.T.Denot = None in
-    let told = c.twice-noted.ensures.0 in
     let asked = c.requires in
     record {
       missing = asked.missing;
@@ -27,17 +23,12 @@ exchange-back-requires g c =
         ◌∙◌ {A = List (Option g.row.T.Denot)} (ap (λ (i : ℕ). slice_set slots i none) (sym asked.index))
             (asked.others ∙ ap (λ (b : ℕ). empty_slots {X = g.row.T.Denot} (2 ^ b)) asked.place.0),
       );
-      reached = asked.reached;
+      tenure = asked.tenure;
       announced = (asked.announced.0, ◌∙◌ {A = ℕ} asked.announced.1 asked.place.0);
       state =
           ◌∙◌ {A = ℕ} (holding_number (slot_value slots c.args.thread.index) asked.value)
           (ap (λ (i : ℕ). state_of (found_as (slot_value slots i))) asked.index);
-      noted = (
-        ◌∙◌ {A = Option ℕ} (ap (λ (n : Noted). n.sharing) told) asked.noted.0,
-        ◌∙◌ {A = ℕ} (ap (λ (n : Noted). n.id) told) asked.noted.1,
-        ◌∙◌ {A = Option Gv} (ap (λ (n : Noted). n.value) told)
-            (asked.noted.2 ∙ ap (λ (i : ℕ). left_of (param 0 g.row.T) (slot_value slots i)) asked.index),
-      );
+      sharing = asked.sharing;
     }
 
 pub publish_second-requires : goal.publish_second-requires
@@ -46,7 +37,6 @@ publish_second-requires g c =
     let none : Option g.row.T.Denot = None in
     let same = c.exchange-back.ensures.same in
     let back = c.in-Some.ensures.back in
-    let told = c.twice-noted.ensures.1 in
     let asked = c.requires in
     let id = ap (λ (slot : ClaimedSlot g.row.T.Denot). slot.id) same in
     record {
@@ -56,13 +46,7 @@ publish_second-requires g c =
       block = (back.0 ∙ asked.block.0, back.2);
       others = ◌∙◌ {A = List (Option g.row.T.Denot)} (ap (λ (cs : List (Option g.row.T.Denot)). slice_set cs i none) back.1) asked.others;
       value = subst (λ (cs : List (Option g.row.T.Denot)). IsSome (slot_value cs i)) (sym back.1) asked.value;
-      noted = (
-        ◌∙◌ {A = Option ℕ} (ap (λ (n : Noted). n.sharing) told)
-            (asked.noted.0 ∙ sym (ap (λ (slot : ClaimedSlot g.row.T.Denot). slot.sharing) same)),
-        ◌∙◌ {A = ℕ} (ap (λ (n : Noted). n.id) told) (asked.noted.1 ∙ sym id),
-        ◌∙◌ {A = Option Gv} (ap (λ (n : Noted). n.value) told)
-            (asked.noted.2 ∙ sym (ap (λ (cs : List (Option g.row.T.Denot)). left_of (param 0 g.row.T) (slot_value cs i)) back.1)),
-      );
+      sharing = subst (λ (slot : ClaimedSlot g.row.T.Denot). Belongs slot.sharing slot.table) (sym same) asked.sharing;
     }
 
 pub returns-in-Some : goal.returns-in-Some
@@ -72,7 +56,7 @@ returns-in-Some g c =
     record {
       same =
           ◌∙◌ {A = ClaimedSlot g.row.T.Denot} c.publish_second.ensures.same
-          (ap (λ (slot : ClaimedSlot g.row.T.Denot). record slot { at = to.at; state = to.state; learnt = to.learnt })
+          (ap (λ (slot : ClaimedSlot g.row.T.Denot). record slot { at = to.at; state = to.state; learnt = to.learnt; left = to.left })
           c.exchange-back.ensures.same);
       learnt =
           ◌∙◌ {A = Learnt g.row.T.Denot} c.publish_second.ensures.learnt

@@ -1,21 +1,19 @@
 -- `notes` is a ghost step under the bucket's invariant: a claim that has found no value contradicts a
 -- note of one, and one that holds a value has its own note of it.
-use Rattle.thread_local_base.proofs.Names.{◌≡◌, ℕ, [], ◌∷◌, refl, sym, Option, dnil, a_type, named}
+use Rattle.thread_local_base.proofs.Names.{◌≡◌, ℕ, [], ◌∷◌, refl, Option, dnil, a_type, named}
 use Rattle.thread_local_base.proofs.Names.{vunit, inst_fn, Lft, Share, Fml, ftrue, fsep, flft, ‵}
 use Rattle.thread_local_base.proofs.Names.{raw, ◌⊛◌, given, later, ◌$◌, ◌∵◌, !, qed, by, move, keep, split}
 use Rattle.thread_local_base.proofs.Names.{split3, join, fsplit, fsplit3, fjoin, fjoin3, learn, await, use3}
-use Rattle.thread_local_base.proofs.Names.{rewrite, feq_i, of_opd, unit_lit, returns, enter, alloc_all, pass_all}
+use Rattle.thread_local_base.proofs.Names.{feq_i, of_opd, unit_lit, returns, enter, alloc_all, pass_all}
 use Rattle.thread_local_base.proofs.Names.{free_all, look_at, sets, fact, RattleType, owns}
 use Rattle.thread_local_base.proofs.Names.{types_at, plain, named_lft, opens, closes, nothing, heard, param}
 use Rattle.thread_local_base.proofs.Names.{bounded, mut_vals, mut_Tells, Stays}
 use Rattle.thread_local_base.proofs.Names.{stay_ref, walk_of, Goes-ref, proved, leaves}
-use Rattle.std.proofs.Common.{Bool, true}
+use Rattle.std.proofs.Common.{true}
 use base.Stored.{Gv}
 use Rattle.thread_local_base.specs.Learnt.{Learnt}
 use Rattle.thread_local_ids.specs.Rights.{note_owns}
-use Rattle.thread_local_ids.specs.FirstIds.{note_by}
 use Rattle.thread_local_ids.specs.Sharings.{is_first, left_of}
-use Rattle.thread_local_ids.specs.contracts.rights.mark.Mark as Mark
 use Rattle.thread_local_shared_buckets.specs.Known.{HasLooked, value_held}
 use Rattle.thread_local_shared_buckets.specs.Claims.{ClaimFields, claim_fields, claim_owns}
 use Rattle.thread_local_shared_buckets.proofs.Agreed as agreed
@@ -28,69 +26,46 @@ use Rattle.thread_local_base.proofs.Walking.{knows}
 pub notes_spec : {M : Type 1} → statement M
 notes_spec 𝓤 𝓛 𝓜 𝓡 wired X L =
     let R : RattleType = param 0 X in let En = ended X in let c = clauses X 𝓛 𝓜.mem 𝓡.returns in
-    let S : RattleType = Mark.the_row in let inst = bounded (a_type ∷ []) (X, tt) dnil in
+    let inst = bounded (a_type ∷ []) (X, tt) dnil in
     let fn = inst_fn inst code.function in let closed = code.unfolded 𝓤 𝓛.H 𝓜 𝓡 wired (X, tt) in
-    let row = plain (λ κs. claim.the_row (named_lft 4 1 tt κs) R) in
-    let marks = plain (λ _. S) in
-    let hs : Stays En.signature.params En.kept = (stay_ref (0 ∷ []) tt row, (stay_ref (2 ∷ []) tt marks, tt)) in
-    proved 𝓛 En hs c 𝓜 𝓡 (Goes-ref 𝓛 4 0 tt row, (Goes-ref 𝓛 4 2 tt marks, tt)) (#self inst) fn closed
-    (λ κs. (mut_vals, (mut_vals, tt)))
-    (λ κs. (mut_Tells (named 0) κs.0 (claim.the_row (named_lft 4 1 tt κs) R), (mut_Tells (named 2) κs.1.1.0 S, tt)))
+    let row = plain (λ κs. claim.the_row (named_lft 3 1 tt κs) R) in
+    let hs : Stays En.signature.params En.kept = (stay_ref (0 ∷ []) tt row, tt) in
+    proved 𝓛 En hs c 𝓜 𝓡 (Goes-ref 𝓛 3 0 tt row, tt) (#self inst) fn closed
+    (λ κs. (mut_vals, tt))
+    (λ κs. (mut_Tells (named 0) κs.0 (claim.the_row (named_lft 3 1 tt κs) R), tt))
     (λ κs qs bounds a gh are.
-    let ℓ = named_lft 4 1 tt κs in let G : RattleType = claim.the_row ℓ R in let b : ℕ = a.0.ref_ptr.0 in
+    let ℓ = named_lft 3 1 tt κs in let G : RattleType = claim.the_row ℓ R in let b : ℕ = a.0.ref_ptr.0 in
     let o : ℕ = a.0.ref_ptr.1 in let κ : Lft = κs.0 in let β : Lft = κs.1.0 in let q : Share = qs.1.0 in let h = a.0.now in
-    let b₂ : ℕ = a.1.0.ref_ptr.0 in let o₂ : ℕ = a.1.0.ref_ptr.1 in let m = a.1.0.now in let l₀ : Learnt X.Denot = h.learnt in
+    let l₀ : Learnt X.Denot = h.learnt in
     let f : ClaimFields = claim_fields h.id h.index h.bucket h.at h.sharing h.word h.reserved in
-    let others : Fml = fsep (flft κs.1.1.1.0 qs.1.1.1.0) ftrue in
-    let rest : Fml = fsep (flft κs.1.1.0 qs.1.1.0) others in
-    let y : (walk_of 𝓛 En hs c).Ghost = ((κs, qs, bounds, a, (mut_vals a.0, (mut_vals a.1.0, tt))), gh) in
-    let Of : Type 0 = (m.table ≡ h.table) × (m.id ≡ h.id) × (m.told ≡ true) in
+    let others : Fml = fsep (flft κs.1.1.0 qs.1.1.0) ftrue in
+    let y : (walk_of 𝓛 En hs c).Ghost = ((κs, qs, bounds, a, (mut_vals a.0, tt)), gh) in
     let Known : Type 0 = HasLooked l₀ in
-    let Left : Type 0 = is_first h.sharing h.table ≡ true → ◌≡◌ {A = Option Gv} m.left (left_of R (value_held l₀)) in
-    let Same : Type 0 = (h ≡ h) × (m ≡ m) in
-    qed 𝓛 (((‵ (flft κ qs.0) ⊛ ‵ (flft β q) ⊛ ‵ rest)
+    let Left : Type 0 = is_first h.sharing h.table ≡ true → ◌≡◌ {A = Option Gv} h.left (left_of R (value_held l₀)) in
+    let Same : Type 0 = h ≡ h in
+    qed 𝓛 (((‵ (flft κ qs.0) ⊛ ‵ (flft β q) ⊛ ‵ others)
     ⊛ ‵ (owns (types_at En.signature.params κs) a y.0.4))
-    ∷ raw (fact 𝓤 _) ∷ raw (fact 𝓤 Of) ∷ raw (fact 𝓤 Known) ∷ []) ∵
-    keep ! (2 ∷ 3 ∷ 0 ∷ []) $ heard ! Of (λ of. heard ! Known (λ known.
-    split ! $ split3 ! $ move ! (3 ∷ []) $ fsplit3 ! $ keep ! (0 ∷ 1 ∷ 3 ∷ 4 ∷ 5 ∷ []) $ move ! (4 ∷ []) $ fsplit ! $
-    -- [the mark's token; the others; the claim; the mark; the claim's token; the bucket's]
-    move ! (2 ∷ 4 ∷ 3 ∷ 0 ∷ 5 ∷ 1 ∷ []) $
-    enter ! _ _ _ _ _ $ alloc_all ! (λ l. pass_all ! refl ((tt, tt), ((tt, tt), tt)) $
+    ∷ raw (fact 𝓤 _) ∷ raw (fact 𝓤 Known) ∷ []) ∵
+    keep ! (2 ∷ 0 ∷ []) $ heard ! Known (λ known.
+    split ! $ split3 ! $ move ! (3 ∷ []) $ fsplit ! $ keep ! (0 ∷ 2 ∷ 3 ∷ 4 ∷ []) $
+    -- [the reference; its token; the bucket's; the others]
+    enter ! _ _ _ _ _ $ alloc_all ! (λ l. pass_all ! refl ((tt, tt), tt) $
     fsplit3 ! $ move ! (1 ∷ 2 ∷ 3 ∷ []) $ opens ! tt G b o (λ us.
-    -- [its cell; what the claim owns; the open borrow, in three entries; its first part; the mark; its token; the bucket's token;
-    -- the others]
-    move ! (6 ∷ []) $ fsplit3 ! $ move ! (1 ∷ 2 ∷ 9 ∷ []) $ opens ! tt S b₂ o₂ (λ ws.
-    -- [the mark's cell; what it owns; its open borrow, in three entries; its first part; the claim's cell; what it owns; ..]
-    move ! (1 ∷ []) $ fsplit ! $ move ! (1 ∷ []) $ fsplit ! $
-    -- [the right; the note; the mark's fields; its cell; its open borrow; its first part; the claim's cell; what it owns; its open
-    -- borrow; its first part; the bucket's token; the others]
-    move ! (9 ∷ []) $ fsplit ! $ move ! (3 ∷ []) $
-    rewrite ! 0 (λ (t : Bool). ‵ (note_by t m.table m.id m.left)) of.2 refl $
-    rewrite ! 0 (λ (k : ℕ). ‵ (note_owns k m.id m.left)) of.0 refl $
-    rewrite ! 0 (λ (k : ℕ). ‵ (note_owns h.table k m.left)) of.1 refl $
-    -- [the note; the claim's fields; what it owns; the right; ..; the bucket's token; the others]
-    move ! (2 ∷ 0 ∷ 15 ∷ []) $
-    use3 𝓛 (later (given Left (‵ (claim_owns R β h.table f l₀ h.state) ⊛ ‵ (note_owns h.table h.id m.left) ⊛ ‵ (flft β q))))
-    (agreed.notes 𝓛 R β h.table f h.state 𝓡 m.left l₀ known q) $
-    await ! tt $ learn ! (λ left. split3 ! $ move ! (1 ∷ []) $
-    rewrite ! 0 (λ (k : ℕ). ‵ (note_owns h.table k m.left)) (sym of.1) refl $
-    rewrite ! 0 (λ (k : ℕ). ‵ (note_owns k m.id m.left)) (sym of.0) refl $
-    rewrite ! 0 (λ (t : Bool). ‵ (note_by t m.table m.id m.left)) (sym of.2) refl $
-    -- [the note; what the claim owns; the bucket's token; the claim's fields; the right; the mark's fields; its cell; ..]
-    move ! (4 ∷ 0 ∷ []) $ fjoin ! $ move ! (4 ∷ 0 ∷ []) $ fjoin ! $
-    move ! (4 ∷ 0 ∷ 5 ∷ 6 ∷ 7 ∷ []) $ closes ! tt S m ws b₂ o₂ $
-    -- [two parts of the mark; its token; what the claim owns; the bucket's token; the claim's fields; the mark's first part; the
-    -- claim's cell; ..]
-    move ! (6 ∷ 0 ∷ 1 ∷ []) $ fjoin3 ! $ move ! (4 ∷ 2 ∷ []) $ fjoin ! $
-    move ! (4 ∷ 0 ∷ 5 ∷ 6 ∷ 7 ∷ []) $ closes ! tt G h us b o $
-    -- [two parts of the claim; its token; the mark; its token; the bucket's token; the claim's first part; the others]
+    -- [its cell; what it owns; the open borrow, in three entries; its first part; the bucket's token; the others]
+    move ! (1 ∷ []) $ fsplit ! $ move ! (1 ∷ []) $ fsplit ! $ move ! (0 ∷ 1 ∷ 8 ∷ []) $
+    use3 𝓛 (later (given Left (‵ (claim_owns R β h.table f l₀ h.state) ⊛ ‵ (note_owns h.table h.id h.left) ⊛ ‵ (flft β q))))
+    (agreed.notes 𝓛 R β h.table f h.state 𝓡 h.left l₀ known q) $
+    await ! tt $ learn ! (λ left. split3 ! $ fjoin ! $
+    -- [what it owns beside its fields; the bucket's token; its fields; its cell; ..]
+    move ! (2 ∷ 0 ∷ []) $ fjoin ! $ move ! (2 ∷ 0 ∷ 3 ∷ 4 ∷ 5 ∷ []) $ closes ! tt G h us b o $
+    -- [two parts of the reference; its token; the bucket's token; the first part; the others]
     sets ! (of_opd ! (unit_lit !)) refl (tt, tt) $
-    move ! (6 ∷ 0 ∷ 1 ∷ []) $ fjoin3 ! $ nothing ! $ move ! (3 ∷ 0 ∷ []) $ fjoin ! $ move ! (1 ∷ 0 ∷ []) $ fjoin ! $
-    -- [both; the claim's token; the mark's; the bucket's; the others]
-    move ! (2 ∷ 4 ∷ []) $ fjoin ! $ move ! (3 ∷ 0 ∷ []) $ join ! $ move ! (2 ∷ 0 ∷ []) $ join ! $ move ! (1 ∷ 0 ∷ []) $
+    move ! (4 ∷ 0 ∷ 1 ∷ []) $ fjoin3 ! $ nothing ! $ move ! (1 ∷ 0 ∷ []) $
+    fjoin ! $ move ! (2 ∷ 3 ∷ []) $ join ! $ move ! (2 ∷ 0 ∷ []) $ join ! $ move ! (1 ∷ 0 ∷ []) $
+    -- [the reference; the tokens]
     feq_i ! _ (vunit ∷ []) _ refl $
     knows ! Left left $
-    knows ! Same (refl, refl) $ join ! $
-    -- [the facts; the result; the references; the tokens]
+    knows ! Same refl $ join ! $
+    -- [the facts; the result; the reference; the tokens]
     returns ! (look_at ! 0 refl) $ free_all ! refl $ keep ! (3 ∷ 2 ∷ 1 ∷ 0 ∷ []) $
-    by ! (leaves 𝓛 En hs c y vunit tt (h, (m, tt)) (tt, (tt, tt))))))))))
+    by ! (leaves 𝓛 En hs c y vunit tt (h, tt) (tt, tt)))))))

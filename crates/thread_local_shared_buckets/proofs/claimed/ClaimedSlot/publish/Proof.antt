@@ -36,7 +36,7 @@ use Rattle.std.proofs.raw_atomic.PtrCalls.{seq_cst_good}
 use Rattle.std.specs.Coded.{coded_option}
 use Rattle.thread_local_base.proofs.Word.{place_below, bit_fits, shifted_left}
 use Rattle.thread_local_base.specs.Judged.{Judged}
-use Rattle.thread_local_ids.specs.Rights.{right_owns}
+use Rattle.thread_local_ids.specs.Rights.{right_owns, note_owns}
 use Rattle.thread_local_buckets.specs.Slots.{stride, value_words, word_offset, value_offset, content_at}
 use Rattle.thread_local_buckets.proofs.Flags.{in_chunks, value_near}
 use Rattle.thread_local_buckets.proofs.Slots.{IsWordNear, word_is_near}
@@ -44,11 +44,8 @@ use Rattle.thread_local_shared_buckets.specs.Shared.{name_at, BucketView, Turn, 
 use Rattle.thread_local_shared_buckets.specs.Shared.{value_code, tracked_value, pinned, age, opened, by as lent_by}
 use Rattle.thread_local_shared_buckets.specs.Shared.{bucket_invariant}
 use Rattle.thread_local_shared_buckets.proofs.Rested.{publishes}
-use Rattle.thread_local_ids.specs.Told.{tells, noted_if}
-use Rattle.thread_local_ids.specs.Sharings.{left_of}
-use Rattle.thread_local_ids.specs.contracts.rights.mark.Noted as Noted
-use Rattle.thread_local_ids.proofs.Markers.{token}
-use Rattle.thread_local_ids.proofs.Markers.{told as token_told}
+use Rattle.thread_local_ids.specs.Told.{tells}
+use Rattle.thread_local_ids.specs.Sharings.{Belongs, left_after}
 use Rattle.thread_local_base.specs.Learnt.{Learnt, Vacant, Holding}
 use Rattle.thread_local_shared_buckets.specs.Claims.{ClaimFields, flag_word_of, claim_fields, IsOf, IsStateOf, value_at, has, has_slot, has_at, claim_owns}
 use Rattle.thread_local_shared_buckets.specs.contracts.claimed.ClaimedSlot as claim
@@ -68,10 +65,10 @@ publish_spec 𝓤 𝓛 𝓜 𝓡 wired X L =
     let c = clauses X 𝓛 𝓜.mem 𝓡.returns in let LR = param_laws 0 X L in let inst = bounded (a_type ∷ []) (X, tt) dnil in
     let fn = inst_fn inst code.function in let closed = code.unfolded 𝓤 H 𝓜 𝓡 wired (X, tt) in
     let self = plain (λ κs. claim.the_row (named_lft 3 1 tt κs) R) in let number = plain (λ _. usize) in
-    let value = plain (λ _. R) in let known = plain (λ _. Noted.the_row) in
+    let value = plain (λ _. R) in
     let hs : Stays En.signature.params En.kept = (
       stay_ref (0 ∷ []) tt self,
-      (stay_dropped number yes, (stay_dropped number yes, (stay_dropped value no, (stay_dropped known yes, tt)))),
+      (stay_dropped number yes, (stay_dropped number yes, (stay_dropped value no, tt))),
     ) in
     proved_at 𝓛 En hs c 𝓜 𝓡 (
       Goes-ref 𝓛 3 0 tt self,
@@ -79,7 +76,7 @@ publish_spec 𝓤 𝓛 𝓜 𝓡 wired X L =
         Goes-dropped 𝓛 3 number yes (λ κs x f. refl),
         (
           Goes-dropped 𝓛 3 number yes (λ κs x f. refl),
-          (Goes-dropped 𝓛 3 value no (λ κs x f. refl), (Goes-dropped 𝓛 3 known yes (λ κs x f. refl), tt)),
+          (Goes-dropped 𝓛 3 value no (λ κs x f. refl), tt),
         ),
       ),
     )
@@ -101,32 +98,28 @@ publish_spec 𝓤 𝓛 𝓜 𝓡 wired X L =
     let pl : ClaimFields = claim_fields h.id i w h.at h.sharing h.word h.reserved in
     let see_index = uint_Tells w64 ix vss.1.0 are.1.0 in
     let see_number = uint_Tells w64 num vss.1.1.0 are.1.1.0 in
-    let says : Noted.the_row.Denot = a.1.1.1.1.0 in
-    let see_noted = token_told (Noted.the_type).name vss.1.1.1.1.0 are.1.1.1.1.0.0 in
-    let Says : Type 0 =
-    (◌≡◌ {A = Option ℕ} says.sharing h.sharing) × (says.id ≡ h.id) × (◌≡◌ {A = Option Gv} says.value (left_of R (Some x))) in
+    let Of : Type 0 = Belongs h.sharing h.table in
     let m : Member = record { row = R; ty = layout X } in
     let got = one (layout X) vss.1.1.1.0 ((LR.lawful 𝓛).typed x vss.1.1.1.0 are.1.1.1.0) in
     let vx : Val = got.0 in
-    let F : G.Denot → Type 0 = λ g. g ≡ record h { at = g.at; state = g.state; learnt = Holding x } in
+    let F : G.Denot → Type 0 = λ g. g ≡ record h { at = g.at; state = g.state; learnt = Holding x; left = g.left } in
     let Run : List Val → SProp 𝓤 = λ ws. WpFn 𝓤 H 𝓣.C 𝓣.Λ fn ws Post in
     qed 𝓛 (((‵ (flft κs.0 qs.0) ⊛ ‵ (fsep (flft β q) others)) ⊛ ‵ (owns (types_at En.signature.params κs) a vss))
     ∷ raw (fact 𝓤 (Incl υ X.lives)) ∷ raw (fact 𝓤 (h.learnt ≡ Vacant)) ∷ raw (fact 𝓤 (ix ≡ i))
-    ∷ raw (fact 𝓤 (num ≡ flag_word_of R h.id)) ∷ raw (fact 𝓤 Says) ∷ []) ∵
+    ∷ raw (fact 𝓤 (num ≡ flag_word_of R h.id)) ∷ raw (fact 𝓤 Of) ∷ []) ∵
     move ! (1 ∷ 2 ∷ 3 ∷ 4 ∷ 5 ∷ []) $ heard ! (Incl υ X.lives) (λ alive.
     heard ! (h.learnt ≡ Vacant) (λ empty. heard ! (ix ≡ i) (λ is_index.
-    heard ! (num ≡ flag_word_of R h.id) (λ numbered. heard ! Says (λ noted_so. split ! $ split ! $ move ! (2 ∷ []) $
+    heard ! (num ≡ flag_word_of R h.id) (λ numbered. heard ! Of (λ belongs. split ! $ split ! $ move ! (2 ∷ []) $
     fsplit3 ! $ fsplit3 ! $
-    move ! (4 ∷ []) $ fsplit3 ! $ move ! (2 ∷ []) $ fsplit ! $ fsplit ! $
-    keep ! (6 ∷ 7 ∷ 9 ∷ 4 ∷ 10 ∷ 1 ∷ []) $
+    move ! (4 ∷ []) $ fsplit3 ! $ keep ! (4 ∷ 5 ∷ 7 ∷ 1 ∷ 8 ∷ []) $
     rewrite ! 3 (λ (ws : List Val). ‵ (R.own_val x ws)) got.1 refl $
-    let us : List Val = vptr rb ro ∷ vint w64 ix ∷ vint w64 num ∷ vx ∷ token ∷ [] in
+    let us : List Val = vptr rb ro ∷ vint w64 ix ∷ vint w64 num ∷ vx ∷ [] in
     suffices ! (Run us) (subst (λ (ws : List Val). ent 𝓤 (Run us) (Run ws))
-    (sym (λ j. are.0.0 j ++ (see_index j ++ (see_number j ++ (got.1 j ++ (see_noted j ++ [])))))) (id⊢ 𝓤 (Run us))) $
+    (sym (λ j. are.0.0 j ++ (see_index j ++ (see_number j ++ (got.1 j ++ []))))) (id⊢ 𝓤 (Run us))) $
     enter ! 𝓣.C 𝓣.Λ fn us Post $ alloc_all ! (λ l.
     pass_all ! refl (
       (tt, tt),
-      ((tt, record { fits = are.1.0.1 }), ((tt, record { fits = are.1.1.0.1 }), (got.2, ((tt, (tt, tt)), tt)))),
+      ((tt, record { fits = are.1.0.1 }), ((tt, record { fits = are.1.1.0.1 }), (got.2, tt))),
     ) $
     let Ev = env fn.locals l in
     opens ! tt G rb ro (λ ts. move ! (1 ∷ []) $ fsplit ! $
@@ -135,7 +128,8 @@ publish_spec 𝓤 𝓛 𝓜 𝓡 wired X L =
     let Cell = λ (ws : List Val). ‵ (cell_at full_share G.mir ws rb ro) in
     rewrite ! 1 Cell (told ℓ R (kept_of h) ts is_so) refl $
     move ! (6 ∷ []) $ fsplit ! $ move ! (2 ∷ 7 ∷ 0 ∷ 1 ∷ []) $
-    -- [what the claim owns; the value; the token; the other tokens; its cell; the open borrow]
+    fsplit ! $ move ! (0 ∷ 2 ∷ 3 ∷ 4 ∷ 5 ∷ 6 ∷ 7 ∷ 8 ∷ []) $
+    -- [what the claim owns; the value; the token; the other tokens; its cell; the open borrow, in three entries; the note]
     use1 𝓛 (‵ (claim_owns R β h.table pl h.learnt h.state)) (id⊢ 𝓤 _) $
     fsplit ! $ drop ! $ fpick ! (λ z. fsplit ! $ fpick ! (λ of. drop ! $
     fsplit ! $ move ! (1 ∷ []) $
@@ -243,11 +237,8 @@ publish_spec 𝓤 𝓛 𝓜 𝓡 wired X L =
     -- which block it is; vacant; what is kept]
     move ! (8 ∷ 4 ∷ 2 ∷ []) $ fjoin3 ! $
     -- [what is offered; the other tokens; the token; for the claim; what is known; the row; which block it is; what is kept; its
-    -- cell; the open borrow, in three entries; what is noted]
-    move ! (12 ∷ []) $
-    rewrite ! 0 (λ (k : Option ℕ). ‵ (noted_if k says.id says.value)) (noted_so.0 ∙ sym of.6) refl $
-    rewrite ! 0 (λ (k : ℕ). ‵ (noted_if d.sharing k says.value)) noted_so.1 refl $
-    rewrite ! 0 (λ (k : Option Gv). ‵ (noted_if d.sharing h.id k)) noted_so.2 refl $
+    -- cell; the open borrow, in three entries; the note]
+    move ! (12 ∷ []) $ rewrite ! 0 (λ (n : ℕ). ‵ (note_owns n h.id h.left)) (sym of.2) refl $
     move ! (1 ∷ 0 ∷ []) $ fjoin ! $ move ! (7 ∷ []) $ fsplit ! $
     use1 𝓛 (‵ (before β t.life) ⊛ ‵ (before β t.life)) (before_dup 𝓛 β t.life) $ split ! $
     move ! (2 ∷ []) $ use1 𝓛 (‵ (finv J) ⊛ ‵ (finv J)) (𝓛.invs.inv_dup J) $ split ! $
@@ -257,7 +248,10 @@ publish_spec 𝓤 𝓛 𝓜 𝓡 wired X L =
     move ! (2 ∷ 5 ∷ []) $
     lends_token ! 𝓜 𝓡 β t.life q $ await ! tt $ pick ! (λ g'. split ! $
     let low = subst (λ (n : ℕ). i < n) (sym sized.0) of.4 in
-    let out : Fml = fsep (flft t.life g') (fsep (right_owns t.filled h.id) (tells R d.sharing h.id (Some x))) in
+    let same_of : Belongs d.sharing d.table = subst (λ (k : Option ℕ). Belongs k d.table) (sym of.6) (subst (Belongs h.sharing) (sym of.2) belongs) in
+    let says : Option Gv = left_after R d.sharing d.table h.left new in
+    let out : Fml = fsep (flft t.life g')
+    (fsep (right_owns t.filled h.id) (fsep (tells R d.sharing h.id (Some x)) (note_owns d.table h.id says))) in
     let flag : ℕ = steps.flag 𝓛 R (placed d t wb (wo + 0) s i h.id e pb low of.3 refl refl) in
     let flag_fits : flag < 2 ^ 64 = shifted_left 1 j in
     let after_it : ℕ → Fml = λ _. out in
@@ -269,7 +263,7 @@ publish_spec 𝓤 𝓛 𝓜 𝓡 wired X L =
     sets ! (bin ! (lit ! tt) (get ! refl) (place_below i)) refl (tt, record { fits = flag_fits }) $
     sets ! (agg ! (and_then ! (lit ! tt) (no_more !))) refl seq_cst_good $ move ! (3 ∷ 0 ∷ 9 ∷ 4 ∷ []) $ group ! 4 $
     use1 𝓛 (raw (𝓣.C _ (vptr pb at_word ∷ vint w64 flag ∷ seq_cst ∷ []) (λ v. mean 𝓛 (found after_it v))))
-    (via 𝓤 _ (steps.publishes 𝓛 R (placed d t wb (wo + 0) s i h.id e pb low of.3 refl refl) g' x)
+    (via 𝓤 _ (steps.publishes 𝓛 R (placed d t wb (wo + 0) s i h.id e pb low of.3 refl refl) g' h.left same_of x)
     (adds 𝓛 𝓜 𝓡 (code.calls-std::sync::atomic::raw::fetch_add 𝓡.env wired) (block_ptr pb at_word)
     flag flag_fits after_it)) $
     Calls-last ! (fm 𝓛 𝓜 𝓡) (found after_it)
@@ -288,7 +282,8 @@ publish_spec 𝓤 𝓛 𝓜 𝓡 wired X L =
     (store_in ! 7 (sub ! 1 refl (whole !)) (tt, record { fits = lit< tt })) $
     sets ! (of_opd ! (unit_lit !)) refl (tt, tt) $
     rewrite ! 7 (λ (u : Ptr). Cell (value_of (record { at = u; state = 2 }) ∷ [])) leads refl $
-    move ! (1 ∷ []) $ fsplit ! $ move ! (6 ∷ 1 ∷ []) $ fjoin ! $ move ! (1 ∷ 0 ∷ 5 ∷ []) $
+    move ! (1 ∷ []) $ fsplit3 ! $ move ! (0 ∷ 1 ∷ 3 ∷ 4 ∷ 5 ∷ 6 ∷ 7 ∷ 8 ∷ 9 ∷ 10 ∷ 11 ∷ 12 ∷ []) $
+    move ! (6 ∷ 1 ∷ []) $ fjoin ! $ move ! (1 ∷ 0 ∷ 5 ∷ []) $
     fjoin3 ! $ move ! (4 ∷ 0 ∷ []) $ fjoin ! $ nothing ! $
     fpack ! (slot_at ≡ value_at R s.at i) (λ _. ftrue) refl $ fjoin ! $
     fpack ! StandingBlock (has_slot R d t β pl' new) s $ move ! (2 ∷ 0 ∷ []) $ fjoin ! $
@@ -296,6 +291,7 @@ publish_spec 𝓤 𝓛 𝓜 𝓡 wired X L =
     fpack ! (IsOf R h.table pl' d) (λ _. ftrue) (of.0, of.1, of.2, of.3, of.4, of.5, of.6, of.7) $
     fjoin ! $ fpack ! (BucketView × Turn) (has_at R β h.table pl' (Holding x)) z $ nothing ! $
     fpack ! (IsStateOf R 2 (Holding x)) (λ _. ftrue) refl $ fjoin ! $
+    move ! (7 ∷ []) $ rewrite ! 0 (λ (n : ℕ). ‵ (note_owns n h.id says)) of.2 refl $ move ! (1 ∷ 0 ∷ []) $ fjoin ! $
     use0 𝓛 (‵ ((FieldsType ℓ R).own_val (fields_of ℓ R k) (value_of k ∷ [])))
     (made ℓ R 𝓛 k (lit< tt)) $
     fjoin ! $
@@ -312,14 +308,15 @@ publish_spec 𝓤 𝓛 𝓜 𝓡 wired X L =
       index = i;
       reserved = h.reserved;
       learnt = Holding x;
+      left = says;
     } in
     move ! (3 ∷ 0 ∷ 4 ∷ 5 ∷ 6 ∷ []) $ closes ! tt G made_claim (value_of k ∷ []) rb ro $
     feq_i ! (List Val) vss.0 (vptr rb ro ∷ []) are.0.0 $ fjoin3 ! $
-    nothing ! $ nothing ! $ fjoin ! $ nothing ! $ fjoin ! $ nothing ! $ fjoin ! $ nothing ! $ fjoin ! $ move ! (1 ∷ 0 ∷ []) $ fjoin ! $
+    nothing ! $ nothing ! $ fjoin ! $ nothing ! $ fjoin ! $ nothing ! $ fjoin ! $ move ! (1 ∷ 0 ∷ []) $ fjoin ! $
     -- [what is left of the parameters; the reference's token; the token; the other tokens]
     move ! (2 ∷ 3 ∷ []) $ fjoin ! $ move ! (2 ∷ 0 ∷ []) $ join ! $
     knows ! (F made_claim) refl $
     feq_i ! _ (vunit ∷ []) _ refl $
     returns ! (look_at ! 0 refl) $ free_all ! refl $ keep ! (2 ∷ 3 ∷ 0 ∷ 1 ∷ []) $
-    by ! (leaves 𝓛 En hs c y vunit tt (made_claim, (tt, (tt, (tt, (tt, tt)))))
-    (tt, (tt, (tt, (tt, (tt, tt))))))))))))))))))))))))))
+    by ! (leaves 𝓛 En hs c y vunit tt (made_claim, (tt, (tt, (tt, tt))))
+    (tt, (tt, (tt, (tt, tt)))))))))))))))))))))))))

@@ -1,9 +1,7 @@
 -- The search for these takes seconds.
 use Rattle.std.proofs.Common.{◌∙◌, Option, ap, sym, refl}
-use base.Stored.{Gv}
 use denote.Param.{param}
 use Rattle.thread_local_base.specs.Learnt.{Learnt}
-use Rattle.thread_local_ids.specs.Sharings.{left_of}
 use Rattle.thread_local_shared_buckets.specs.declared.claimed.ClaimedSlot.{ClaimedSlot}
 use Rattle.thread_local_shared_buckets.specs.Known.{found_as}
 use Rattle.thread_local_shared_buckets.proofs.IdLaws.{word_there}
@@ -13,24 +11,19 @@ pub publish-requires : goal.publish-requires
 publish-requires g c =
     let asked = c.requires in
     let id = c.args.self.now.id in
-    let value = c.emptied-value.ensures.value in
     record {
       vacant = asked.vacant;
       index = asked.index;
       flag_word =
           word_there (param 0 g.row.T) c.flag_word_of.result id id c.args.thread.bucket c.args.thread.index c.flag_word_of.ensures refl
           asked.place.0 asked.place.1;
-      noted = (
-        asked.noted.0,
-        asked.noted.1,
-        ◌∙◌ {A = Option Gv} asked.noted.2 (ap (λ (v : Option g.row.T.Denot). left_of (param 0 g.row.T) v) value),
-      );
+      sharing = asked.sharing;
     }
 
 pub returns : goal.returns
 returns g c =
     let to = c.publish.new.self in
-    let on = λ (l : Learnt g.row.T.Denot). record c.args.self.now { at = to.at; state = to.state; learnt = l } in
+    let on = λ (l : Learnt g.row.T.Denot). record c.args.self.now { at = to.at; state = to.state; learnt = l; left = to.left } in
     let learnt = ap (λ (slot : ClaimedSlot g.row.T.Denot). slot.learnt) c.publish.ensures in
     record {
       same = ◌∙◌ {A = ClaimedSlot g.row.T.Denot} c.publish.ensures (ap on (sym learnt));

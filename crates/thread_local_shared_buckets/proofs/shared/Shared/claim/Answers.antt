@@ -7,7 +7,6 @@ use Rattle.thread_local_base.specs.Learnt.{Learnt, Finds}
 use Rattle.thread_local_base.specs.Place.{bucket_of, index_of, id_at}
 use Rattle.thread_local_base.proofs.PlaceLaws.{id_at-place}
 use Rattle.thread_local_ids.specs.Sharings.{Belongs, is_first, left_of}
-use Rattle.thread_local_ids.specs.declared.rights.mark.Mark.{Mark}
 use Rattle.thread_local_shared_buckets.specs.declared.claimed.ClaimedSlot.{ClaimedSlot}
 use Rattle.thread_local_shared_buckets.specs.Known.{HasLooked, MayLook, value_held}
 use Rattle.thread_local_shared_buckets.specs.Shared.{BucketView}
@@ -40,8 +39,8 @@ hold-slot-requires g c =
     let thread = c.new-thread.result in
     let bucket = ap (λ (d : BucketView). d.bucket) here in
     record {
-      table = c.requires.table.0 ∙ sym (ap (λ (d : BucketView). d.table) here);
-      id = id_there c.args.right.id c.args.held.id _ thread.bucket thread.index c.requires.id bucket c.new-thread.ensures.bucket
+      table = c.args.held.one_table ∙ c.requires.table ∙ sym (ap (λ (d : BucketView). d.table) here);
+      id = id_there c.args.held.right.id c.args.held.id _ thread.bucket thread.index c.args.held.one_id bucket c.new-thread.ensures.bucket
           c.new-thread.ensures.index;
       within = subst (λ (b : ℕ). thread.index < 2 ^ b) (sym bucket) thread.in_bucket;
     }
@@ -54,7 +53,7 @@ find-requires g c =
       index = sym c.hold-slot.ensures.same_slot.4;
       flag_word =
           word_there (param 0 g.row.T) c.flag_word_of.result c.hold-slot.result.id c.args.held.id thread.bucket thread.index
-          c.flag_word_of.ensures (c.hold-slot.ensures.same_slot.3 ∙ c.requires.id) c.new-thread.ensures.bucket c.new-thread.ensures.index;
+          c.flag_word_of.ensures (c.hold-slot.ensures.same_slot.3 ∙ c.args.held.one_id) c.new-thread.ensures.bucket c.new-thread.ensures.index;
     }
 
 pub returns : goal.returns
@@ -63,12 +62,12 @@ returns g c =
     let now = c.args.self.now in
     let here = at_place g (goal.at.returns g c).After-index-pointers-thread in
     let slot = c.hold-slot.ensures.same_slot in
-    let table = ap (λ (s : Slot). s.table) c.find.ensures.same ∙ slot.0 ∙ c.requires.table.0 in
+    let table = ap (λ (s : Slot). s.table) c.find.ensures.same ∙ slot.0 ∙ c.args.held.one_table ∙ c.requires.table in
     let sharing = ap (λ (s : Slot). s.sharing) c.find.ensures.same ∙ slot.1 ∙ ap (λ (d : BucketView). d.sharing) here in
     let found = c.find.ensures in
-    let same = c.notes.ensures.same.0 in
+    let same = c.notes.ensures.same in
     record {
-      same_slot = (ap (λ (s : Slot). s.table) same ∙ table, ap (λ (s : Slot). s.sharing) same ∙ sharing, refl);
+      same_slot = (ap (λ (s : Slot). s.table) same ∙ table, ap (λ (s : Slot). s.sharing) same ∙ sharing, refl, refl);
       found = subst (λ (l : Learnt _). Finds l c.notes.new.self.learnt) c.hold-slot.ensures.unknown
           (subst (λ (s : Slot). Finds c.hold-slot.result.learnt s.learnt) (sym same) found.found);
       learnt = subst (λ (s : Slot). HasLooked s.learnt) (sym same) found.looked;
@@ -79,7 +78,8 @@ returns g c =
           ∙ lt-ltb (id_at (bucket_of c.args.held.id) 0) now.reserved below)
           (ap (λ (s : Slot). s.learnt) (sym same) ∙ none);
       left = λ first.
-          c.notes.ensures.left ((λ i. is_first (sharing i) (table i)) ∙ first)
+          sym (ap (λ (s : Slot). s.left) found.same ∙ c.hold-slot.ensures.left)
+          ∙ c.notes.ensures.left ((λ i. is_first (sharing i) (table i)) ∙ first)
           ∙ ap (λ (s : Slot). left_of (param 0 g.row.T) (value_held s.learnt)) (sym same);
     }
 
@@ -88,19 +88,17 @@ invariant_of-result g c =
     let Slot : Type 0 = ClaimedSlot g.row.T.Denot in
     let here = at_place g (goal.at.invariant_of-result g c).After-index-pointers-thread in
     let slot = c.hold-slot.ensures.same_slot in
-    let looked = c.notes.ensures.same.0 in
+    let looked = c.notes.ensures.same in
     let same = looked ∙ c.find.ensures.same in
-    let mark = c.notes.ensures.same.1 in
-    let table = ap (λ (s : Slot). s.table) same ∙ slot.0 ∙ c.requires.table.0 in
+    let table = ap (λ (s : Slot). s.table) same ∙ slot.0 ∙ c.args.held.one_table ∙ c.requires.table in
     let sharing = ap (λ (s : Slot). s.sharing) same ∙ slot.1 ∙ ap (λ (d : BucketView). d.sharing) here in (
-      ap (λ (s : Slot). s.id) same ∙ slot.3 ∙ c.requires.id,
+      ap (λ (s : Slot). s.id) same ∙ slot.3 ∙ c.args.held.one_id,
       ap (λ (s : Slot). s.index) same ∙ slot.4 ∙ c.new-thread.ensures.index,
+      c.args.held.in_range,
       subst (λ (s : Slot). HasLooked s.learnt) (sym looked) c.find.ensures.looked,
-      ap (λ (m : Mark). m.table) mark ∙ c.requires.table.1 ∙ sym table,
-      ap (λ (m : Mark). m.told) mark ∙ c.requires.told,
       subst (λ (s : Option ℕ × ℕ). Belongs s.0 s.1) (λ i. (sym sharing i, sym table i)) c.requires.sharing,
       ap (λ (s : Slot). s.word) same ∙ slot.2 ∙ ap (λ (d : BucketView). d.word) here,
       c.behind-self.invariant.1,
-      c.requires.reached.0 ∙ sym table,
-      c.requires.reached.1,
+      c.requires.table ∙ sym table,
+      c.args.held.least,
     )

@@ -1,11 +1,14 @@
 use Rattle.std.proofs.Common.{◌≡◌, ◌≤◌, ◌<◌, ◌^◌, ◌+◌, arith, lit<, ◌-◌, ◌*◌, ℕ, Bool, List, Option, true, false, refl, sym, ap, ◌∙◌, subst, bit_and, ⊎_elim}
-use Rattle.std.specs.Prelude.{max, nat_lt, All}
+use Rattle.std.specs.Prelude.{max, nat_lt, length, All}
 use Rattle.std.specs.Int.{w64, bit_not}
 use Rattle.std.proofs.Math.Nat.{le-max_left}
 use Rattle.std.proofs.lemmas.Bool.{cases_Bool}
 use Rattle.thread_local_base.specs.Bits.{is_set}
 use Rattle.thread_local_base.specs.Place.{id_at, bucket_of}
 use Rattle.thread_local_base.proofs.PlaceLaws.{bucket_of-below}
+use mathlib.Core.List.{IsPrefix}
+use Rattle.thread_local_base.specs.IdMoves.{held_after}
+use Rattle.thread_local_ids.proofs.Logs.{O}
 use Rattle.thread_local_ids.specs.TokenLists.{NoneIn}
 use Rattle.thread_local_ids.specs.Views.{TokenView}
 use Rattle.thread_local_shared_buckets.specs.Shared.{ids_shown}
@@ -51,10 +54,11 @@ buckets-init g c =
           subst (λ (n : ℕ). Counted (IsTold sharing tokens) n (bit_and word (bit_not w64 slots)) slots) c.reserved-slots.ensures.reserved
           (begins (IsTold sharing tokens) slots word c.reserved-slots.ensures.first c.load_announced-announced.ensures.none_past
           (are_announced sharing tokens word (low c.told.view_is c.told.invariant) none));
-      table = c.none_reached-reached.ensures.0 ∙ c.bucket.ensures.table;
+      table = c.again-seen.ensures.page.0 ∙ c.requires;
+      early = subst (IsPrefix c.args.page.now.moves) (sym c.again-seen.ensures.page.1) (O.same c.args.page.now.moves);
       grown = λ _.
-          subst (λ (n : ℕ). n ≤ max reserved (2 * c.none_reached-reached.result.ids - 1)) (sym c.reserved-slots.ensures.reserved)
-          (le-max_left reserved (2 * c.none_reached-reached.result.ids - 1));
+          subst (λ (n : ℕ). n ≤ max reserved (2 * length (held_after c.again-seen.result.moves) - 1)) (sym c.reserved-slots.ensures.reserved)
+          (le-max_left reserved (2 * length (held_after c.again-seen.result.moves) - 1));
     }
 
 pub buckets-preserved-in-Some : goal.buckets-preserved-in-Some
@@ -63,18 +67,20 @@ buckets-preserved-in-Some g c =
     let sharing : Option ℕ = c.args.self.now.sharing in
     let tokens : List (TokenView _) = c.args.told.now in
     let first = c.take_first_bucket-bucket in
-    let at = c.bucket-in-buckets.ensures in record {
+    let at = c.bucket.ensures in record {
       counted =
           more (IsTold sharing tokens) (in_table sharing tokens (low c.told.view_is c.told.invariant)) reserved c.buckets.left first.new.left
           c.buckets.slots first.result.0 c.buckets.invariant.counted first.ensures.first first.ensures.rest first.result.1
           first.ensures.size;
-      table = c.in-Some.ensures.shown.0 ∙ at.table;
+      table = c.in-Some.ensures.table ∙ at.table;
+      early = O.trans c.args.page.now.moves c.buckets.seen.moves c.in-Some.later.moves c.buckets.invariant.early c.in-Some.ensures.early;
       grown = λ grown.
           allowed (IsTold sharing tokens) (in_table sharing tokens (low c.told.view_is c.told.invariant)) reserved c.buckets.left first.new.left
           c.buckets.slots first.result.0 c.buckets.invariant.counted first.ensures.first first.ensures.rest first.result.1
-          c.in-Some.shown.ids first.ensures.size
-          (c.in-Some.ensures.shown.1 ∙ (λ j. ids_shown (at.grown j) (at.reserved j) (at.number j))
-          ∙ ap (λ (t : Bool). ids_shown t (nat_lt (id_at first.result.0 0) reserved) first.result.0) grown);
+          (length (held_after c.in-Some.later.moves)) first.ensures.size
+          (subst (λ (n : ℕ). n ≤ length (held_after c.in-Some.later.moves))
+          ((λ j. ids_shown (at.grown j) (at.reserved j) (at.number j))
+          ∙ ap (λ (t : Bool). ids_shown t (nat_lt (id_at first.result.0 0) reserved) first.result.0) grown) c.in-Some.ensures.shown);
     }
 
 pub buckets-preserved : goal.buckets-preserved
@@ -82,7 +88,7 @@ buckets-preserved g c =
     let sharing : Option ℕ = c.args.self.now.sharing in
     let tokens : List (TokenView _) = c.args.told.now in
     let first = c.take_first_bucket-bucket in
-    let at = c.bucket-in-buckets in
+    let at = c.bucket in
     let none : NoneIn sharing first.result.0 tokens =
     subst (λ (s : Option ℕ). NoneIn s first.result.0 tokens) at.ensures.sharing
     (subst (λ (b : ℕ). NoneIn at.result.now.sharing b tokens) at.ensures.number
@@ -92,6 +98,7 @@ buckets-preserved g c =
           first.new.left c.buckets.slots first.result.0 c.buckets.invariant.counted first.ensures.first first.ensures.rest
           (λ id told. no_token sharing tokens first.result.0 id none told);
       table = c.buckets.invariant.table;
+      early = c.buckets.invariant.early;
       grown = c.buckets.invariant.grown;
     }
 
@@ -121,6 +128,9 @@ returns-clause-most g c = counted_below c.buckets.invariant.counted
 pub returns-clause-table : goal.returns-clause-table
 returns-clause-table g c = c.buckets.invariant.table
 
+pub returns-clause-early : goal.returns-clause-early
+returns-clause-early g c = c.buckets.invariant.early
+
 pub returns-clause-grown : goal.returns-clause-grown
 returns-clause-grown g c = c.buckets.invariant.grown
 
@@ -145,7 +155,7 @@ load_announced-announced-requires g c =
 pub take_first_bucket-bucket-requires : goal.take_first_bucket-bucket-requires
 take_first_bucket-bucket-requires g c = omega (arith, c.buckets-test.true)
 
-pub bucket-requires-in-buckets : goal.bucket-requires-in-buckets
-bucket-requires-in-buckets g c =
+pub bucket-requires : goal.bucket-requires
+bucket-requires g c =
     let lowest = c.take_first_bucket-bucket.ensures.first in
     (lit< tt, (c.buckets.invariant.counted.ahead.inside c.take_first_bucket-bucket.result.0 lowest.within lowest.set).1)

@@ -1,10 +1,10 @@
--- `reached` is one load of the pointer, which copies what the block shows, or shows that no token is
--- of a slot of the bucket.
+-- `reached` is one load of the pointer, which takes the page that the block shows, or shows that no token
+-- is of a slot of the bucket.
 use Rattle.thread_local_base.proofs.Names.{◌≡◌, ℕ, ◌+◌, [], ◌∷◌, refl, sym, ◌∙◌, lit<, true, false, Option, None}
 use Rattle.thread_local_base.proofs.Names.{Some, a_type, named, Val, vptr, vcons, vnil, inst_fn, SProp}
 use Rattle.thread_local_base.proofs.Names.{via, sem, Lft, Share, Fml, ftrue, fsep, flft, fbor, ‵, raw, ◌⊛◌}
 use Rattle.thread_local_base.proofs.Names.{mean, at_ret, ◌$◌, ◌∵◌, !, qed, by, move, keep, drop, split}
-use Rattle.thread_local_base.proofs.Names.{join, fsplit, fsplit3, fjoin, fpick, pick, use0, use1, use3}
+use Rattle.thread_local_base.proofs.Names.{join, fsplit, fsplit3, fjoin, fpick, fpack, pick, some, given, learn, heard, fact, rewrite, use0, use1, use2, use3}
 use Rattle.thread_local_base.proofs.Names.{await, stop, fld, addr, lit, of_opd, bin, no_more, and_then, first, blocks}
 use Rattle.thread_local_base.proofs.Names.{exec, branches, returns, enter, alloc_all, pass_all, free_all, look_at}
 use Rattle.thread_local_base.proofs.Names.{get, through, sets, sets_last, lands_last, env, agg, live, tables}
@@ -12,13 +12,17 @@ use Rattle.thread_local_base.proofs.Names.{yes, RattleType, owns, types_at, plai
 use Rattle.thread_local_base.proofs.Names.{nothing, param, layouts, RefOf, u64, shr_vals, shr_Tells, Stays}
 use Rattle.thread_local_base.proofs.Names.{stay_dropped, walk_of, Goes-dropped, proved, leaves, fm, after}
 use Rattle.std.proofs.lemmas.Option.{none-some}
-use Rattle.std.proofs.Common.{IfSome, IsSome, List, arith}
+use Rattle.std.proofs.Common.{◌≤◌, IfSome, IsSome, List, length, arith}
 use Rattle.thread_local_ids.specs.Views.{TokenView}
 use Rattle.thread_local_ids.specs.TokenLists.{NoneIn, tell_each}
 use Rattle.thread_local_ids.specs.contracts.tokens.told_list.Told as Told
 use Rattle.thread_local_ids.proofs.TokenListLaws.{told_shown}
 use Rattle.thread_local_base.specs.Fact.{fact as said_fact}
-use Rattle.thread_local_ids.specs.contracts.rights.reached.Reached as Reached
+use mathlib.Core.List.{IsPrefix}
+use Rattle.thread_local_base.specs.IdMoves.{IdMove, held_after}
+use Rattle.thread_local_ids.specs.Rights.{page_owns, page_with}
+use Rattle.thread_local_ids.specs.contracts.rights.page.Page as Page
+use Rattle.thread_local_ids.proofs.ReachedElements.{reached_page}
 use Rattle.thread_local_ids.proofs.Markers.{token, Mark, made}
 use types.Run.{Calls-last}
 use denote.RawPtr.{tests_null}
@@ -44,34 +48,47 @@ reached_spec 𝓤 𝓛 𝓜 𝓡 wired T L =
     let c = clauses T 𝓛 𝓜.mem 𝓡.returns in
     let inst = layouts (a_type ∷ []) (T, tt) in let fn = inst_fn inst code.function in let W : RattleType = one_bucket.the_row R in
     let self = RefOf (0 ∷ []) tt (plain (λ _. W)) (λ _. tt) in
-    let tolds = RefOf (1 ∷ []) tt (plain (λ _. Told.the_row R)) (λ _. tt) in
-    let hs : Stays En.signature.params En.kept = (stay_dropped self yes, (stay_dropped tolds yes, tt)) in
-    proved 𝓛 En hs c 𝓜 𝓡
-    (Goes-dropped 𝓛 3 self yes (λ κs x f. refl), (Goes-dropped 𝓛 3 tolds yes (λ κs x f. refl), tt)) (#self inst) fn
-    (code.unfolded 𝓤 H 𝓜 𝓡 wired (T, tt)) (λ κs. (shr_vals, (shr_vals, tt)))
-    (λ κs. (shr_Tells (named 0) κs.0 W, (shr_Tells (named 1) κs.1.0 (Told.the_row R), tt))) (λ κs qs bounds a gh are.
+    let pages = RefOf (1 ∷ []) tt (plain (λ _. Page.the_row)) (λ _. tt) in
+    let tolds = RefOf (2 ∷ []) tt (plain (λ _. Told.the_row R)) (λ _. tt) in
+    let hs : Stays En.signature.params En.kept = (stay_dropped self yes, (stay_dropped pages yes, (stay_dropped tolds yes, tt))) in
+    proved 𝓛 En hs c 𝓜 𝓡 (
+      Goes-dropped 𝓛 4 self yes (λ κs x f. refl),
+      (Goes-dropped 𝓛 4 pages yes (λ κs x f. refl), (Goes-dropped 𝓛 4 tolds yes (λ κs x f. refl), tt)),
+    ) (#self inst) fn
+    (code.unfolded 𝓤 H 𝓜 𝓡 wired (T, tt)) (λ κs. (shr_vals, (shr_vals, (shr_vals, tt))))
+    (λ κs. (
+      shr_Tells (named 0) κs.0 W,
+      (shr_Tells (named 1) κs.1.0 Page.the_row, (shr_Tells (named 2) κs.1.1.0 (Told.the_row R), tt)),
+    )) (λ κs qs bounds a gh are.
     let b : ℕ = a.0.ref_ptr.0 in let o : ℕ = a.0.ref_ptr.1 in let κ : Lft = κs.0 in let q : Share = qs.0 in
-    let d : BucketView = a.0.now in let others : Fml = fsep (flft κs.1.0 qs.1.0) (fsep (flft κs.1.1.0 qs.1.1.0) ftrue) in
-    let ts : List (TokenView R.Denot) = a.1.0.now in
-    let pt : Val = vptr a.1.0.ref_ptr.0 a.1.0.ref_ptr.1 in
-    let G : RattleType = Reached.the_row in
-    let Of : Option G.Denot → Type 0 = λ r. IfSome r (λ reached. (reached.table ≡ d.table) × (reached.ids ≡ shown_by d)) in
+    let d : BucketView = a.0.now in let others : Fml = fsep (flft κs.1.0 qs.1.0) (fsep (flft κs.1.1.0 qs.1.1.0) (fsep (flft κs.1.1.1.0 qs.1.1.1.0) ftrue)) in
+    let pg = a.1.0.now in let pp : Val = vptr a.1.0.ref_ptr.0 a.1.0.ref_ptr.1 in
+    let ts : List (TokenView R.Denot) = a.1.1.0.now in
+    let pt : Val = vptr a.1.1.0.ref_ptr.0 a.1.1.0.ref_ptr.1 in
+    let G : RattleType = Page.the_row in
+    let At : Type 0 = pg.table ≡ d.table in
+    let Of : Option G.Denot → Type 0 = λ r. IfSome r (λ later. later.table ≡ d.table) in
+    let Early : Option G.Denot → Type 0 = λ r. IfSome r (λ later. IsPrefix pg.moves later.moves) in
+    let Shown : Option G.Denot → Type 0 = λ r. IfSome r (λ later. shown_by d ≤ length (held_after later.moves)) in
     let There : Option G.Denot → Type 0 = λ r. d.reserved ≡ true → IsSome r in
     let Absent : Option G.Denot → Type 0 = λ r. r ≡ None → NoneIn d.sharing d.bucket ts in
-    let y : (walk_of 𝓛 En hs c).Ghost = ((κs, qs, bounds, a, (vptr b o ∷ [], (pt ∷ [], tt))), gh) in
+    let y : (walk_of 𝓛 En hs c).Ghost = ((κs, qs, bounds, a, (vptr b o ∷ [], (pp ∷ [], (pt ∷ [], tt)))), gh) in
     let Post : Val → SProp 𝓤 = (walk_of 𝓛 En hs c).post y in
     qed 𝓛 (((‵ (flft κ q) ⊛ ‵ others) ⊛ ‵ (owns (types_at En.signature.params κs) a y.0.4))
-    ∷ raw ((c κs a).requires gh) ∷ []) ∵
-    split ! $ split ! $ move ! (2 ∷ []) $ fsplit3 ! $ fsplit ! $ move ! (2 ∷ []) $ fsplit ! $
-    keep ! (1 ∷ 3 ∷ 5 ∷ 6 ∷ []) $ unhide ! $
-    use1 𝓛 (‵ (tell_each R ts)) (told_shown 𝓛 R ts a.1.0.ref_ptr.0 a.1.0.ref_ptr.1 κs.1.0) $ move ! (1 ∷ 2 ∷ 3 ∷ []) $
-    -- [what the `&` holds; κ's token; the others; what the tokens tell]
-    enter ! _ _ _ _ _ $ alloc_all ! (λ l. pass_all ! refl ((tt, tt), ((tt, tt), tt)) $ let Ev = env fn.locals l in
+    ∷ raw (fact 𝓤 _) ∷ raw (fact 𝓤 At) ∷ []) ∵
+    keep ! (2 ∷ 0 ∷ []) $ heard ! At (λ at.
+    split ! $ split ! $ move ! (2 ∷ []) $ fsplit3 ! $ fsplit ! $ move ! (2 ∷ []) $ fsplit ! $ move ! (4 ∷ []) $ fsplit ! $ fsplit ! $
+    keep ! (1 ∷ 4 ∷ 6 ∷ 7 ∷ 8 ∷ []) $ unhide ! $
+    use1 𝓛 (‵ (tell_each R ts)) (told_shown 𝓛 R ts a.1.1.0.ref_ptr.0 a.1.1.0.ref_ptr.1 κs.1.1.0) $
+    move ! (1 ∷ []) $ unhide ! $ fsplit ! $ drop ! $
+    rewrite ! 0 (λ (n : ℕ). ‵ (page_with n pg.moves pg.room)) at refl $ fpack ! ℕ (page_with d.table pg.moves) pg.room $ move ! (2 ∷ 3 ∷ 4 ∷ 1 ∷ 0 ∷ []) $
+    -- [what the `&` holds; κ's token; the others; what the tokens tell; the page]
+    enter ! _ _ _ _ _ $ alloc_all ! (λ l. pass_all ! refl ((tt, tt), ((tt, tt), ((tt, tt), tt))) $ let Ev = env fn.locals l in
     unhide ! $ fsplit ! $ fpick ! (λ j. drop ! $ fpick ! (λ t. let J : Fml = fbor t.life (bucket_invariant R d t b (o + 0)) in fsplit ! $
-    -- [before; the invariant; κ's token; the other tokens; what is told]
+    -- [before; the invariant; κ's token; the other tokens; what is told; the page]
     move ! (0 ∷ 2 ∷ []) $
     lends_token ! 𝓜 𝓡 κ t.life q $ await ! tt $ pick ! (λ s. split ! $
-    -- [the life's token; the way back; the invariant; the other tokens; what is told]
+    -- [the life's token; the way back; the invariant; the other tokens; what is told; the page]
     let out : Ptr → Fml = λ p. fsep (flft t.life s) (glimpse 𝓛 R d t (said_fact (NoneThere 𝓛 R d t ts)) ftrue p) in
     first ! $ blocks ! $ sets ! (addr ! (through ! refl (fld ! refl (stop !)))) refl (tt, tt) $
     sets ! (agg ! (and_then ! (lit ! tt) (no_more !))) refl seq_cst_good $
@@ -95,40 +112,46 @@ reached_spec 𝓤 𝓛 𝓜 𝓡 wired T L =
     (tt, (record { fits = lit< tt }, tt)) $
     exec ! 𝓣.C 𝓣.Λ Ev (after 4 fn.body) (at_ret Ev Post) $
     sets ! (of_opd ! (get ! refl)) refl (tt, (record { fits = lit< tt }, tt)) $
-    -- [κ's token; the other tokens]
-    join ! $ use0 𝓛 (‵ ((Opt.the_row G).own_val None (live 0 vnil ∷ []))) (none_of 𝓛 G) $
+    -- [κ's token; the other tokens; the page]
+    move ! (2 ∷ []) $ drop ! $ join ! $ use0 𝓛 (‵ ((Opt.the_row G).own_val None (live 0 vnil ∷ []))) (none_of 𝓛 G) $
     knows ! (Absent None) (λ _ name k x low same i near at.
     absent i near name k x low same (omega (arith, at))) $
     knows ! (There None) (λ r. let never : true ≡ false = sym r ∙ free in cc) $ join ! $
-    knows ! (Of None) tt $ join ! $ nothing ! $
-    nothing ! $ fjoin ! $ nothing ! $ fjoin ! $
+    knows ! (Shown None) tt $ join ! $ knows ! (Early None) tt $ join ! $ knows ! (Of None) tt $ join ! $ nothing ! $
+    nothing ! $ fjoin ! $ nothing ! $ fjoin ! $ nothing ! $ fjoin ! $
     returns ! (look_at ! 0 refl) $ free_all ! refl $ keep ! (3 ∷ 0 ∷ 2 ∷ 1 ∷ []) $
-    by ! (leaves 𝓛 En hs c y (live 0 vnil) None (tt, (tt, tt)) (tt, (tt, tt)))) (λ wrong. absurd wrong))))
+    by ! (leaves 𝓛 En hs c y (live 0 vnil) None (tt, (tt, (tt, tt))) (tt, (tt, (tt, tt))))) (λ wrong. absurd wrong))))
     (λ pb po.
     let p : Ptr = block_ptr pb po in
     lands_last ! refl (ptr_good p) $ exec ! 𝓣.C 𝓣.Λ Ev (after 1 fn.body) (at_ret Ev Post) $
     fsplit ! $ move ! (0 ∷ 2 ∷ []) $
     returns_token ! κ t.life q s $ await ! tt $
-    -- [κ's token; what was seen; the other tokens]
+    -- [κ's token; what was seen; the other tokens; the page]
     move ! (1 ∷ []) $ fsplit ! $ fpick ! (λ z. fsplit3 ! $ fpick ! (λ so. drop ! $ move ! (1 ∷ []) $ fsplit ! $
     -- [a part of the token of the block's life; what it shows; which block it is; nothing; κ's
-    -- token; the other tokens]
+    -- token; the other tokens; the page]
     move ! (0 ∷ 2 ∷ 3 ∷ []) $ drop ! $ drop ! $ drop ! $ fsplit ! $ move ! (1 ∷ []) $ drop ! $
+    -- [how many ids were held; κ's token; the other tokens; the page]
+    move ! (0 ∷ 3 ∷ []) $
+    use2 𝓛 (some (λ (moves : List IdMove).
+    given ((shown_by d ≤ length (held_after moves)) × IsPrefix pg.moves moves) (‵ (page_owns d.table moves))))
+    (reached_page 𝓛 d.table (shown_by d) pg.moves) $ pick ! (λ moves. learn ! (λ seen. fpick ! (λ room.
     sets ! (of_opd ! (get ! refl)) refl (tt, tt) $
     sets ! (bin ! (get ! refl) (lit ! tt) (tests_null p so.2.1)) refl (tt, tt) $ first ! $
     branches ! (get ! refl) (λ wrong. absurd wrong) (λ _.
-    let r : G.Denot = record { marker = record {}; table = d.table; ids = shown_by d } in let v : Val = live 1 (vcons token vnil) in
+    let r : G.Denot = record { marker = record {}; table = d.table; moves = moves; room = room } in let v : Val = live 1 (vcons token vnil) in
     sets ! (agg ! (no_more !)) refl (tt, tt) $ sets ! (agg ! (and_then ! (get ! refl) (no_more !))) refl (tt, (tt, tt)) $
     sets_last ! (agg ! (and_then ! (lit ! tt) (and_then ! (get ! refl) (no_more !)))) refl
     (tt, (record { fits = lit< tt }, ((tt, tt), tt))) $
     exec ! 𝓣.C 𝓣.Λ Ev (after 4 fn.body) (at_ret Ev Post) $
     sets ! (of_opd ! (get ! refl)) refl (tt, (record { fits = lit< tt }, ((tt, tt), tt))) $
-    use0 𝓛 (‵ ((Mark (Reached.the_type).name).own_val (tt, tt) (token ∷ []))) (made (Reached.the_type).name 𝓛) $
+    use0 𝓛 (‵ ((Mark (Page.the_type).name).own_val (tt, tt) (token ∷ []))) (made (Page.the_type).name 𝓛) $
     fjoin ! $ use1 𝓛 (‵ ((Opt.the_row G).own_val (Some r) (v ∷ []))) (Some-of 𝓛 G r token) $
     move ! (1 ∷ 2 ∷ []) $ join ! $ move ! (1 ∷ []) $
     knows ! (Absent (Some r)) (λ e. absurd (none-some r (sym e))) $
     knows ! (There (Some r)) (λ _. refl) $ join ! $
-    knows ! (Of (Some r)) (refl, refl) $ join ! $ nothing ! $
-    nothing ! $ fjoin ! $ nothing ! $ fjoin ! $
+    knows ! (Shown (Some r)) seen.0 $ join ! $ knows ! (Early (Some r)) seen.1 $ join ! $
+    knows ! (Of (Some r)) refl $ join ! $ nothing ! $
+    nothing ! $ fjoin ! $ nothing ! $ fjoin ! $ nothing ! $ fjoin ! $
     returns ! (look_at ! 0 refl) $ free_all ! refl $ keep ! (3 ∷ 0 ∷ 2 ∷ 1 ∷ []) $
-    by ! (leaves 𝓛 En hs c y v (Some r) (tt, (tt, tt)) (tt, (tt, tt)))))))))))))
+    by ! (leaves 𝓛 En hs c y v (Some r) (tt, (tt, (tt, tt))) (tt, (tt, (tt, tt))))))))))))))))))

@@ -1,4 +1,4 @@
--- Threads may share a right: its element names none.
+-- Threads may share a right: its elements name none.
 use denote.Param.Send.{IsSync, part_keyless}
 use Rattle.thread_local_ids.proofs.rights.right.Right.TheSendSync.Send.{send}
 use Rattle.thread_local_ids.specs.contracts.rights.right.Right.{the_row}

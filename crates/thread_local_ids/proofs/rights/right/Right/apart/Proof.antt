@@ -46,10 +46,15 @@ apart_spec 𝓤 𝓛 𝓜 𝓡 wired =
     enter ! _ _ _ _ _ $ alloc_all ! (λ l. pass_all ! refl ((tt, tt), ((tt, tt), tt)) $ move ! (3 ∷ 4 ∷ 0 ∷ 1 ∷ []) $ group ! 4 $
     use1 𝓛 (later (given Apart (‵ first ⊛ ‵ second ⊛ ‵ (flft κs.0 qs.0) ⊛ ‵ (flft κs.1.0 qs.1.0))))
     (both.show 𝓛 A κs.0 κs.1.0 r s qs.0 qs.1.0 Apart (λ cs ds.
-    qed 𝓛 (‵ (A.own_val x cs) ∷ ‵ (A.own_val z ds) ∷ []) ∵ fsplit ! $ move ! (2 ∷ []) $ fsplit ! $ move ! (3 ∷ 1 ∷ []) $
+    qed 𝓛 (‵ (A.own_val x cs) ∷ ‵ (A.own_val z ds) ∷ []) ∵ fsplit ! $ move ! (1 ∷ []) $ fsplit ! $ move ! (3 ∷ []) $ fsplit ! $
+    move ! (1 ∷ []) $ fsplit ! $
+    -- [the other right; its note; its fields; the right; its note; its fields]
+    move ! (3 ∷ 0 ∷ []) $
     use2 𝓛 (given Apart (‵ (right_owns x.table x.id) ⊛ ‵ (right_owns z.table z.id)))
     (right_apart 𝓛 x.table z.table x.id z.id) $
-    learn ! (λ so. split ! $ move ! (3 ∷ 0 ∷ []) $ fjoin ! $ move ! (2 ∷ 1 ∷ []) $ fjoin ! $
+    learn ! (λ so. split ! $
+    -- [the right; the other right; its note; its fields; the note; the fields]
+    move ! (0 ∷ 4 ∷ []) $ fjoin ! $ move ! (4 ∷ 0 ∷ []) $ fjoin ! $ move ! (1 ∷ 2 ∷ []) $ fjoin ! $ move ! (2 ∷ 0 ∷ []) $ fjoin ! $
     move ! (1 ∷ 0 ∷ []) $ check ! so $ done !))) $ await ! tt $
     learn ! (λ so. split3 ! $ move ! (2 ∷ []) $ split ! $
     -- [a token for each; self; the other; nothing]

@@ -1,4 +1,4 @@
--- `lay_down` drops the fields, and keeps the right's element.
+-- `lay_down` drops the fields, and keeps the right's elements.
 use Rattle.std.proofs.Common.{[], ◌∷◌, refl}
 use mir.Val.{vunit}
 use base.Fml.{ftrue}

@@ -1,4 +1,4 @@
--- `take_up` adds the fields, which own nothing, to the right's element.
+-- `take_up` adds the fields, which own nothing, to the right's elements.
 use Rattle.std.proofs.Common.{[], ◌∷◌, refl}
 use base.Fml.{ftrue}
 use types.Kit.{‵, ◌⊛◌, ◌$◌, ◌∵◌, !, qed, keep, join, fjoin, suffices, use0, done}
@@ -9,7 +9,7 @@ use contract.Running.{tables}
 use denote.Steps.{nothing}
 use denote.Triple.Walked.{Stays, walk_of, says, ends_at}
 use Rattle.std.proofs.raw_atomic.Walks.{proved}
-use Rattle.thread_local_ids.specs.Rights.{right_owns}
+use Rattle.thread_local_ids.specs.Rights.{right_with}
 use Rattle.thread_local_ids.proofs.Markers.{token, Mark, made}
 use Rattle.thread_local_ids.specs.contracts.rights.right.Right as right
 use Rattle.thread_local_ids.specs.contracts.rights.right.Right.take_up as f
@@ -25,13 +25,13 @@ take_up_spec 𝓤 𝓛 𝓜 𝓡 wired =
     proved 𝓛 f.ended stayed c 𝓜 𝓡 tt f.Key.name code.function (code.unfolded 𝓤 𝓛.H 𝓜 𝓡 wired)
     (λ κs. tt) (λ κs. tt) (λ κs qs bounds a g are.
     let y : W.Ghost = ((κs, qs, bounds, a, tt), g) in
-    qed 𝓛 ((‵ ftrue ⊛ ‵ ftrue) ∷ ‵ (right_owns g.0 g.1) ∷ []) ∵ keep ! (1 ∷ []) $
+    qed 𝓛 ((‵ ftrue ⊛ ‵ ftrue) ∷ ‵ (right_with g.0 g.1 g.2) ∷ []) ∵ keep ! (1 ∷ []) $
     enter ! 𝓣.C 𝓣.Λ code.function [] _ $ alloc_all ! (λ l. pass_all ! refl tt $
     sets ! (agg ! (no_more !)) refl (tt, tt) $ sets ! (agg ! (and_then ! (get ! refl) (no_more !))) refl (tt, (tt, tt)) $
     returns ! (look_at ! 0 refl) $ free_all ! refl $
     suffices ! _ (ends_at 𝓛 f.ended stayed c y token
-    record { marker = record {}; table = g.0; id = g.1 } tt tt) $
-    says ! (refl, refl) $
+    record { marker = record {}; table = g.0; id = g.1; left = g.2 } tt tt) $
+    says ! (refl, refl, refl) $
     use0 𝓛 (‵ ((Mark (right.the_type).name).own_val (tt, tt) (token ∷ [])))
     (made (right.the_type).name 𝓛) $
     fjoin ! $ nothing ! $ join {Γ = []} ! $ nothing ! $ join ! $ done !))

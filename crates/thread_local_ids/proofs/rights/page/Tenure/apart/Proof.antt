@@ -1,5 +1,5 @@
--- Two marks of one id of one table would be the same element twice.
-use Rattle.std.proofs.Common.{◌≡◌, ◌≢◌, ◌+◌, ◌^◌, [], ◌∷◌, refl, arith}
+-- Two tenures of one id of one table would have one count twice.
+use Rattle.std.proofs.Common.{◌≡◌, ◌≢◌, [], ◌∷◌, refl}
 use mir.Syntax.{named}
 use mir.Val.{vunit}
 use base.Fml.{ftrue, flft}
@@ -12,14 +12,14 @@ use denote.Signature.{plain}
 use denote.Steps.{nothing}
 use denote.Triple.Walked.{Stays, walk_of, stay_ref, Goes-ref, ends_at}
 use Rattle.std.proofs.raw_atomic.Walks.{proved}
-use Rattle.thread_local_ids.specs.Rights.{right_owns}
+use Rattle.thread_local_ids.specs.Rights.{tenure_of, taken_id}
 use Rattle.thread_local_ids.proofs.BothLent as both
-use Rattle.thread_local_ids.proofs.RightElements.{right_apart}
+use Rattle.thread_local_ids.proofs.MoveElements.{tenures_apart}
 use Rattle.thread_local_ids.proofs.Facts.{tells, tells_last}
-use Rattle.thread_local_ids.specs.contracts.rights.mark.Mark.{the_row as A}
-use Rattle.thread_local_ids.specs.contracts.rights.mark.Mark.apart as f
-use Rattle.thread_local_ids.proofs.rights.mark.Mark.apart.Statement.{statement}
-use Rattle.thread_local_ids.proofs.rights.mark.Mark.apart.Code as code
+use Rattle.thread_local_ids.specs.contracts.rights.page.Tenure.{the_row as A}
+use Rattle.thread_local_ids.specs.contracts.rights.page.Tenure.apart as f
+use Rattle.thread_local_ids.proofs.rights.page.Tenure.apart.Statement.{statement}
+use Rattle.thread_local_ids.proofs.rights.page.Tenure.apart.Code as code
 
 abbrev stayed : Stays f.ended.signature.params f.ended.kept
 stayed = (stay_ref (0 ∷ []) tt (plain (λ _. A)), (stay_ref (1 ∷ []) tt (plain (λ _. A)), tt))
@@ -39,24 +39,18 @@ apart_spec 𝓤 𝓛 𝓜 𝓡 wired =
     let first = both.first 𝓛 A κs.0 κs.1.0 r s in
     let second = both.second 𝓛 A κs.0 κs.1.0 r s in
     let y : W.Ghost = ((κs, qs, bounds, a, (mut_vals r, (mut_vals s, tt))), g) in
-    let Apart : Type 0 = x.table ≡ z.table → x.id ≢ z.id in
-    let Marks : Type 0 = x.table ≡ z.table → x.id + 2 ^ 63 ≢ z.id + 2 ^ 63 in
+    let Apart : Type 0 = x.table ≡ z.table → taken_id x.before ≢ taken_id z.before in
     qed 𝓛 (((‵ (flft κs.0 qs.0) ⊛ ‵ (flft κs.1.0 qs.1.0) ⊛ ‵ ftrue) ⊛ ‵ first ⊛ ‵ second ⊛ ‵ ftrue)
     ∷ ‵ ftrue ∷ []) ∵
     split ! $ move ! (1 ∷ []) $ split3 ! $ move ! (3 ∷ []) $ split3 ! $
     enter ! _ _ _ _ _ $ alloc_all ! (λ l. pass_all ! refl ((tt, tt), ((tt, tt), tt)) $ move ! (3 ∷ 4 ∷ 0 ∷ 1 ∷ []) $ group ! 4 $
     use1 𝓛 (later (given Apart (‵ first ⊛ ‵ second ⊛ ‵ (flft κs.0 qs.0) ⊛ ‵ (flft κs.1.0 qs.1.0))))
     (both.show 𝓛 A κs.0 κs.1.0 r s qs.0 qs.1.0 Apart (λ cs ds.
-    qed 𝓛 (‵ (A.own_val x cs) ∷ ‵ (A.own_val z ds) ∷ []) ∵ fsplit ! $ move ! (1 ∷ []) $ fsplit ! $ move ! (3 ∷ []) $ fsplit ! $
-    move ! (1 ∷ []) $ fsplit ! $
-    -- [the other mark; its note; its fields; the mark; its note; its fields]
-    move ! (3 ∷ 0 ∷ []) $
-    use2 𝓛 (given Marks (‵ (right_owns x.table (x.id + 2 ^ 63)) ⊛ ‵ (right_owns z.table (z.id + 2 ^ 63))))
-    (right_apart 𝓛 x.table z.table (x.id + 2 ^ 63) (z.id + 2 ^ 63)) $
-    learn ! (λ so. split ! $
-    -- [the mark; the other mark; its note; its fields; the note; the fields]
-    move ! (0 ∷ 4 ∷ []) $ fjoin ! $ move ! (4 ∷ 0 ∷ []) $ fjoin ! $ move ! (1 ∷ 2 ∷ []) $ fjoin ! $ move ! (2 ∷ 0 ∷ []) $ fjoin ! $
-    move ! (1 ∷ 0 ∷ []) $ check ! (λ same e. so same (omega (arith, e))) $ done !))) $ await ! tt $
+    qed 𝓛 (‵ (A.own_val x cs) ∷ ‵ (A.own_val z ds) ∷ []) ∵ fsplit ! $ move ! (2 ∷ []) $ fsplit ! $ move ! (3 ∷ 1 ∷ []) $
+    use2 𝓛 (given Apart (‵ (tenure_of x.table x.before) ⊛ ‵ (tenure_of z.table z.before)))
+    (tenures_apart 𝓛 x.table z.table x.before z.before) $
+    learn ! (λ so. split ! $ move ! (3 ∷ 0 ∷ []) $ fjoin ! $ move ! (2 ∷ 1 ∷ []) $ fjoin ! $
+    move ! (1 ∷ 0 ∷ []) $ check ! so $ done !))) $ await ! tt $
     learn ! (λ so. split3 ! $ move ! (2 ∷ []) $ split ! $
     -- [a token for each; self; the other; nothing]
     sets ! (of_opd ! (unit_lit !)) refl (tt, tt) $ returns ! (look_at ! 0 refl) $ free_all ! refl $

@@ -12,14 +12,13 @@ use types.Kit.{‵, raw, ◌⊛◌, given, settle, suffices, ◌$◌, ◌∵◌,
 use types.Kit.{rewrite, use0, use1, use2, done}
 use denote.RattleType.{RattleType}
 use denote.Steps.{nothing}
-use Rattle.thread_local_ids.specs.Rights.{right_owns, slot_key, note_key, noted_at, note_owns}
+use Rattle.thread_local_ids.specs.Rights.{slot_key, note_key, noted_at, note_owns}
 use Rattle.thread_local_base.specs.IdMoves.{left_coded}
-use Rattle.thread_local_ids.specs.FirstIds.{note_by}
-use Rattle.thread_local_ids.specs.Sharings.{Sharing, first_of, sharing_by, sharing_of, is_first, belongs, Belongs}
+use Rattle.thread_local_ids.specs.Sharings.{Sharing, first_of, sharing_by, is_first, belongs, Belongs}
 use Rattle.thread_local_ids.specs.Told.{untold_of, told_of, noted_of, untold_in, noted_in, tells, told_or_untold}
-use Rattle.thread_local_ids.specs.Sharings.{left_of}
-use Rattle.thread_local_ids.proofs.NotedElements.{at_twice, notes_at, never_at, at_alike}
-use Rattle.thread_local_ids.proofs.ToldElements.{first_is}
+use Rattle.thread_local_ids.specs.Sharings.{left_of, left_after}
+use Rattle.thread_local_ids.proofs.NotedElements.{notes_at, never_at, at_alike}
+use Rattle.thread_local_ids.proofs.ToldElements.{first_is, tells_some, tells_dup}
 use Rattle.thread_local_base.proofs.Signs.{signs}
 
 module _ {M : Type 1} {𝓤 : Ura M} (𝓛 : Logic 𝓤) where
@@ -78,7 +77,7 @@ module _ {M : Type 1} {𝓤 : Ura M} (𝓛 : Logic 𝓤) where
         ⊢ guard 𝓤 (left ≡ left_of R (Some x)) (⟦ tells R (Some (first_of table)) id (Some x) ⟧ ∗ ⟦ note_owns table id left ⟧)
     tells_note id x left = note_agrees id (Some x) left
 
-  -- ---- what is published is noted before, and told afterwards
+  -- ---- what is published is noted and told
   -- in a sharing that isn't the table's first nothing is noted
   nothing_by : (odd : Bool) (n table id : ℕ) (g : Gv) → (n % 2 == 1) ≡ odd → belongs (sharing_by odd (n / 2)) table
       → is_first (Some n) table ≡ false → emp 𝓤 ⊢ ⟦ noted_of (sharing_by odd (n / 2)) id g ⟧
@@ -94,64 +93,45 @@ module _ {M : Type 1} {𝓤 : Ura M} (𝓛 : Logic 𝓤) where
   nothing_noted None table id g same later = qed 𝓛 [] ∵ nothing ! $ done !
   nothing_noted (Some n) table id g same later = nothing_by (n % 2 == 1) n table id g refl same later
 
-  -- the right at the note key, where nothing was left
-  right_left : (told : Bool) (table id : ℕ) (left : Option Gv) → left ≡ None
-      → ⟦ note_by told table id left ⟧ ⊢ ⟦ right_owns table (note_key id) ⟧
-  right_left told table id (Some g) e = cc
-  right_left true table id None e = qed 𝓛 (‵ (right_owns table (note_key id)) ∷ []) ∵ done !
-  right_left false table id None e = qed 𝓛 (‵ (right_owns table (note_key id)) ∷ []) ∵ done !
+  abbrev Publishes : (R : RattleType) → Bool → Option ℕ → ℕ → ℕ → Option Gv → R.Denot → SProp 𝓤
+  Publishes R first sharing table id left x =
+      ⟦ tells R sharing id (Some x) ⟧ ∗ ⟦ note_owns table id (if first then Some (R.coded.code x) else left) ⟧
 
-  abbrev Noted : Bool → Option ℕ → Bool → ℕ → ℕ → Option Gv → Gv → SProp 𝓤
-  Noted first sharing told table id left g =
-      ⟦ note_by (if first then false else told) table id (if first then Some g else left) ⟧ ∗ ⟦ noted_in sharing id g ⟧
-
-  noting_by : (first : Bool) (sharing : Option ℕ) (told : Bool) (table id : ℕ) (left : Option Gv) (g : Gv)
-      → is_first sharing table ≡ first → Belongs sharing table → (first ≡ true → left ≡ None)
-      → ⟦ note_by told table id left ⟧ ⊢ upd 𝓤 (Noted first sharing told table id left g)
-  noting_by false sharing told table id left g later same none =
-      let Z : SProp 𝓤 = Noted false sharing told table id left g in
-      qed 𝓛 (‵ (note_by told table id left) ∷ []) ∵ suffices ! _ (upd_i 𝓤 Z) $
-      use0 𝓛 (‵ (noted_in sharing id g)) (nothing_noted sharing table id g same later) $ move ! (1 ∷ 0 ∷ []) $ done !
-  noting_by true None told table id left g first same none = cc
-  noting_by true (Some n) told table id left g first same none =
-      let is : first_of table ≡ n = sym (eqb-true n (first_of table) first) in
-      let N : Fml = noted_at (note_key id) table id g in
-      let Z : SProp 𝓤 = Noted true (Some n) told table id left g in
-      qed 𝓛 (‵ (note_by told table id left) ∷ []) ∵
-      use1 𝓛 (‵ (right_owns table (note_key id))) (right_left told table id left (none refl)) $
-      use1 𝓛 (raw (upd 𝓤 ⟦ N ⟧)) (notes_at 𝓛 (note_key id) table id g) $ settle 𝓛 Z (‵ N) $
-      use1 𝓛 (‵ N ⊛ ‵ N) (at_twice 𝓛 (note_key id) table id g) $ split ! $ suffices ! _ (upd_i 𝓤 Z) $
-      rewrite ! 0 (λ (s : Sharing). ‵ (noted_of s id g)) (sym (first_is table)) refl $
-      rewrite ! 0 (λ (k : ℕ). ‵ (noted_of (sharing_of k) id g)) is refl $ move ! (1 ∷ 0 ∷ []) $ done !
-
-  -- whoever has the mark of an id notes what its slot is about to be published with
-  pub noting : (sharing : Option ℕ) (told : Bool) (table id : ℕ) (left : Option Gv) (g : Gv)
-      → Belongs sharing table → (is_first sharing table ≡ true → left ≡ None)
-      → ⟦ note_by told table id left ⟧
-      ⊢ upd 𝓤
-      (⟦ note_by (if is_first sharing table then false else told) table id (if is_first sharing table then Some g else left) ⟧
-      ∗ ⟦ noted_in sharing id g ⟧)
-  noting sharing told table id left g same none = noting_by (is_first sharing table) sharing told table id left g refl same none
-
-  told_by : (R : RattleType) (first : Bool) (sharing : Option ℕ) (told : Bool) (table id : ℕ) (left : Option Gv) (x : R.Denot)
-      → is_first sharing table ≡ first → (first ≡ true → left ≡ left_of R (Some x)) → (first ≡ false → told ≡ true)
-      → ⟦ note_by told table id left ⟧ ∗ ⟦ tells R sharing id (Some x) ⟧ ⊢ ⟦ note_by true table id left ⟧
-  told_by R false sharing told table id left x later says up =
-      qed 𝓛 (‵ (note_by told table id left) ∷ ‵ (tells R sharing id (Some x)) ∷ []) ∵ keep ! (0 ∷ []) $
-      rewrite ! 0 (λ (t : Bool). ‵ (note_by t table id left)) (up refl) refl $ done !
-  told_by R true None told table id left x first says up = cc
-  told_by R true (Some n) told table id left x first says up =
-      let g : Gv = (coded_option R.coded).code (Some x) in
-      let plain : Gv = R.coded.code x in
+  publishes_by : (R : RattleType) (first : Bool) (sharing : Option ℕ) (table id : ℕ) (left : Option Gv) (x : R.Denot)
+      → is_first sharing table ≡ first → Belongs sharing table
+      → ⟦ untold_in sharing id ⟧ ∗ ⟦ note_owns table id left ⟧ ⊢ upd 𝓤 (Publishes R first sharing table id left x)
+  publishes_by R false sharing table id left x later same =
+      let g : Gv = R.coded.code x in
+      let Z : SProp 𝓤 = Publishes R false sharing table id left x in
+      qed 𝓛 (‵ (untold_in sharing id) ∷ ‵ (note_owns table id left) ∷ []) ∵
+      use0 𝓛 (‵ (noted_in sharing id g)) (nothing_noted sharing table id g same later) $ move ! (1 ∷ 0 ∷ []) $
+      use2 𝓛 (raw (upd 𝓤 ⟦ tells R sharing id (Some x) ⟧)) (tells_some 𝓛 R sharing id x) $
+      settle 𝓛 Z (‵ (tells R sharing id (Some x))) $ suffices ! _ (upd_i 𝓤 Z) $ done !
+  publishes_by R true None table id left x first same = cc
+  publishes_by R true (Some n) table id left x first same =
+      let g : Gv = R.coded.code x in
+      let told : Gv = (coded_option R.coded).code (Some x) in
+      let here : Option ℕ = Some (first_of table) in
       let is : n ≡ first_of table = eqb-true n (first_of table) first in
-      qed 𝓛 (‵ (note_by told table id left) ∷ ‵ (tells R (Some n) id (Some x)) ∷ []) ∵ keep ! (1 ∷ []) $
-      rewrite ! 0 (λ (k : ℕ). ‵ (tells R (Some k) id (Some x))) is refl $ fsplit ! $
-      rewrite ! 0 (λ (s : Sharing). ‵ (told_of s id g)) (first_is table) refl $ move ! (1 ∷ []) $
-      rewrite ! 0 (λ (s : Sharing). ‵ (noted_of s id plain)) (first_is table) refl $ fjoin ! $
-      rewrite ! 0 (λ (l : Option Gv). ‵ (note_by true table id l)) (sym (says refl)) refl $ done !
+      let N : Fml = noted_at (note_key id) table id g in
+      let T : Option ℕ → Fml = λ s. tells R s id (Some x) in
+      let Z : SProp 𝓤 = Publishes R true (Some n) table id left x in
+      qed 𝓛 (‵ (untold_in (Some n) id) ∷ ‵ (note_owns table id left) ∷ []) ∵
+      rewrite ! 0 (λ (k : ℕ). ‵ (untold_in (Some k) id)) is refl $
+      use2 𝓛 (given (◌≡◌ {A = Option Gv} left None) (‵ (untold_in here id) ⊛ ‵ (note_owns table id left))) (note_agrees R table id None left) $
+      learn ! (λ none. split ! $ move ! (1 ∷ []) $ rewrite ! 0 (λ (l : Option Gv). ‵ (note_owns table id l)) none refl $
+      use1 𝓛 (raw (upd 𝓤 ⟦ N ⟧)) (notes_at 𝓛 (note_key id) table id g) $ settle 𝓛 Z (‵ N) $
+      rewrite ! 0 (λ (s : Sharing). ‵ (noted_of s id g)) (sym (first_is table)) refl $ move ! (1 ∷ 0 ∷ []) $
+      use2 𝓛 (raw (upd 𝓤 ⟦ T here ⟧)) (tells_some 𝓛 R here id x) $ settle 𝓛 Z (‵ (T here)) $
+      use1 𝓛 (‵ (T here) ⊛ ‵ (T here)) (tells_dup 𝓛 R here id (Some x)) $ split ! $
+      rewrite ! 0 (λ (k : ℕ). ‵ (T (Some k))) (sym is) refl $ move ! (1 ∷ []) $ fsplit ! $
+      rewrite ! 0 (λ (s : Sharing). ‵ (told_of s id told)) (first_is table) refl $ move ! (1 ∷ []) $
+      rewrite ! 0 (λ (s : Sharing). ‵ (noted_of s id g)) (first_is table) refl $ fjoin ! $
+      move ! (1 ∷ 0 ∷ []) $ suffices ! _ (upd_i 𝓤 Z) $ done !)
 
-  -- what was noted is told, once it is published
-  pub told_up : (R : RattleType) (sharing : Option ℕ) (told : Bool) (table id : ℕ) (left : Option Gv) (x : R.Denot)
-      → (is_first sharing table ≡ true → left ≡ left_of R (Some x)) → (is_first sharing table ≡ false → told ≡ true)
-      → ⟦ note_by told table id left ⟧ ∗ ⟦ tells R sharing id (Some x) ⟧ ⊢ ⟦ note_by true table id left ⟧
-  told_up R sharing told table id left x says up = told_by R (is_first sharing table) sharing told table id left x refl says up
+  -- Whoever has the note of an id publishes a value in its slot: it is noted and told, where the sharing is the
+  -- table's first.
+  pub publishes_noted : (R : RattleType) (sharing : Option ℕ) (table id : ℕ) (left : Option Gv) (x : R.Denot) → Belongs sharing table
+      → ⟦ untold_in sharing id ⟧ ∗ ⟦ note_owns table id left ⟧
+      ⊢ upd 𝓤 (⟦ tells R sharing id (Some x) ⟧ ∗ ⟦ note_owns table id (left_after R sharing table left (Some x)) ⟧)
+  publishes_noted R sharing table id left x same = publishes_by R (is_first sharing table) sharing table id left x refl same
