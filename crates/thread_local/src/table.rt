@@ -31,7 +31,7 @@ pub use thread_local_base::{Judge, judge_sync};
 pub use thread_local_buckets::CapacityError;
 use thread_local_buckets::{Buckets, EntriesMut, IntoEntries, IntoIter, IterMut};
 use thread_local_ids::left::a_value_left_is_found;
-use thread_local_ids::{Right, SharedIds, SlotRights};
+use thread_local_ids::{SharedIds, SlotRights};
 pub use thread_local_ids::{Book, Page, Token, Told};
 use thread_local_shared_buckets::{Entries, Iter, Shared, Tokens};
 
@@ -74,7 +74,6 @@ mod lends;
 pub struct ThreadLocal<T> {
     pub(crate) buckets: Shared<T>,
     pub(crate) ids: SharedIds,
-    table_right: Right,
     first: Page,
     pub(crate) alloc: Global,
 }
@@ -90,12 +89,10 @@ impl<T> Model for ThreadLocal<T> {
 
     ghost view = { λ table. thread_local_view table.buckets table.first.room };
 
-    // The ids are those of the table whose buckets these are, and so are the table's right and the
-    // first page, which tells of no move. The sharing isn't the first of another table.
+    // The ids are those of the table whose buckets these are, and so is the first page, which tells of
+    // no move. The sharing isn't the first of another table.
     ghost invariant = { λ table.
         (table.ids.table ≡ table.buckets.table)
-        × (table.table_right.table ≡ table.buckets.table)
-        × (table.table_right.id ≡ 2 ^ 63 - 1)
         × (table.first.table ≡ table.buckets.table)
         × (table.first.moves ≡ [])
         × Belongs table.buckets.sharing table.buckets.table };
@@ -119,26 +116,21 @@ impl<T> ThreadLocal<T> {
     }
 
     /// Makes a table of an owner's buckets, which have no value, and of new ids.
-    fn of(
-        alloc: Global,
-        buckets: Buckets<T>,
-        made: (SharedIds, Right, Page, SlotRights),
-    ) -> ThreadLocal<T>
+    fn of(alloc: Global, buckets: Buckets<T>, made: (SharedIds, Page, SlotRights)) -> ThreadLocal<T>
         requires judged { Judged T.row }
         requires empty { (id : ℕ) → values buckets.contents id ≡ None }
         requires ids { AreNew made }
         ensures sharing { IsSome result.sharing }
         ensures first { IsFirst result.sharing result.table }
         ensures reserved { result.reserved ≡ buckets.reserved }
-        ensures room { result.room ≡ made.2.room }
+        ensures room { result.room ≡ made.1.room }
         ensures grown { result.grown_by_ids ≡ only_reserved buckets }
     {
-        let (ids, table_right, first, slots) = made;
+        let (ids, first, slots) = made;
         let (pointers, reserved) = buckets.into_parts();
         ThreadLocal {
-            buckets: Shared::first(pointers, reserved, &table_right, slots),
+            buckets: Shared::first(pointers, reserved, slots),
             ids,
-            table_right,
             first,
             alloc,
         }
@@ -340,7 +332,6 @@ impl<T> ThreadLocal<T> {
         let Self {
             buckets,
             ids,
-            table_right: _,
             first: _,
             alloc: _,
         } = self;
@@ -370,7 +361,6 @@ impl<T> ThreadLocal<T> {
         let Self {
             buckets,
             ids,
-            table_right: _,
             first: _,
             alloc: _,
         } = self;
@@ -390,7 +380,7 @@ impl<T> ThreadLocal<T> {
         ensures grown { self.new.grown_by_ids ≡ self.old.grown_by_ids }
     {
         self.buckets.judged();
-        self.buckets.renew(&self.table_right);
+        self.buckets.renew();
     }
 
     /// Drops every value, frees every bucket that isn't reserved, and takes every id back, those of
@@ -406,10 +396,8 @@ impl<T> ThreadLocal<T> {
         ensures reserved { self.new.reserved ≡ self.old.reserved }
         ensures grown { self.new.grown_by_ids ≡ true }
     {
-        let (mut right, first, slots) = self.ids.clear();
-        self.table_right.apart(&mut right);
-        self.buckets.clear(&right, slots);
-        self.table_right = right;
+        let (first, slots) = self.ids.clear();
+        self.buckets.clear(slots);
         self.first = first;
     }
 }
@@ -421,7 +409,6 @@ impl<T: Drop> Drop for ThreadLocal<T> {
         let Self {
             buckets,
             ids,
-            table_right: _,
             first: _,
             alloc: _,
         } = self;

@@ -1,6 +1,6 @@
--- What a new table begins with, under a fresh name: what lies with its word, one half of the log, the
--- table's right, its first page, and the rights to its slots. Assumes `Logic`.
-use Rattle.std.proofs.Common.{◌≡◌, ◌≢◌, ℕ, ◌-◌, ◌^◌, true, false, List, [], ◌∷◌, None, refl, arith}
+-- What a new table begins with, under a fresh name: what lies with its word, one half of the log, its
+-- first page, and the rights to its slots. Assumes `Logic`.
+use Rattle.std.proofs.Common.{◌≡◌, ◌≢◌, ℕ, true, false, List, [], ◌∷◌, refl, arith}
 use Rattle.std.proofs.lemmas.Bool.{ne_eqb}
 use seplogic.Ra.Ura.{Ura}
 use base.Logic.{SProp, ex, emp, upd, upd_i, id⊢}
@@ -10,7 +10,7 @@ use types.Kit.{‵, raw, ◌⊛◌, settle, suffices, ◌$◌, ◌∵◌, !, qed
 use types.Kit as kit
 use denote.Steps.{nothing}
 use Rattle.thread_local_base.proofs.Signs.{signs}
-use Rattle.thread_local_ids.specs.Rights.{is_out, moves_key, note_key, right_owns, right_with, rights_own, slots_own, history_owns}
+use Rattle.thread_local_ids.specs.Rights.{is_out, moves_key, note_key, right_owns, rights_own, slots_own, history_owns}
 use Rattle.thread_local_ids.specs.Rights.{page_with, all_noted, AreNotedOut}
 use Rattle.thread_local_ids.specs.FirstIds.{AreOutOf, IsTiedTo, Kept, log_key, log_owns, kept_with, lies_with}
 use Rattle.thread_local_ids.proofs.FirstLaws.{word_begins}
@@ -19,28 +19,18 @@ use Rattle.thread_local_ids.proofs.Logs.{O}
 use Rattle.thread_local_ids.proofs.MoveElements.{begins as history_begins}
 use Rattle.thread_local_ids.proofs.RightElements.{rights_new, rights_cut}
 
--- the key of the table's own right, which is no id
-abbrev pub table_key : ℕ
-table_key = 2 ^ 63 - 1
-
--- the key of its note
-abbrev pub table_note : ℕ
-table_note = note_key table_key
-
 -- the rights that a new table's are without
 abbrev taken_out : List ℕ
-taken_out = table_note ∷ table_key ∷ log_key ∷ moves_key ∷ []
+taken_out = log_key ∷ moves_key ∷ []
 
-none_out : (j : ℕ) → table_note ≢ j → table_key ≢ j → log_key ≢ j → moves_key ≢ j → is_out taken_out j ≡ false
-none_out j n a b c = rw (ne_eqb table_note j n, ne_eqb table_key j a, ne_eqb log_key j b, ne_eqb moves_key j c) refl
+none_out : (j : ℕ) → log_key ≢ j → moves_key ≢ j → is_out taken_out j ≡ false
+none_out j a b = rw (ne_eqb log_key j a, ne_eqb moves_key j b) refl
 
 none_out_of : AreOutOf taken_out []
-none_out_of id low =
-    none_out id (λ e. omega (arith, e, low)) (λ e. omega (arith, e, low)) (λ e. omega (arith, e, low)) (λ e. omega (arith, e, low))
+none_out_of id low = none_out id (λ e. omega (arith, e, low)) (λ e. omega (arith, e, low))
 
 none_noted : AreNotedOut taken_out []
-none_noted id low =
-    none_out (note_key id) (λ e. omega (arith, e, low)) (λ e. omega (arith, e, low)) (λ e. omega (arith, e, low)) (λ e. omega (arith, e, low))
+none_noted id low = none_out (note_key id) (λ e. omega (arith, e, low)) (λ e. omega (arith, e, low))
 
 module _ {M : Type 1} {𝓤 : Ura M} (𝓛 : Logic 𝓤) where
   open signs 𝓛 use {⟦◌⟧, ◌⊢◌, ◌∗◌}
@@ -69,7 +59,7 @@ module _ {M : Type 1} {𝓤 : Ura M} (𝓛 : Logic 𝓤) where
 
   abbrev pub begun : ℕ → GName → Fml
   begun room γ =
-      fsep (lies_with γ 0) (fsep (log_owns γ false []) (fsep (right_with γ table_key None) (fsep (page_with γ [] room) (slots_own γ 0))))
+      fsep (lies_with γ 0) (fsep (log_owns γ false []) (fsep (page_with γ [] room) (slots_own γ 0)))
 
   abbrev cut : (γ : GName) (id : ℕ) (out : List ℕ) → kit.Item 𝓤
   cut γ id out = ‵ (right_owns γ id) ⊛ ‵ (rights_own γ (id ∷ out))
@@ -79,8 +69,6 @@ module _ {M : Type 1} {𝓤 : Ura M} (𝓛 : Logic 𝓤) where
       let New = λ (γ : GName). ⟦ rights_own γ [] ⟧ ∗ ⟦ slots_own γ 0 ⟧ in
       let Begun = λ (γ : GName). ⟦ begun room γ ⟧ in
       let Z : SProp 𝓤 = ex 𝓤 Begun in
-      let some_out : List ℕ = log_key ∷ moves_key ∷ [] in
-      let more_out : List ℕ = table_key ∷ some_out in
       qed 𝓛 [] ∵ use0 𝓛 (raw (upd 𝓤 (ex 𝓤 New))) (rights_new 𝓛) $
       settle 𝓛 Z (kit.some (λ (γ : GName). ‵ (rights_own γ []) ⊛ ‵ (slots_own γ 0))) $ pick ! (λ γ. split ! $
       -- [the rights; those to the slots]
@@ -92,10 +80,7 @@ module _ {M : Type 1} {𝓤 : Ura M} (𝓛 : Logic 𝓤) where
       use1 𝓛 (‵ (log_owns γ true [])) (log_begins γ) $
       use1 𝓛 (‵ (log_owns γ false []) ⊛ ‵ (log_owns γ false [])) (log_halved 𝓛 γ []) $ split ! $ move ! (2 ∷ []) $
       -- [the rights; the two halves; the page; the history; those to the slots]
-      use1 𝓛 (cut γ table_key some_out) (rights_cut 𝓛 γ some_out table_key (omega arith) refl) $ split ! $ move ! (1 ∷ []) $
-      use1 𝓛 (cut γ table_note more_out) (rights_cut 𝓛 γ more_out table_note (omega arith) refl) $ split ! $
-      -- [its note; the rights; the right; the two halves; the page; the history; those to the slots]
-      move ! (2 ∷ 0 ∷ []) $ fjoin ! $ move ! (5 ∷ 1 ∷ 2 ∷ []) $ use3 𝓛 (‵ (lies_with γ 0)) (word_lies γ) $
-      -- [what lies with the word; the right; the other half; the page; those to the slots]
-      move ! (3 ∷ 4 ∷ []) $ fjoin ! $ move ! (2 ∷ 0 ∷ []) $ fjoin ! $ move ! (2 ∷ 0 ∷ []) $ fjoin ! $ move ! (1 ∷ 0 ∷ []) $ fjoin ! $
+      move ! (4 ∷ 0 ∷ 1 ∷ []) $ use3 𝓛 (‵ (lies_with γ 0)) (word_lies γ) $
+      -- [what lies with the word; the other half; the page; those to the slots]
+      move ! (2 ∷ 3 ∷ []) $ fjoin ! $ move ! (2 ∷ 0 ∷ []) $ fjoin ! $ move ! (1 ∷ 0 ∷ []) $ fjoin ! $
       suffices ! _ (upd_i 𝓤 Z) $ show ! Begun γ $ done !)

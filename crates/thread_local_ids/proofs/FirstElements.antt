@@ -1,15 +1,17 @@
 -- What lies with the word of the first ids: how each step on the word changes it. Assumes `Logic`.
-use Rattle.std.proofs.Common.{◌≡◌, ℕ, ◌+◌, ◌-◌, ◌*◌, ◌/◌, ◌%◌, ◌^◌, ◌<◌, ◌≤◌, ◌==◌, ◌&&◌, Bool, true, false, List, [], ◌∷◌, length}
+use Rattle.std.proofs.Common.{◌≡◌, ◌≢◌, ℕ, ◌+◌, ◌-◌, ◌*◌, ◌/◌, ◌%◌, ◌^◌, ◌<◌, ◌≤◌, ◌==◌, ◌&&◌, Bool, true, false, List, [], ◌∷◌, length}
 use Rattle.std.proofs.Common.{if◌then◌else◌, refl, sym, ap, subst, ◌∙◌, arith, min, eqb}
 use Rattle.std.proofs.lemmas.Bool.{eqb-true}
 use mathlib.Core.List.{IsPrefix}
+use mathlib.Core.Logic.{dite}
+use native.Mathlib.Decide.{ℕ_discrete}
 use seplogic.Ra.Ura.{Ura}
-use base.Logic.{upd, upd_i, guard, id⊢}
+use base.Logic.{SProp, upd, upd_i, guard, guard_i, id⊢}
 use base.Fml.{GName, Lft, Share, Fml, ftrue, fsep, fex, flft, fbor}
 use base.Shift.{Keyless}
 use prog.Atomic.{either}
 use types.Logic.{Logic}
-use types.Kit.{‵, raw, ◌⊛◌, given, settle, frame, check, suffices, ◌$◌, ◌∵◌, !, qed, move, drop, split, split3, fsplit}
+use types.Kit.{‵, raw, ◌⊛◌, given, settle, frame, check, suffices, ◌$◌, ◌∵◌, !, qed, by, move, keep, drop, split, split3, fsplit}
 use types.Kit.{fsplit3, fjoin, fpick, fpack, learn, rewrite, use1, use2, use3, done}
 use denote.RawPtr.{block_ptr}
 use denote.Steps.{nothing}
@@ -36,7 +38,7 @@ use Rattle.thread_local_ids.specs.Returns.{gives as times_given}
 use Rattle.thread_local_ids.specs.FirstIds.{log_key, log_owns, ledger_owns, kept_with, lies_with, tried_owns}
 use Rattle.thread_local_ids.proofs.FirstLaws as laws
 use Rattle.thread_local_ids.proofs.Logs.{O, halved, joined, agree, grown}
-use Rattle.thread_local_ids.proofs.MoveElements.{note_take, note_give, note_publish, page_of, page_is_early}
+use Rattle.thread_local_ids.proofs.MoveElements.{note_take, note_give, note_publish, page_of, page_is_early, history_once}
 use Rattle.thread_local_ids.proofs.MoveElements.{history_keyless, page_keyless, held_keyless}
 use Rattle.thread_local_ids.proofs.RightElements.{rights_cut, rights_join, right_keyless, rights_keyless}
 
@@ -50,6 +52,19 @@ module _ {M : Type 1} {𝓤 : Ura M} (𝓛 : Logic 𝓤) where
   pub log_halved : (γ : GName) (log : List IdMove) → ⟦ log_owns γ true log ⟧ ⊢ ⟦ log_owns γ false log ⟧ ∗ ⟦ log_owns γ false log ⟧
   unfolding log_owns
   log_halved γ log = halved 𝓛 log_key γ log
+
+  -- no two words are of one table
+  word_once : (γ n m : ℕ) (Z : SProp 𝓤) → ⟦ lies_with γ n ⟧ ∗ ⟦ lies_with γ m ⟧ ⊢ Z
+  word_once γ n m Z =
+      qed 𝓛 (‵ (lies_with γ n) ∷ ‵ (lies_with γ m) ∷ []) ∵ fpick ! (λ s. fsplit ! $ fsplit ! $ move ! (3 ∷ []) $
+      fpick ! (λ r. fsplit ! $ fsplit ! $ keep ! (0 ∷ 3 ∷ []) $ by ! (history_once 𝓛 γ r.0 s.0 Z)))
+
+  pub tables_apart : (γ δ n m : ℕ) → ⟦ lies_with γ n ⟧ ∗ ⟦ lies_with δ m ⟧ ⊢ guard 𝓤 (γ ≢ δ) (⟦ lies_with γ n ⟧ ∗ ⟦ lies_with δ m ⟧)
+  tables_apart γ δ n m =
+      let Both : SProp 𝓤 = ⟦ lies_with γ n ⟧ ∗ ⟦ lies_with δ m ⟧ in
+      dite (ℕ_discrete γ δ)
+      (λ same. subst (λ (x : ℕ). ⟦ lies_with γ n ⟧ ∗ ⟦ lies_with x m ⟧ ⊢ guard 𝓤 (γ ≢ δ) Both) same (word_once γ n m (guard 𝓤 (γ ≢ δ) Both)))
+      (λ differ. guard_i 𝓤 (γ ≢ δ) Both differ)
 
   log_agrees : (γ : GName) (a b : List IdMove)
       → ⟦ log_owns γ false a ⟧ ∗ ⟦ log_owns γ false b ⟧ ⊢ guard 𝓤 (a ≡ b) (⟦ log_owns γ false a ⟧ ∗ ⟦ log_owns γ false b ⟧)

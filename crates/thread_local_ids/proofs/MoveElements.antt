@@ -8,6 +8,7 @@ use mathlib.Core.Option.{Option, none, some}
 use base.Stored.{Gv}
 use seplogic.Ra.Ura.{Ura}
 use base.Fraction.{full_share}
+use base.FractionLaws.{not-OpDef-full_share}
 use base.Growing.{prefixes_in_line}
 use base.Logic.{SProp, ex, guard, guard_i, upd, upd_i}
 use Rattle.thread_local_ids.proofs.Logs.{O, shows, part_off, part_twice, grown}
@@ -116,6 +117,15 @@ module _ {M : Type 1} {𝓤 : Ura M} (𝓛 : Logic 𝓤) where
       qed 𝓛 (‵ (history_owns γ moves) ∷ []) ∵ fpick ! (λ δ.
       use1 𝓛 (‵ (page_with γ moves δ.1) ⊛ ‵ (history_as γ moves δ)) (shown γ moves δ) $ split ! $
       fpack ! ℕ (page_with γ moves) δ.1 $ frame ! $ fpack ! Head (history_as γ moves) δ $ done !)
+
+  -- a table has one history
+  pub history_once : (γ : GName) (a b : List IdMove) (Z : SProp 𝓤) → ⟦ history_owns γ a ⟧ ∗ ⟦ history_owns γ b ⟧ ⊢ Z
+  unfolding history_owns
+  history_once γ a b Z =
+      qed 𝓛 (‵ (history_owns γ a) ∷ ‵ (history_owns γ b) ∷ []) ∵ fpick ! (λ δ. fsplit ! $ move ! (2 ∷ []) $ fpick ! (λ ε. fsplit ! $
+      keep ! (2 ∷ 0 ∷ []) $
+      use2 𝓛 (given ⊥ (‵ (own γ (whole δ a)) ⊛ ‵ (own γ (whole ε b))))
+      (shows 𝓛 moves_key γ (whole δ a) (whole ε b) ⊥ (λ d. not-OpDef-full_share full_share d.1.0.0)) $ learn ! (λ never. absurd never)))
 
   pub page_with_twice : (γ : GName) (moves : List IdMove) (room : ℕ)
       → ⟦ page_with γ moves room ⟧ ⊢ ⟦ page_with γ moves room ⟧ ∗ ⟦ page_with γ moves room ⟧

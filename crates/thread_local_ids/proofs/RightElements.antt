@@ -3,8 +3,6 @@ use Rattle.std.proofs.Common.{◌≡◌, ◌≢◌, ℕ, suc, ◌^◌, ◌<◌, 
 use Rattle.std.proofs.Common.{refl, subst, sym, ap, ◌∙◌, arith, ⊎_elim}
 use Rattle.std.specs.Prelude.{nat_lt, nat_le}
 use Rattle.std.proofs.lemmas.Bool.{eqb-true, eq-eqb, ne_eqb, false≢true, lt-ltb, le-ltb, le-leb, lt-leb, cases_lt}
-use native.Mathlib.Decide.{ℕ_discrete}
-use mathlib.Core.Logic.{dite}
 use mathlib.Core.Option.{Option, some}
 use mathlib.Mathlib.Data.Part.{Part, ◌∈◌}
 use seplogic.Ra.Pcs.{OpDef}
@@ -209,21 +207,6 @@ module _ {M : Type 1} {𝓤 : Ura M} (𝓛 : Logic 𝓤) where
   right_once γ id Z =
       own_glued 𝓛 (keyed telling) γ (one_at id) (one_at id) Z
       (λ c m. absurd (twice (id == id) (eq-eqb id id refl) (m.0 id)))
-
-  -- two rights of one table are to different ids
-  pub right_apart : (γ δ : GName) (i j : ℕ)
-      → ⟦ right_owns γ i ⟧ ∗ ⟦ right_owns δ j ⟧
-      ⊢ guard 𝓤 (γ ≡ δ → i ≢ j) (⟦ right_owns γ i ⟧ ∗ ⟦ right_owns δ j ⟧)
-  right_apart γ δ i j =
-      let Both : SProp 𝓤 = ⟦ right_owns γ i ⟧ ∗ ⟦ right_owns δ j ⟧ in
-      let Apart : Type 0 = γ ≡ δ → i ≢ j in
-      dite (ℕ_discrete i j)
-      (λ e. dite (ℕ_discrete γ δ)
-      (λ same.
-      subst (λ (x : ℕ × ℕ). ⟦ right_owns γ i ⟧ ∗ ⟦ right_owns x.0 x.1 ⟧ ⊢ guard 𝓤 Apart Both)
-      (λ k. (same k, e k)) (right_once γ i (guard 𝓤 Apart Both)))
-      (λ differ. guard_i 𝓤 Apart Both (λ same. absurd (differ same))))
-      (λ differ. guard_i 𝓤 Apart Both (λ _. differ))
 
 pub right_keyless : (γ : GName) (id : ℕ) → Keyless (right_owns γ id)
 unfolding right_owns

@@ -1,7 +1,7 @@
 //! The first 58 ids of a table, as the bits of one word that threads change by atomic steps, each
 //! least id by one compare and exchange. For proofs the word keeps the history of all ids of the table
 //! and their rights. The further ids lie under a lock.
-ghost use Rattle.std.specs.Prelude.{◌≡◌, ◌+◌, ◌*◌, ◌-◌, ◌/◌, ◌%◌, ◌^◌, ◌<◌, ◌≤◌, ◌==◌, ◌&&◌, ℕ, max, Bool, true, false, List, [], length, if◌then◌else◌};
+ghost use Rattle.std.specs.Prelude.{◌≡◌, ◌≢◌, ◌+◌, ◌*◌, ◌-◌, ◌/◌, ◌%◌, ◌^◌, ◌<◌, ◌≤◌, ◌==◌, ◌&&◌, ℕ, max, Bool, true, false, List, [], length, if◌then◌else◌};
 ghost use Rattle.std.specs.Prelude.{IfSome, None};
 ghost use base.Stored.{coded_bool};
 ghost use mathlib.Core.List.{IsPrefix};
@@ -84,15 +84,13 @@ impl Model for Trace {
 }
 
 impl FirstIds {
-    /// The first ids of a new table whose further ids the manager gives out. Beside them are the log,
-    /// the table's right, to the number behind the last id, the page from before any id is taken, and
-    /// the rights to its slots.
-    pub(crate) fn begun(manager: &ThreadIdManager) -> (FirstIds, Log, (Right, Page, SlotRights))
+    /// The first ids of a new table whose further ids the manager gives out. Beside them are the log, the
+    /// page from before any id is taken, and the rights to its slots.
+    pub(crate) fn begun(manager: &ThreadIdManager) -> (FirstIds, Log, (Page, SlotRights))
         ensures log { (result.1.table ≡ result.0.table) × (result.1.moves ≡ []) × (result.1.whole ≡ false) }
-        ensures right { (result.2.0.table ≡ result.0.table) × (result.2.0.id ≡ 2 ^ 63 - 1) }
-        ensures page { (result.2.1.table ≡ result.0.table) × (result.2.1.moves ≡ []) }
-        ensures room { result.2.1.room ≡ max 58 manager.now.room }
-        ensures slots { result.2.2.table ≡ result.0.table }
+        ensures page { (result.2.0.table ≡ result.0.table) × (result.2.0.moves ≡ []) }
+        ensures room { result.2.0.room ≡ max 58 manager.now.room }
+        ensures slots { result.2.1.table ≡ result.0.table }
     {
         let _ = manager;
         (
@@ -101,9 +99,6 @@ impl FirstIds {
                 marker: PhantomData,
             },
             (
-                Right {
-                    marker: PhantomData,
-                },
                 Page {
                     marker: PhantomData,
                 },
@@ -113,6 +108,12 @@ impl FirstIds {
             ),
         )
     }
+
+    /// Shows that the ids of two tables have two names. At run time it does nothing.
+    pub(crate) fn apart(&mut self, other: &mut FirstIds)
+        ensures tables { self.old.table ≢ other.old.table }
+        ensures same { (self.new ≡ self.old) × (other.new ≡ other.old) }
+    {}
 
     /// The book with all that was done with the ids by then. In the table's first sharing it tells of each
     /// id that isn't held what the history says.

@@ -1,5 +1,5 @@
 //! The further ids of a table, from 58 on, which lie under its lock.
-ghost use Rattle.std.specs.Prelude.{◌≡◌, ◌+◌, ◌-◌, ◌^◌, ◌≤◌, IfOk, OnErr, None, Ok, Err, Some, alloc_error, length, []};
+ghost use Rattle.std.specs.Prelude.{◌≡◌, ◌≢◌, ◌+◌, ◌-◌, ◌^◌, ◌≤◌, IfOk, OnErr, None, Ok, Err, Some, alloc_error, length, []};
 ghost use mathlib.Core.List.{IsPrefix};
 ghost use Rattle.thread_local_base.specs.IdMoves.{held_after, published_in};
 ghost use Rattle.thread_local_base.specs.Held.{NeedsMemory, IsExhausted};
@@ -11,7 +11,7 @@ use crate::first::{FIRST_IDS, FirstIds, Log, is_full, peak};
 use crate::locks::lock::Fits;
 use crate::rights::held::HeldId;
 use crate::rights::page::Page;
-use crate::rights::right::{Right, SlotRights};
+use crate::rights::right::SlotRights;
 use std::marker::Model;
 use thread_local_base::{LocalError, ThreadIdManager};
 
@@ -108,23 +108,22 @@ impl Further {
     }
 
     /// Takes every id back, also the first ones, and counts the peak anew. The room stays. The rights
-    /// and the history are fresh ones, under another table's name, with that table's own right and
-    /// the rights to its slots.
-    pub(crate) fn clear(&mut self, first: &mut FirstIds) -> (Right, Page, SlotRights)
-        ensures table { (self.new.table ≡ result.0.table) × (first.new.table ≡ result.0.table) }
-        ensures right { result.0.id ≡ 2 ^ 63 - 1 }
-        ensures page { (result.1.table ≡ result.0.table) × (result.1.moves ≡ []) }
-        ensures slots { result.2.table ≡ result.0.table }
+    /// and the history are fresh ones, under another table's name, with the rights to its slots.
+    pub(crate) fn clear(&mut self, first: &mut FirstIds) -> (Page, SlotRights)
+        ensures table { (self.new.table ≡ first.new.table) × (first.new.table ≢ first.old.table) }
+        ensures page { (result.0.table ≡ first.new.table) × (result.0.moves ≡ []) }
+        ensures slots { result.1.table ≡ first.new.table }
         ensures moves { self.new.moves ≡ [] }
         ensures held { self.new.manager.held ≡ [] }
     {
         self.manager.clear();
-        let (begun, log, (right, page, slots)) = FirstIds::begun(&self.manager);
+        let (mut begun, log, (page, slots)) = FirstIds::begun(&self.manager);
+        first.apart(&mut begun);
         *first = begun;
         self.log = log;
         self.start = page.again();
         self.reached = 0;
-        (right, page, slots)
+        (page, slots)
     }
 }
 

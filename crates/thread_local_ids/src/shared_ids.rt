@@ -1,5 +1,5 @@
 //! The ids of a table while threads share it.
-ghost use Rattle.std.specs.Prelude.{◌≡◌, ◌+◌, ◌-◌, ◌^◌, ◌<◌, ◌≤◌, ℕ, min, max, IsOk, IfOk, Err, alloc_error, length, [], true, false};
+ghost use Rattle.std.specs.Prelude.{◌≡◌, ◌≢◌, ◌+◌, ◌-◌, ◌^◌, ◌<◌, ◌≤◌, ℕ, min, max, IsOk, IfOk, Err, alloc_error, length, [], true, false};
 ghost use mathlib.Core.List.{IsPrefix};
 ghost use Rattle.thread_local_base.specs.IdMoves.{held_after, published_in};
 ghost use Rattle.thread_local_base.specs.Buckets.{values};
@@ -14,7 +14,7 @@ use crate::further::Further;
 use crate::locks::lock::Lock;
 use crate::rights::held::HeldId;
 use crate::rights::page::Page;
-use crate::rights::right::{Right, SlotRights};
+use crate::rights::right::SlotRights;
 use crate::tokens::book::Book;
 use std::alloc::{AllocError, Global};
 use std::marker::Model;
@@ -43,13 +43,11 @@ impl Model for SharedIds {
 }
 
 impl SharedIds {
-    /// The ids of a new table, none of them held. For contracts there are beside them the table's own
-    /// right, the page from before any id is taken, and the rights to its slots. Whoever has the
-    /// table's own right can show that another table has another name. It takes no memory, nor do the
-    /// first 58 ids.
-    pub fn new(alloc: Global) -> (SharedIds, Right, Page, SlotRights)
+    /// The ids of a new table, none of them held. For contracts there are beside them the page from
+    /// before any id is taken, and the rights to its slots. It takes no memory, nor do the first 58 ids.
+    pub fn new(alloc: Global) -> (SharedIds, Page, SlotRights)
         ensures new { AreNew result }
-        ensures room { result.2.room ≡ 58 }
+        ensures room { result.1.room ≡ 58 }
     {
         SharedIds::of(ThreadIdManager::new(alloc))
     }
@@ -57,14 +55,11 @@ impl SharedIds {
     /// The ids of a new table as from `new`, with room for `ids` of them, or for every id where that is
     /// less. It asks for memory once, and not at all where `ids` is at most 58. It refuses where that
     /// memory isn't given.
-    pub fn with_room(
-        alloc: Global,
-        ids: usize,
-    ) -> Result<(SharedIds, Right, Page, SlotRights), AllocError>
+    pub fn with_room(alloc: Global, ids: usize) -> Result<(SharedIds, Page, SlotRights), AllocError>
         ensures new { IfOk result AreNew }
-        ensures room { IfOk result (λ made. min ids (2 ^ 63 - 1) ≤ made.2.room) }
-        ensures few { IfOk result (λ made. made.2.room < min ids (2 ^ 63 - 1) + 64) }
-        ensures room_in_range { IfOk result (λ made. made.2.room ≤ 2 ^ 63 - 1) }
+        ensures room { IfOk result (λ made. min ids (2 ^ 63 - 1) ≤ made.1.room) }
+        ensures few { IfOk result (λ made. made.1.room < min ids (2 ^ 63 - 1) + 64) }
+        ensures room_in_range { IfOk result (λ made. made.1.room ≤ 2 ^ 63 - 1) }
         ensures no_ids { ids ≡ 0 → IsOk result }
     {
         let managed = if ids > FIRST_IDS { ids } else { 0 };
@@ -72,12 +67,12 @@ impl SharedIds {
     }
 
     /// The ids of a new table, which the manager gives out from 58 on.
-    fn of(manager: ThreadIdManager) -> (SharedIds, Right, Page, SlotRights)
+    fn of(manager: ThreadIdManager) -> (SharedIds, Page, SlotRights)
         requires { manager.held ≡ [] }
         ensures new { AreNew result }
-        ensures room { result.2.room ≡ max 58 manager.room }
+        ensures room { result.1.room ≡ max 58 manager.room }
     {
-        let (first, log, (right, page, slots)) = FirstIds::begun(&manager);
+        let (first, log, (page, slots)) = FirstIds::begun(&manager);
         let further = Further {
             manager,
             log,
@@ -88,7 +83,7 @@ impl SharedIds {
             first,
             further: Lock::new(further),
         };
-        (ids, right, page, slots)
+        (ids, page, slots)
     }
 
     /// Takes the least id that isn't held, with its right, and leaves the page of all that was done
@@ -206,13 +201,12 @@ impl SharedIds {
     }
 
     /// Takes every id back, those of forgotten holders too, and counts the peak anew. The room stays.
-    /// For contracts the ids are those of another table from then on: it answers that table's right,
-    /// its page from before any id is taken, and the rights to its slots. Whoever has the right of the
-    /// table before shows that the two have two names.
-    pub fn clear(&mut self) -> (Right, Page, SlotRights)
-        ensures right { (self.new.table ≡ result.0.table) × (result.0.id ≡ 2 ^ 63 - 1) }
-        ensures page { (result.1.table ≡ self.new.table) × (result.1.moves ≡ []) }
-        ensures slots { result.2.table ≡ self.new.table }
+    /// For contracts the ids are those of another table from then on: it answers that table's page from
+    /// before any id is taken, and the rights to its slots.
+    pub fn clear(&mut self) -> (Page, SlotRights)
+        ensures table { self.new.table ≢ self.old.table }
+        ensures page { (result.0.table ≡ self.new.table) × (result.0.moves ≡ []) }
+        ensures slots { result.1.table ≡ self.new.table }
     {
         self.further.get_mut().clear(&mut self.first)
     }

@@ -47,7 +47,7 @@ fn take_two<R: Wait>(
 {
     let mut first = ids.take(rt, page)?;
     let mut second = ids.take(rt, page)?;
-    first.right.apart(&mut second.right);
+    first.tenure.apart(&mut second.tenure);
     Ok((first, second))
 }
 

@@ -1,10 +1,12 @@
-//! Tests of rights: two are apart, they take no bytes, and stand in types of one's own.
-ghost use Rattle.std.specs.Prelude.{◌≡◌};
+//! Tests of rights: they take no bytes, and stand in types of one's own; a cleared table has another
+//! name.
+ghost use Rattle.std.specs.Prelude.{◌≡◌, ◌≢◌};
 
 use crate::same::assert_same;
+use crate::shared_ids::Table;
 use std::mem;
-use thread_local_base::manager::IDS;
-use thread_local_ids::{Page, Right, SharedIds, SlotRights, Tenure};
+use std::test::Fail;
+use thread_local_ids::{HeldId, Page, Right, SharedIds, SlotRights, Tenure};
 
 /// Where a right may stand: in a struct and in an enum.
 #[derive(Drop)]
@@ -20,13 +22,22 @@ struct Held {
     ghost own: { right.id ≡ id },
 }
 
+/// Takes every id back.
+fn clear(ids: &mut SharedIds) -> Page
+    ensures table { ids.new.table ≢ ids.old.table }
+    ensures page { result.table ≡ ids.new.table }
+{
+    ids.clear().0
+}
+
 #[test]
-fn two_tables_rights_are_apart(rt: HostRuntime) {
-    let (mut ids, mut old, ..) = SharedIds::new(rt.alloc());
-    let (mut new, ..) = ids.clear();
-    old.apart(&mut new);
-    mem::swap(&mut old, &mut new);
-    old.apart(&mut new);
+fn a_cleared_table_has_another_name(rt: HostRuntime) -> Result<(), Fail> {
+    let (mut ids, mut page, _) = SharedIds::new(rt.alloc());
+    let first = ids.take(&rt, &mut page)?.id;
+    let mut page = clear(&mut ids);
+    let again = ids.take(&rt, &mut page)?.id;
+    assert_same(&rt, [first, again], [0; 2]);
+    Ok(())
 }
 
 #[test]
@@ -41,13 +52,19 @@ fn a_right_takes_no_bytes(rt: HostRuntime) {
 }
 
 #[test]
-fn a_right_stands_in_a_struct_and_in_an_enum(rt: HostRuntime) {
-    let (_ids, right, ..) = SharedIds::new(rt.alloc());
-    let mut slot = Slot::Taken(Held { id: IDS, right });
+fn a_right_stands_in_a_struct_and_in_an_enum(rt: HostRuntime) -> Result<(), Fail> {
+    let table = Table::new(rt.alloc());
+    let HeldId {
+        id,
+        right,
+        tenure: _,
+    } = table.take(&rt)?;
+    let mut slot = Slot::Taken(Held { id, right });
     let before = mem::replace(&mut slot, Slot::Vacant);
     if let Slot::Taken(held) = before {
-        assert_same(&rt, held.id, IDS);
+        assert_same(&rt, held.id, 0);
         mem::forget(held);
     }
     drop(slot);
+    Ok(())
 }

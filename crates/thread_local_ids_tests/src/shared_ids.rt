@@ -12,7 +12,7 @@ use std::test::Fail;
 use std::thread;
 use std::thread::Threads;
 use thread_local_base::LocalError;
-use thread_local_ids::{HeldId, Page, Right, SharedIds, SlotRights};
+use thread_local_ids::{HeldId, Page, SharedIds, SlotRights};
 
 /// The ids of a table, with its first page.
 #[derive(Drop)]
@@ -35,10 +35,10 @@ impl Table {
     }
 
     /// The table of new ids.
-    fn of(made: (SharedIds, Right, Page, SlotRights)) -> Table
+    fn of(made: (SharedIds, Page, SlotRights)) -> Table
         requires { AreNew made }
     {
-        let (ids, _, start, _) = made;
+        let (ids, start, _) = made;
         Table { ids, start }
     }
 
@@ -65,7 +65,7 @@ impl Table {
     /// The table once every id was taken back.
     fn cleared(self) -> Table {
         let Self { mut ids, start: _ } = self;
-        let (_, start, _) = ids.clear();
+        let (start, _) = ids.clear();
         Table { ids, start }
     }
 

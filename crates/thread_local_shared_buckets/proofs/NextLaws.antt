@@ -1,12 +1,11 @@
 -- What `next` of a shared walk does, with ids, tokens or neither, by what the step under it does.
-use Rattle.std.proofs.Common.{◌≡◌, ℕ, suc, ◌+◌, ◌-◌, ◌^◌, ◌<◌, ◌≤◌, Option, None, Some, IfSome, option_map, ap, sym, ◌∙◌, subst, arith}
+use Rattle.std.proofs.Common.{◌≡◌, ℕ, suc, ◌+◌, ◌-◌, ◌^◌, ◌<◌, ◌≤◌, Option, None, Some, option_map, sym, ◌∙◌, subst, arith}
 use Rattle.std.proofs.Common.{inl, inr, refl, ⊎_elim}
 use Rattle.std.specs.Iterator.{MakesProgress}
 use denote.Ref.{Bor}
 use denote.RattleType.{RattleType}
 use Rattle.thread_local_base.specs.Cursor.{cursor_id}
-use Rattle.thread_local_ids.specs.Views.{TokenView}
-use Rattle.thread_local_shared_buckets.specs.Walks.{WalkView, Goes, GoesWithIds, GoesWithTokens, CanGo, ids_left}
+use Rattle.thread_local_shared_buckets.specs.Walks.{WalkView, Goes, GoesWithIds, CanGo, ids_left}
 
 module _ {V : Type 0} where
   -- a call that gives an item leaves a walk that may go on, with fewer ids ahead

@@ -19,7 +19,7 @@ use crate::announcements::load_announced;
 use crate::parts::SharedParts;
 use std::marker::{Move, Owns, PhantomData};
 use thread_local_buckets::{BucketPointers, Buckets, take_first_bucket};
-use thread_local_ids::{Book, Page, Right, SlotRights, Told};
+use thread_local_ids::{Book, Page, SlotRights, Told};
 
 mod lends;
 
@@ -48,69 +48,58 @@ impl<T> Move for Shared<T> {
 
 impl<T> Shared<T> {
     /// Lets threads share an owner's buckets, of which it takes the pointers and the number of
-    /// reserved slots, as the buckets of the table that the right belongs to. The sharing gets a
-    /// name.
-    pub fn new(pointers: BucketPointers<T>, reserved: usize, own: &Right) -> Shared<T>
+    /// reserved slots, as the buckets of the table that the page is of. The sharing gets a name.
+    pub fn new(pointers: BucketPointers<T>, reserved: usize, page: &Page) -> Shared<T>
         requires judged { Judged T.row }
         requires owned { IsOwned (record { contents = pointers; reserved = reserved }) }
-        ensures table { result.table ≡ own.now.table }
+        ensures table { result.table ≡ page.now.table }
         ensures sharing { IsSome result.sharing × Belongs result.sharing result.table }
         ensures reserved { result.reserved ≡ reserved }
         ensures grown { result.grown_by_ids ≡ only_reserved (record { contents = pointers; reserved = reserved }) }
     {
-        let _ = own;
+        let _ = page;
         Shared { pointers, reserved }
     }
 
-    /// `new` where no slot has a value, in the first sharing of the table: its history of ids says what
-    /// each slot is published with.
-    pub fn first(
-        pointers: BucketPointers<T>,
-        reserved: usize,
-        own: &Right,
-        slots: SlotRights,
-    ) -> Shared<T>
+    /// `new` where no slot has a value, in the first sharing of the table that the rights are of: its
+    /// history of ids says what each slot is published with.
+    pub fn first(pointers: BucketPointers<T>, reserved: usize, slots: SlotRights) -> Shared<T>
         requires judged { Judged T.row }
         requires owned { IsOwned (record { contents = pointers; reserved = reserved }) }
         requires blank { (id : ℕ) → values pointers id ≡ None }
-        requires table { slots.table ≡ own.now.table }
-        ensures table { result.table ≡ own.now.table }
+        ensures table { result.table ≡ slots.table }
         ensures sharing { result.sharing ≡ Some (first_of result.table) }
         ensures reserved { result.reserved ≡ reserved }
         ensures grown { result.grown_by_ids ≡ only_reserved (record { contents = pointers; reserved = reserved }) }
     {
-        let _ = own;
         let _ = slots;
         Shared { pointers, reserved }
     }
 
-    /// Ends the sharing, and begins another one of the same buckets, as the buckets of the table
-    /// that the right belongs to, with a name other than `past`. At run time it does nothing.
-    pub fn renew(&mut self, own: &Right)
+    /// Ends the sharing, and begins another one of the same buckets, with a name other than `past`. At
+    /// run time it does nothing.
+    pub fn renew(&mut self)
         ghost past: { Option ℕ }
         requires judged { Judged T.row }
-        ensures table { self.new.table ≡ own.now.table }
+        ensures table { self.new.table ≡ self.old.table }
         ensures sharing { IsSome self.new.sharing × (self.new.sharing ≢ past) }
         ensures belongs { Belongs self.new.sharing self.new.table }
         ensures later { is_first self.new.sharing self.new.table ≡ false }
         ensures reserved { self.new.reserved ≡ self.old.reserved }
-        ensures grown { self.old.table ≡ own.now.table → self.new.grown_by_ids ≡ self.old.grown_by_ids }
-    {
-        let _ = own;
-    }
+        ensures grown { self.new.grown_by_ids ≡ self.old.grown_by_ids }
+    {}
 
     /// Drops every value, and frees every bucket that isn't reserved. From then on the buckets are
-    /// those of the table that the right belongs to, in its first sharing.
-    pub fn clear(&mut self, own: &Right, slots: SlotRights)
+    /// those of the table that the rights are of, in its first sharing.
+    pub fn clear(&mut self, slots: SlotRights)
     where
         T: Drop,
-        requires table { slots.table ≡ own.now.table }
-        ensures table { self.new.table ≡ own.now.table }
+        ensures table { self.new.table ≡ slots.table }
         ensures sharing { self.new.sharing ≡ Some (first_of self.new.table) }
         ensures reserved { self.new.reserved ≡ self.old.reserved }
         ensures grown { self.new.grown_by_ids ≡ true }
     {
-        self.owner_before_first(own, slots).clear();
+        self.owner_before_first(slots).clear();
     }
 
     /// Gives the pointers and the number of reserved slots back to an owner, with all that was lent

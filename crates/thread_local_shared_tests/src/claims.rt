@@ -21,7 +21,7 @@ impl<T: Drop> Kept<'_, T> {
 fn a_claim_goes_to_another_thread(rt: HostRuntime) -> Result<(), Fail> {
     let table = Table::new(rt.alloc());
     Cell::<u64>::judge();
-    let shared = share(Buckets::with_capacity(rt.alloc(), 1)?, &table.right);
+    let shared = share(Buckets::with_capacity(rt.alloc(), 1)?, &table.start);
     let claimed = Kept {
         claim: shared.claim(table.take(&rt)?),
     };
@@ -42,7 +42,7 @@ fn threads_share_a_claim(rt: HostRuntime) -> Result<(), Fail> {
     let table = Table::new(rt.alloc());
     let mut buckets = Buckets::new(rt.alloc());
     assert_same(&rt, buckets.insert(Thread::new(0), 5u32).is_ok(), true);
-    let shared = share(buckets, &table.right);
+    let shared = share(buckets, &table.start);
     let claim = shared.claim(table.take(&rt)?);
     let both = thread::join(&rt, || found(&claim), || found(&claim));
     assert_same(&rt, both, (Some(5), Some(5)));
@@ -63,7 +63,7 @@ fn stand(shared: &Shared<u32>) -> [bool; 3] {
 #[test]
 fn reserved_buckets_stand(rt: HostRuntime) -> Result<(), Fail> {
     let table = Table::new(rt.alloc());
-    let shared = share(Buckets::with_capacity(rt.alloc(), 4)?, &table.right);
+    let shared = share(Buckets::with_capacity(rt.alloc(), 4)?, &table.start);
     assert_same(
         &rt,
         (shared.reserved(), stand(&shared)),

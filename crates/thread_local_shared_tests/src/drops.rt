@@ -26,7 +26,7 @@ fn each_value_is_dropped_once(rt: HostRuntime) -> Result<(), Fail> {
         assert_same(&rt, buckets.insert(Thread::new(id), value).is_ok(), true);
     }
     judge_sync::<Counted>();
-    let shared = share(buckets, &table.right);
+    let shared = share(buckets, &table.start);
     let before = drops.load(SeqCst);
     drop(shared);
     assert_same(&rt, (before, drops.load(SeqCst)), (0, 100));
@@ -71,7 +71,7 @@ fn each_published_value_is_dropped_once(rt: HostRuntime) -> Result<(), Fail> {
     let drops = Arc::new(rt.alloc(), AtomicU64::new(0))?;
     let table = Table::new(rt.alloc());
     judge_sync::<Counted>();
-    let shared = share(Buckets::new(rt.alloc()), &table.right);
+    let shared = share(Buckets::new(rt.alloc()), &table.start);
     let published = publish_counted(&shared, &table, &rt, rt.alloc(), &drops, 100);
     let given_way = drops.load(SeqCst);
     let mut values = take_back(shared).0.into_iter();
@@ -125,7 +125,7 @@ fn a_forgotten_claim_costs_its_own_slot(rt: HostRuntime) {
     let table = Table::new(rt.alloc());
     let mut buckets = Buckets::new(rt.alloc());
     let inserted = buckets.insert(Thread::new(0), 5u32).is_ok();
-    let shared = share(buckets, &table.right);
+    let shared = share(buckets, &table.start);
     let told = forget_two(&shared, &table, &rt, rt.alloc()).ok();
     let seen = [look(&shared, 0), look(&shared, 1), look(&shared, 2)];
     let left = first_three(take_back(shared).0);

@@ -56,7 +56,7 @@ fn look_while_claimed<R: Threads>(
 fn a_number_is_handed_on_from_thread_to_thread(rt: HostRuntime) -> Result<(), Fail> {
     let table = Table::new(rt.alloc());
     Cell::<u64>::judge();
-    let shared = share(Buckets::new(rt.alloc()), &table.right);
+    let shared = share(Buckets::new(rt.alloc()), &table.start);
     let held = table.take(&rt)?;
     let alloc = rt.alloc();
     let there = &shared;
@@ -79,7 +79,7 @@ fn a_walker_sees_a_value_that_is_claimed(rt: HostRuntime) -> Result<(), Fail> {
     let table = Table::new(rt.alloc());
     let mut buckets = Buckets::new(rt.alloc());
     assert_same(&rt, buckets.insert(Thread::new(0), 9).is_ok(), true);
-    let mut shared = share(buckets, &table.right);
+    let mut shared = share(buckets, &table.start);
     let held = table.take(&rt)?;
     let (own, seen) = look_while_claimed(&rt, &shared, held);
     assert_same(&rt, [own, seen, look(&shared, 1)], [Some(9), Some(9), None]);
@@ -95,7 +95,7 @@ fn comes_back<R: Wait, T: Send + Drop>(rt: &R, alloc: Global, value: T) -> bool
     requires judged { Judged T.row }
 {
     let table = Table::new(alloc);
-    let shared = share(Buckets::new(alloc), &table.right);
+    let shared = share(Buckets::new(alloc), &table.start);
     let Ok(held) = table.take(rt) else {
         return false;
     };

@@ -107,7 +107,7 @@ fn slots_and_values(shared: Shared<u64>) -> (usize, usize) {
 #[test]
 fn blocks_that_come_second_are_freed(rt: HostRuntime) -> Result<(), Fail> {
     let table = Table::new(rt.alloc());
-    let shared = share(Buckets::new(rt.alloc()), &table.right);
+    let shared = share(Buckets::new(rt.alloc()), &table.start);
     for _ in 0..1_048_575 {
         let _held = table.take(&rt)?;
     }
@@ -173,7 +173,7 @@ fn offer_two(
 #[test]
 fn the_second_of_two_blocks_gives_way(rt: HostRuntime) -> Result<(), Fail> {
     let table = Table::new(rt.alloc());
-    let shared = share(Buckets::new(rt.alloc()), &table.right);
+    let shared = share(Buckets::new(rt.alloc()), &table.start);
     let _first = table.take(&rt)?;
     let second = claim_early(&shared, table.take(&rt)?);
     let third = claim_early(&shared, table.take(&rt)?);
@@ -202,7 +202,7 @@ fn publish_late(early: Kept<'_, u32>, alloc: Global, value: u32) -> bool {
 #[test]
 fn an_early_claim_finds_its_bucket_later(rt: HostRuntime) -> Result<(), Fail> {
     let table = Table::new(rt.alloc());
-    let shared = share(Buckets::new(rt.alloc()), &table.right);
+    let shared = share(Buckets::new(rt.alloc()), &table.start);
     let _first = table.take(&rt)?;
     let second = claim_early(&shared, table.take(&rt)?);
     let third = claim_early(&shared, table.take(&rt)?);
@@ -239,7 +239,7 @@ fn publish_in_room(early: Kept<'_, u32>, alloc: &Global, value: u32) -> bool {
 #[test]
 fn an_early_claim_makes_no_block_where_its_bucket_stands(rt: HostRuntime) -> Result<(), Fail> {
     let table = Table::new(rt.alloc());
-    let shared = share(Buckets::new(rt.alloc()), &table.right);
+    let shared = share(Buckets::new(rt.alloc()), &table.start);
     let _first = table.take(&rt)?;
     let second = claim_early(&shared, table.take(&rt)?);
     let third = claim_early(&shared, table.take(&rt)?);
@@ -274,7 +274,7 @@ fn make_and_release(early: Kept<'_, u32>, alloc: &Global) -> [bool; 2] {
 #[test]
 fn room_for_a_value_installs_nothing(rt: HostRuntime) -> Result<(), Fail> {
     let table = Table::new(rt.alloc());
-    let shared = share(Buckets::new(rt.alloc()), &table.right);
+    let shared = share(Buckets::new(rt.alloc()), &table.start);
     let first = claim_early(&shared, table.take(&rt)?);
     let made = make_and_release(first, &rt.alloc());
     assert_same(&rt, (made, left(shared)), ([true; 2], (0, [None; 3])));

@@ -23,7 +23,7 @@ fn a_look_finds_what_was_put_into_its_slot(rt: HostRuntime) -> Result<(), Fail> 
         buckets.insert(Thread::new(1234), 7).is_ok(),
     ];
     assert_same(&rt, inserted, [true; 3]);
-    let mut shared = share(buckets, &table.right);
+    let mut shared = share(buckets, &table.start);
     let before = seen(&shared);
     let slots = shared.owner().slots();
     let values = [Some(5), Some(6), Some(7)];

@@ -77,7 +77,7 @@ fn cleared<T: Drop>(table: Table, shared: &mut Shared<T>) -> Table
     ensures grown { shared.new.grown_by_ids ≡ true }
 {
     let (table, slots) = table.cleared();
-    shared.clear(&table.right, slots);
+    shared.clear(slots);
     table
 }
 
@@ -89,7 +89,7 @@ fn cleared_buckets_are_those_of_a_new_table(rt: HostRuntime) -> Result<(), Fail>
         buckets.insert(Thread::new(0), 5u32).is_ok(),
         buckets.insert(Thread::new(1234), 6).is_ok(),
     ];
-    let mut shared = share(buckets, &table.right);
+    let mut shared = share(buckets, &table.start);
     let before = [look(&shared, 0), look(&shared, 1234)];
     let table = cleared(table, &mut shared);
     let after = [look(&shared, 0), look(&shared, 1234)];

@@ -8,16 +8,15 @@ use std::alloc::Global;
 use std::sync::Wait;
 use thread_local_base::{LocalError, Thread, bucket_size};
 use thread_local_buckets::{Buckets, flag_word_at};
-use thread_local_ids::{Book, HeldId, Page, Right, SharedIds, SlotRights, Told};
+use thread_local_ids::{Book, HeldId, Page, SharedIds, SlotRights, Told};
 use thread_local_shared_buckets::{Claim, Shared};
 
-/// The ids of a table, with the table's right and its first page.
+/// The ids of a table, with its first page.
 #[derive(Drop)]
 pub struct Table {
     pub ids: SharedIds,
-    pub right: Right,
     pub start: Page,
-    ghost of_one: { (right.table ≡ ids.table) × (start.table ≡ ids.table) },
+    ghost of_one: { start.table ≡ ids.table },
 }
 
 impl Table {
@@ -30,8 +29,8 @@ impl Table {
     pub fn with_slots(alloc: Global) -> (Table, SlotRights)
         ensures { result.1.table ≡ result.0.ids.table }
     {
-        let (ids, right, start, slots) = SharedIds::new(alloc);
-        let table = Table { ids, right, start };
+        let (ids, start, slots) = SharedIds::new(alloc);
+        let table = Table { ids, start };
         (table, slots)
     }
 
@@ -39,13 +38,9 @@ impl Table {
     pub fn cleared(self) -> (Table, SlotRights)
         ensures { result.1.table ≡ result.0.ids.table }
     {
-        let Self {
-            mut ids,
-            right: _,
-            start: _,
-        } = self;
-        let (right, start, slots) = ids.clear();
-        let table = Table { ids, right, start };
+        let Self { mut ids, start: _ } = self;
+        let (start, slots) = ids.clear();
+        let table = Table { ids, start };
         (table, slots)
     }
 
@@ -53,11 +48,7 @@ impl Table {
     pub fn into_ids(self) -> SharedIds
         ensures { result ≡ self.ids }
     {
-        let Self {
-            ids,
-            right: _,
-            start: _,
-        } = self;
+        let Self { ids, start: _ } = self;
         ids
     }
 
@@ -79,20 +70,20 @@ pub fn begun<T>(alloc: Global) -> (Table, Shared<T>)
 {
     let (table, slots) = Table::with_slots(alloc);
     let (pointers, reserved) = Buckets::new(alloc).into_parts();
-    let shared = Shared::first(pointers, reserved, &table.right, slots);
+    let shared = Shared::first(pointers, reserved, slots);
     (table, shared)
 }
 
 /// Lets threads share an owner's buckets. The sharing may have any name.
-pub fn share<T>(buckets: Buckets<T>, own: &Right) -> Shared<T>
+pub fn share<T>(buckets: Buckets<T>, page: &Page) -> Shared<T>
     requires judged { Judged T.row }
-    ensures table { result.table ≡ own.now.table }
+    ensures table { result.table ≡ page.now.table }
     ensures sharing { IsSome result.sharing }
     ensures belongs { Belongs result.sharing result.table }
     ensures reserved { result.reserved ≡ buckets.reserved }
 {
     let (pointers, reserved) = buckets.into_parts();
-    Shared::new(pointers, reserved, own)
+    Shared::new(pointers, reserved, page)
 }
 
 /// Gives the buckets back to an owner, with what the slots were published with.

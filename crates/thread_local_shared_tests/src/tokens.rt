@@ -11,7 +11,7 @@ use std::cell::Cell;
 use std::test::Fail;
 use thread_local_base::{Judge, Thread, judge_sync};
 use thread_local_buckets::Buckets;
-use thread_local_ids::{HeldId, Right, Token, Told};
+use thread_local_ids::{HeldId, Page, Token, Told};
 use thread_local_shared_buckets::{Claim, Shared};
 
 /// Publishes a value, and answers a token of what the slot was published with. In the first sharing
@@ -93,13 +93,13 @@ fn read<'a, T: Sync>(shared: &'a Shared<T>, token: &Token<T>) -> &'a T
 }
 
 /// Another sharing has a name, which isn't that of the one before.
-fn renewed<T>(shared: &mut Shared<T>, own: &Right)
-    ensures table { shared.new.table ≡ own.now.table }
+fn renewed<T>(shared: &mut Shared<T>)
+    ensures table { shared.new.table ≡ shared.old.table }
     ensures sharing { IsSome shared.new.sharing × (shared.new.sharing ≢ shared.old.sharing) }
     ensures belongs { Belongs shared.new.sharing shared.new.table }
 {
     shared.judged();
-    shared.renew(own);
+    shared.renew();
 }
 
 /// What the next claim of a token's slot holds, and the id of the token that it answers.
@@ -130,7 +130,7 @@ fn found_by_two(
 #[test]
 fn a_token_says_what_was_published(rt: HostRuntime) -> Result<(), Fail> {
     let table = Table::new(rt.alloc());
-    let shared = share(Buckets::new(rt.alloc()), &table.right);
+    let shared = share(Buckets::new(rt.alloc()), &table.start);
     let (held, token) = told(&shared, table.take(&rt)?, rt.alloc(), 7u32);
     let token = token.expect(&rt, "a token");
     let seen = held_again(&shared, held, &token);
@@ -151,7 +151,7 @@ fn a_token_says_what_was_published(rt: HostRuntime) -> Result<(), Fail> {
 #[test]
 fn a_vacant_slot_has_no_token(rt: HostRuntime) -> Result<(), Fail> {
     let table = Table::new(rt.alloc());
-    let shared = share::<u32>(Buckets::with_capacity(rt.alloc(), 1)?, &table.right);
+    let shared = share::<u32>(Buckets::with_capacity(rt.alloc(), 1)?, &table.start);
     let mut claim = shared.claim(table.take(&rt)?);
     let before = claim.token().is_none();
     let after = if claim.is_missing() || claim.get().is_some() {
@@ -169,7 +169,7 @@ fn a_vacant_slot_has_no_token(rt: HostRuntime) -> Result<(), Fail> {
 fn a_text_is_read_by_its_token(rt: HostRuntime) -> Result<(), Fail> {
     let table = Table::new(rt.alloc());
     judge_sync::<String>();
-    let shared = share(Buckets::new(rt.alloc()), &table.right);
+    let shared = share(Buckets::new(rt.alloc()), &table.start);
     let text = String::new(rt.alloc());
     let (_, token) = told(&shared, table.take(&rt)?, rt.alloc(), text);
     let len = token.map(|token| read(&shared, &token).len());
@@ -178,20 +178,20 @@ fn a_text_is_read_by_its_token(rt: HostRuntime) -> Result<(), Fail> {
 }
 
 /// Cells that threads hand on, in no bucket yet.
-fn cells(alloc: Global, own: &Right) -> Shared<Cell<u32>>
-    ensures table { result.table ≡ own.now.table }
+fn cells(alloc: Global, page: &Page) -> Shared<Cell<u32>>
+    ensures table { result.table ≡ page.now.table }
     ensures belongs { Belongs result.sharing result.table }
 {
     Cell::<u32>::judge();
-    share(Buckets::new(alloc), own)
+    share(Buckets::new(alloc), page)
 }
 
 #[test]
 fn renewed_buckets_keep_their_values(rt: HostRuntime) -> Result<(), Fail> {
     let table = Table::new(rt.alloc());
-    let mut shared = cells(rt.alloc(), &table.right);
+    let mut shared = cells(rt.alloc(), &table.start);
     let (held, first) = told(&shared, table.take(&rt)?, rt.alloc(), Cell::new(3));
-    renewed(&mut shared, &table.right);
+    renewed(&mut shared);
     let (_, second) = told(&shared, held, rt.alloc(), Cell::new(4));
     let slots = shared.slots_reached(&table.start, &Told::new()).0;
     let values = take_back(shared).0.into_iter().next().map(|c| c.get());

@@ -1,7 +1,6 @@
 //! The right to an id is out, as a `Right` with one holder, or it lies with the table's ids. The same
-//! holds of numbers that are no ids, which notes, the table's own right, its history and its log are
-//! to. No type here has bytes, and no call does anything at run time.
-ghost use Rattle.std.specs.Prelude.{◌≡◌, ◌≢◌, ℕ, Option};
+//! holds of numbers that are no ids, which notes, the history and its log are to. No type here has bytes, and no call does anything at run time.
+ghost use Rattle.std.specs.Prelude.{◌≡◌, ℕ, Option};
 ghost use types.Logic.{sem};
 ghost use base.Stored.{Gv};
 ghost use Rattle.thread_local_base.specs.IdMoves.{left_coded};
@@ -39,13 +38,6 @@ impl Model for SlotRights {
 }
 
 impl Right {
-    /// Shows that two rights of one table are to different ids, and so that two to one id are of
-    /// tables of different names.
-    pub fn apart(&mut self, other: &mut Right)
-        ensures ids { self.old.table ≡ other.old.table → self.old.id ≢ other.old.id }
-        ensures same { (self.new ≡ self.old) × (other.new ≡ other.old) }
-    {}
-
     /// Leaves the right with the caller's proof, as for an invariant of its own. At run time it
     /// does nothing.
     pub fn lay_down(self)

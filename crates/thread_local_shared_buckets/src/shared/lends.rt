@@ -10,7 +10,7 @@ ghost use Rattle.thread_local_shared_buckets.specs.Lent.{view_with, view_begun};
 use super::Shared;
 use std::marker::PhantomData;
 use thread_local_buckets::Buckets;
-use thread_local_ids::{Book, Right, SlotRights};
+use thread_local_ids::{Book, SlotRights};
 
 impl<T> Shared<T> {
     /// The buckets, lent to an owner with all that was lent while they were shared. Once the loan
@@ -25,16 +25,14 @@ impl<T> Shared<T> {
         self.owner_and_book().0
     }
 
-    /// `owner`, whose end makes the buckets those of the table that the right belongs to. They are in
-    /// its first sharing if the owner leaves no value.
-    pub(super) fn owner_before_first(&mut self, own: &Right, slots: SlotRights) -> &mut Buckets<T>
-        requires table { slots.table ≡ own.now.table }
+    /// `owner`, whose end makes the buckets those of the table that the rights are of. They are in its
+    /// first sharing if the owner leaves no value.
+    pub(super) fn owner_before_first(&mut self, slots: SlotRights) -> &mut Buckets<T>
         ensures* writes_back { sem 𝓛
             (follows (the_row T.row) (owner_row T.row) self.entry.ghost_name result.ghost_name
-            (view_begun own.now.table)) }
+            (view_begun slots.table)) }
         ensures reserved { result.now.reserved ≡ self.old.reserved }
     {
-        let _ = own;
         let _ = slots;
         unsafe { &mut *(self as *mut Shared<T> as *mut Buckets<T>) }
     }

@@ -6,57 +6,57 @@ use crate::steps::{has_bit, share, take_back};
 use std::cell::{Cell, RefCell};
 use thread_local_base::{Judge, bucket_size, judge_sync};
 use thread_local_buckets::{Buckets, flag_word_at};
-use thread_local_ids::{Page, Right, Token, Told};
+use thread_local_ids::{Page, Token, Told};
 use thread_local_shared_buckets::{Row, Shared, SharedBucket};
 
 fn crosses<X: Send + Sync>(_there: &X) {}
 
-fn number(buckets: Buckets<u32>, own: &Right) -> Shared<u32>
+fn number(buckets: Buckets<u32>, page: &Page) -> Shared<u32>
     ensures { result.reserved ≡ buckets.reserved }
 {
-    share(buckets, own)
+    share(buckets, page)
 }
 
-fn boxed(buckets: Buckets<Box<u32>>, own: &Right) -> Shared<Box<u32>>
+fn boxed(buckets: Buckets<Box<u32>>, page: &Page) -> Shared<Box<u32>>
     ensures { result.reserved ≡ buckets.reserved }
 {
-    share(buckets, own)
+    share(buckets, page)
 }
 
-fn text(buckets: Buckets<String>, own: &Right) -> Shared<String>
+fn text(buckets: Buckets<String>, page: &Page) -> Shared<String>
     ensures { result.reserved ≡ buckets.reserved }
 {
     judge_sync::<String>();
-    share(buckets, own)
+    share(buckets, page)
 }
 
-fn cell(buckets: Buckets<Cell<u64>>, own: &Right) -> Shared<Cell<u64>>
+fn cell(buckets: Buckets<Cell<u64>>, page: &Page) -> Shared<Cell<u64>>
     ensures { result.reserved ≡ buckets.reserved }
 {
     Cell::<u64>::judge();
-    share(buckets, own)
+    share(buckets, page)
 }
 
-fn ref_cell(buckets: Buckets<RefCell<String>>, own: &Right) -> Shared<RefCell<String>>
+fn ref_cell(buckets: Buckets<RefCell<String>>, page: &Page) -> Shared<RefCell<String>>
     ensures { result.reserved ≡ buckets.reserved }
 {
     RefCell::<String>::judge();
-    let shared = share(buckets, own);
+    let shared = share(buckets, page);
     crosses(&shared);
     shared
 }
 
-fn generic<T>(buckets: Buckets<T>, own: &Right) -> Shared<T>
+fn generic<T>(buckets: Buckets<T>, page: &Page) -> Shared<T>
     requires judged { Judged T.row }
-    ensures { (result.table ≡ own.now.table) × (result.reserved ≡ buckets.reserved) }
+    ensures { (result.table ≡ page.now.table) × (result.reserved ≡ buckets.reserved) }
 {
-    share(buckets, own)
+    share(buckets, page)
 }
 
-fn sync<T: Send + Sync>(buckets: Buckets<T>, own: &Right) -> Shared<T>
+fn sync<T: Send + Sync>(buckets: Buckets<T>, page: &Page) -> Shared<T>
     ensures { result.reserved ≡ buckets.reserved }
 {
-    share(buckets, own)
+    share(buckets, page)
 }
 
 fn cell_row(shared: &Shared<Cell<u64>>) -> Option<Row<'_, Cell<u64>>> {
@@ -84,11 +84,11 @@ fn back(shared: Shared<RefCell<String>>) -> Buckets<RefCell<String>>
 }
 
 /// Buckets that are shared anew, by a caller that knows of the type what the buckets keep.
-fn anew<T>(shared: Shared<T>, own: &Right) -> Shared<T>
-    ensures { (result.table ≡ own.now.table) × (result.reserved ≡ shared.reserved) }
+fn anew<T>(shared: Shared<T>, page: &Page) -> Shared<T>
+    ensures { (result.table ≡ page.now.table) × (result.reserved ≡ shared.reserved) }
 {
     shared.judged();
-    share(take_back(shared).0, own)
+    share(take_back(shared).0, page)
 }
 
 fn published<'a>(row: &Row<'a, String>, bucket: usize, index: usize) -> Option<&'a String>

@@ -1,5 +1,5 @@
 -- new buckets have no value
-use Rattle.std.proofs.Common.{◌≡◌, ◌∙◌, ℕ, None, lit<, ap, sym}
+use Rattle.std.proofs.Common.{◌≡◌, ◌∙◌, ℕ, None, lit<, ap}
 use Rattle.thread_local_base.specs.Buckets.{Contents, values}
 use Rattle.thread_local_base.proofs.ValueLaws.{values-no_contents}
 use Rattle.thread_local_shared_tests.proofs.steps.begun.Goals as goal
@@ -10,6 +10,4 @@ first-shared-requires g c =
     let parts = c.into_parts-pointers.ensures in
     let blank : (id : ℕ) → values c.into_parts-pointers.result.0 id ≡ None =
     λ id. ap (λ (w : Contents g.row.T.Denot). values w id) (parts.pointers ∙ c.new.ensures.contents) ∙ values-no_contents g.row.T.Denot id in
-    let slots = c.with_slots-table in
-    let table = slots.ensures ∙ sym slots.result.0.of_one.0 in
-    (lit< tt, (lit< tt, (c.requires.judged, (rw (parts.pointers, parts.reserved) parts.owned, (blank, table)))))
+    (lit< tt, (lit< tt, (c.requires.judged, (rw (parts.pointers, parts.reserved) parts.owned, blank))))

@@ -23,11 +23,9 @@ returns g c =
 pub invariant_of-result : goal.invariant_of-result
 invariant_of-result g c =
     let ids = c.requires.ids in
-    let table = sym c.first.ensures.table in (
-      sym ids.right.0 ∙ table,
+    let table = sym ids.slots ∙ sym c.first.ensures.table in (
       table,
-      ids.right.1,
-      ids.page.0 ∙ sym ids.right.0 ∙ table,
+      ids.page.0 ∙ table,
       ids.page.1,
       subst (λ (s : Option ℕ). Belongs s c.first.result.table) (sym c.first.ensures.sharing) (first_belongs c.first.result.table),
     )
@@ -39,4 +37,4 @@ first-requires g c =
     λ id. ap (λ (w : Contents g.row.T.Denot). values w id) parts.pointers ∙ c.requires.empty id in
     let same : c.args.buckets ≡ record { contents = c.into_parts-pointers.result.0; reserved = c.into_parts-pointers.result.1 } =
     λ i. record { contents = sym parts.pointers i; reserved = sym parts.reserved i } in
-    (lit< tt, (lit< tt, (c.requires.judged, (subst IsOwned same parts.owned, (none, c.requires.ids.slots ∙ sym c.requires.ids.right.0)))))
+    (lit< tt, (lit< tt, (c.requires.judged, (subst IsOwned same parts.owned, none))))

@@ -18,7 +18,7 @@ of-requires g c = (lit< tt, (lit< tt, (c.requires.judged, (c.in_ok-buckets.ensur
 pub returns-clause-room : goal.returns-clause-room
 returns-clause-room g c =
     subst (λ (room : ℕ). c.args.capacity ≤ room) (sym c.of.ensures.room)
-    (fits c.args.capacity c.in_ok-ids.ids.2.room c.in_ok-check.ensures.ok c.in_ok-ids.ensures.room)
+    (fits c.args.capacity c.in_ok-ids.ids.1.room c.in_ok-check.ensures.ok c.in_ok-ids.ensures.room)
 
 pub returns-clause-not_too_large : goal.returns-clause-not_too_large
 returns-clause-not_too_large g c = λ told. absurd (ok_not_err told)

@@ -2,7 +2,7 @@
 -- what is told of its id.
 use Rattle.thread_local_base.proofs.Names.{◌≡◌, ℕ, [], ◌∷◌, refl, sym, Some, Option, dnil, a_type, named, Val}
 use Rattle.thread_local_base.proofs.Names.{vptr, vunit, inst_fn, Lft, Share, Fml, ftrue, fsep, flft, ‵}
-use Rattle.thread_local_base.proofs.Names.{raw, ◌⊛◌, given, later, ◌$◌, ◌∵◌, !, qed, by, move, keep, drop, split}
+use Rattle.thread_local_base.proofs.Names.{raw, ◌⊛◌, given, later, ◌$◌, ◌∵◌, !, qed, by, move, keep, split}
 use Rattle.thread_local_base.proofs.Names.{split3, join, fsplit, fsplit3, fjoin, fjoin3, learn, await, use3}
 use Rattle.thread_local_base.proofs.Names.{rewrite, feq_i, of_opd, unit_lit, returns, enter, alloc_all, pass_all}
 use Rattle.thread_local_base.proofs.Names.{free_all, look_at, sets, fact, yes, RattleType, owns}

@@ -88,7 +88,6 @@ use Rattle.thread_local_shared_buckets.specs.Announcing.{Announcing, announced}
 use Rattle.thread_local_shared_buckets.specs.contracts.announcements.Announced as Announced
 use Rattle.thread_local_shared_buckets.proofs.GrownLaws.{shown_reached}
 use Rattle.thread_local_shared_buckets.specs.Shared.{name_at, BucketView, Turn, len, bucket_invariant, shown_by, grown}
-use Rattle.thread_local_shared_buckets.specs.Shared.{first as first_id}
 use Rattle.thread_local_shared_buckets.specs.Known.{found_as, state_of}
 use Rattle.thread_local_shared_buckets.proofs.Loads.{glimpse}
 use Rattle.thread_local_shared_buckets.proofs.Offers as offers

@@ -6,7 +6,7 @@ use Rattle.thread_local_shared_buckets.proofs.shared.Shared.clear.Goals as goal
 
 pub returns-clause-sharing : goal.returns-clause-sharing
 returns-clause-sharing g c =
-    ap (λ (t : Bool). begun_in c.args.own.now.table t) (cleared_has_none c.clear.new.self.contents c.owner_before_first.result.now.reserved c.clear.ensures.rows)
+    ap (λ (t : Bool). begun_in c.args.slots.table t) (cleared_has_none c.clear.new.self.contents c.owner_before_first.result.now.reserved c.clear.ensures.rows)
 
 pub returns-clause-grown : goal.returns-clause-grown
 returns-clause-grown g c =

@@ -35,7 +35,7 @@ use Rattle.thread_local_ids.specs.Sharings.{Belongs, later_of}
 use Rattle.thread_local_ids.proofs.ToldElements.{source, source_new, later_belongs}
 use Rattle.thread_local_ids.proofs.Rows.{table_whole, rows_drawn}
 use Rattle.thread_local_base.specs.Judged.{Judged}
-use Rattle.thread_local_ids.specs.contracts.rights.right.Right as right
+use Rattle.thread_local_ids.specs.contracts.rights.page.Page as page
 use Rattle.thread_local_buckets.specs.contracts.bucket_pointers.BucketPointers as all_pointers
 use Rattle.thread_local_buckets.proofs.bucket_pointers.BucketPointers.TheLaws as pointers'
 use Rattle.thread_local_shared_buckets.specs.TableView.{TableView}
@@ -55,7 +55,7 @@ new_spec 𝓤 𝓛 𝓜 𝓡 wired T L =
     let Ws : RattleType = all_pointers.the_row R in
     let En = ended T in let c = clauses T 𝓛 𝓜.mem 𝓡.returns in let inst = layouts (a_type ∷ []) (T, tt) in
     let fn = inst_fn inst code.function in let self = plain (λ _. Ws) in let number = plain (λ _. usize) in
-    let ref = RefOf (0 ∷ []) tt (plain (λ _. right.the_row)) (λ _. tt) in
+    let ref = RefOf (0 ∷ []) tt (plain (λ _. page.the_row)) (λ _. tt) in
     let hs : Stays En.signature.params En.kept =
     (stay_dropped self no, (stay_dropped number yes, (stay_dropped ref yes, tt))) in
     proved_at 𝓛 En hs c 𝓜 𝓡 (
@@ -67,7 +67,7 @@ new_spec 𝓤 𝓛 𝓜 𝓡 wired T L =
     let got = one (layout Ws) z.0.4.0 (((pointers'.the_row_laws R LR).lawful 𝓛).typed w z.0.4.0 are.0) in
     let v : Val = got.0 in
     let fine : Good (layout Ws) v = got.2 in
-    let ref_is = shr_Tells (named 0) z.0.0.0 right.the_row z.0.3.1.1.0 z.0.4.1.1.0 are.1.1.0 in
+    let ref_is = shr_Tells (named 0) z.0.0.0 page.the_row z.0.3.1.1.0 z.0.4.1.1.0 are.1.1.0 in
     let Post : Val → SProp 𝓤 = (walk_of 𝓛 En hs c).post z in
     let Run : List Val → SProp 𝓤 = λ ws. WpFn 𝓤 𝓛.H 𝓣.C 𝓣.Λ fn ws Post in
     let p : Val = vptr z.0.3.1.1.0.ref_ptr.0 z.0.3.1.1.0.ref_ptr.1 in let us : List Val = v ∷ vint w64 n ∷ p ∷ [] in

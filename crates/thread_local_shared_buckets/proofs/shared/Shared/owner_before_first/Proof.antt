@@ -8,22 +8,21 @@ use base.Logic.{SProp, id⊢}
 use base.Fml.{Lft, Share, GName, Fml, ftrue, fsep, flft}
 use types.Logic.{sem}
 use types.Mut.{open_ref}
-use types.Kit.{‵, raw, ◌⊛◌, some, given, later, at_ret, ◌$◌, ◌∵◌, !, qed, by, move, keep, use1, drop, rewrite, split, split3}
+use types.Kit.{‵, raw, ◌⊛◌, some, given, later, at_ret, ◌$◌, ◌∵◌, !, qed, by, move, keep, use1, drop, split, split3}
 use types.Kit.{join, group, fsplit, fsplit3, fjoin, pick, learn, await}
 use types.Run.{stop, addr, of_opd, first, blocks, exec, returns, enter}
 use types.ByLocal.{alloc_all, pass_all, free_all, look_at, get, through, sets, sets_last, env}
 use contract.Running.{tables}
-use contract.Monad.{fact}
 use denote.Exit.{no, yes}
 use denote.RattleType.{RattleType, owns}
 use denote.Signature.{types_at, plain}
-use denote.Builtin.{RefOf, RefMutOf}
+use denote.Builtin.{RefMutOf}
 use denote.Follow.{follows, Part, lends_Part}
 use denote.Memory.{mem, part_at}
 use denote.Param.{param, layouts}
 use denote.Param.Laws.{Laws, param_laws}
-use denote.Ref.{MutBor, MutRef, mut_vals, mut_Tells, shr_vals, shr_Tells}
-use denote.Steps.{nothing, heard}
+use denote.Ref.{MutBor, MutRef, mut_vals, mut_Tells}
+use denote.Steps.{nothing}
 use denote.Triple.Walked.{Stays, stay_dropped, walk_of, Goes-dropped, Goes-spent_ref}
 use Rattle.std.proofs.raw_atomic.Walks.{proved, leaves}
 use Rattle.std.proofs.alloc.Shapes.{after}
@@ -37,7 +36,6 @@ use Rattle.thread_local_shared_buckets.proofs.shared.Shared.owner_before_first.S
 use Rattle.thread_local_shared_buckets.proofs.shared.Shared.owner_before_first.Code as code
 use Rattle.thread_local_ids.specs.Rights.{slots_own}
 use Rattle.thread_local_ids.specs.Told.{book_owns}
-use Rattle.thread_local_ids.specs.contracts.rights.right.Right as right
 use Rattle.thread_local_ids.specs.contracts.rights.right.SlotRights as SlotRights
 use Rattle.thread_local_ids.proofs.Markers.{token}
 use Rattle.thread_local_ids.proofs.Markers.{told as token_told}
@@ -51,31 +49,23 @@ owner_before_first_spec 𝓤 𝓛 𝓜 𝓡 wired T L =
     let Ow : RattleType = buckets.the_row R in
     let En = ended T in let c = clauses T 𝓛 𝓜.mem 𝓡.returns in let inst = layouts (a_type ∷ []) (T, tt) in
     let fn = inst_fn inst code.function in let row = plain (λ _. Sh) in let self = RefMutOf (0 ∷ []) tt row (λ _. tt) in
-    let ref = RefOf (1 ∷ []) tt (plain (λ _. right.the_row)) (λ _. tt) in let rights = plain (λ _. SlotRights.the_row) in
-    let hs : Stays En.signature.params En.kept = (stay_dropped self no, (stay_dropped ref yes, (stay_dropped rights yes, tt))) in
-    proved 𝓛 En hs c 𝓜 𝓡 (
-      Goes-spent_ref 𝓛 3 (0 ∷ []) tt row,
-      (Goes-dropped 𝓛 3 ref yes (λ κs x f. refl), (Goes-dropped 𝓛 3 rights yes (λ κs x f. refl), tt)),
-    )
-    (#self inst) fn (code.unfolded 𝓤 𝓛.H 𝓜 𝓡 wired (T, tt)) (λ κs. (mut_vals, (shr_vals, ((λ x. token ∷ []), tt))))
-    (λ κs. (
-      mut_Tells (named 0) κs.0 Sh,
-      (shr_Tells (named 1) κs.1.0 right.the_row, ((λ x vs is. token_told (SlotRights.the_type).name vs is.0), tt)),
-    ))
+    let rights = plain (λ _. SlotRights.the_row) in
+    let hs : Stays En.signature.params En.kept = (stay_dropped self no, (stay_dropped rights yes, tt)) in
+    proved 𝓛 En hs c 𝓜 𝓡 (Goes-spent_ref 𝓛 2 (0 ∷ []) tt row, (Goes-dropped 𝓛 2 rights yes (λ κs x f. refl), tt))
+    (#self inst) fn (code.unfolded 𝓤 𝓛.H 𝓜 𝓡 wired (T, tt)) (λ κs. (mut_vals, ((λ x. token ∷ []), tt)))
+    (λ κs. (mut_Tells (named 0) κs.0 Sh, ((λ x vs is. token_told (SlotRights.the_type).name vs is.0), tt)))
     (λ κs qs bounds a gh are.
     let b : ℕ = a.0.ref_ptr.0 in let o : ℕ = a.0.ref_ptr.1 in let d : TableView = a.0.now in let κ : Lft = κs.0 in
-    let q : Share = qs.0 in let γ : GName = a.0.ghost_name in let others : Fml = fsep (flft κs.1.0 qs.1.0) (fsep (flft κs.1.1.0 qs.1.1.0) ftrue) in
-    let table : ℕ = a.1.0.now.table in let Of : Type 0 = a.1.1.0.table ≡ table in
-    let y : (walk_of 𝓛 En hs c).Ghost = ((κs, qs, bounds, a, (vptr b o ∷ [], (shr_vals a.1.0, (token ∷ [], tt)))), gh) in
+    let q : Share = qs.0 in let γ : GName = a.0.ghost_name in let others : Fml = fsep (flft κs.1.0 qs.1.0) ftrue in
+    let table : ℕ = a.1.0.table in
+    let y : (walk_of 𝓛 En hs c).Ghost = ((κs, qs, bounds, a, (vptr b o ∷ [], (token ∷ [], tt))), gh) in
     let Post : Val → SProp 𝓤 = (walk_of 𝓛 En hs c).post y in
     qed 𝓛 (((‵ (flft κ q) ⊛ ‵ others) ⊛ ‵ (owns (types_at En.signature.params κs) a y.0.4))
-    ∷ raw (fact 𝓤 _) ∷ raw (fact 𝓤 _) ∷ raw (fact 𝓤 _) ∷ raw (fact 𝓤 Of) ∷ []) ∵
-    keep ! (4 ∷ 0 ∷ []) $ heard ! Of (λ of. split ! $ split ! $ move ! (2 ∷ []) $ fsplit ! $ move ! (1 ∷ []) $ fsplit3 ! $
-    move ! (1 ∷ []) $ fsplit ! $ move ! (1 ∷ []) $
-    rewrite ! 0 (λ (k : ℕ). ‵ (slots_own k 0)) of refl $
+    ∷ raw ((c κs a).requires gh) ∷ []) ∵
+    keep ! (0 ∷ []) $ split ! $ split ! $ move ! (2 ∷ []) $ fsplit ! $ move ! (1 ∷ []) $ fsplit ! $ fsplit ! $ move ! (1 ∷ []) $
     -- [the rights to the slots; theirs; ..; the reference; the tokens]
-    move ! (4 ∷ []) $ fsplit3 ! $ keep ! (1 ∷ 2 ∷ 7 ∷ 8 ∷ 3 ∷ []) $
-    enter ! _ _ _ _ _ $ alloc_all ! (λ l. pass_all ! refl ((tt, tt), ((tt, tt), ((tt, (tt, tt)), tt))) $
+    move ! (3 ∷ []) $ fsplit3 ! $ keep ! (1 ∷ 2 ∷ 6 ∷ 7 ∷ 3 ∷ []) $
+    enter ! _ _ _ _ _ $ alloc_all ! (λ l. pass_all ! refl ((tt, tt), ((tt, (tt, tt)), tt)) $
     let Ev = env fn.locals l in
     open_ref ! tt (mem Sh) $
     use1 𝓛 (later (some (λ (w : Ow.Denot).
@@ -106,6 +96,6 @@ owner_before_first_spec 𝓤 𝓛 𝓜 𝓡 wired T L =
     split3 ! $
     move ! (1 ∷ 3 ∷ []) $ join ! $
     knows ! (w.reserved ≡ d.reserved) so.1 $
-    move ! (3 ∷ 0 ∷ []) $ join ! $ nothing ! $ nothing ! $ fjoin ! $ nothing ! $ fjoin ! $ nothing ! $ fjoin ! $
+    move ! (3 ∷ 0 ∷ []) $ join ! $ nothing ! $ nothing ! $ fjoin ! $ nothing ! $ fjoin ! $
     returns ! (look_at ! 0 refl) $ free_all ! refl $ keep ! (2 ∷ 0 ∷ 3 ∷ 1 ∷ []) $
-    by ! (leaves 𝓛 En hs c y (vptr b o) r (tt, (tt, (tt, tt))) (tt, (tt, (tt, tt))))))))))
+    by ! (leaves 𝓛 En hs c y (vptr b o) r (tt, (tt, tt)) (tt, (tt, tt))))))))

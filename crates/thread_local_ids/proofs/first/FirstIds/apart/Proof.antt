@@ -1,9 +1,9 @@
--- Two rights to one id of one table would be the same element twice.
-use Rattle.std.proofs.Common.{◌≡◌, ◌≢◌, [], ◌∷◌, refl}
+-- Two tables of one name would have the whole history twice.
+use Rattle.std.proofs.Common.{◌≢◌, ℕ, [], ◌∷◌, refl}
 use mir.Syntax.{named}
 use mir.Val.{vunit}
-use base.Fml.{ftrue, flft}
-use types.Kit.{‵, ◌⊛◌, given, later, ◌$◌, ◌∵◌, !, qed, move, split, split3, join, fsplit, fjoin, learn, suffices, frame}
+use base.Fml.{ftrue, fsep, flft}
+use types.Kit.{‵, ◌⊛◌, given, later, fpick, fpack, ◌$◌, ◌∵◌, !, qed, move, split, split3, join, fsplit, fjoin, learn, suffices, frame}
 use types.Kit.{check, done, await, group, use1, use2, feq_i}
 use types.Run.{of_opd, unit_lit, returns, enter}
 use types.ByLocal.{alloc_all, pass_all, free_all, look_at, sets}
@@ -12,14 +12,15 @@ use denote.Signature.{plain}
 use denote.Steps.{nothing}
 use denote.Triple.Walked.{Stays, walk_of, stay_ref, Goes-ref, ends_at}
 use Rattle.std.proofs.raw_atomic.Walks.{proved}
-use Rattle.thread_local_ids.specs.Rights.{right_owns}
+use Rattle.thread_local_ids.specs.FirstIds.{lies_with}
 use Rattle.thread_local_ids.proofs.BothLent as both
-use Rattle.thread_local_ids.proofs.RightElements.{right_apart}
+use Rattle.thread_local_ids.proofs.FirstElements.{tables_apart}
 use Rattle.thread_local_ids.proofs.Facts.{tells, tells_last}
-use Rattle.thread_local_ids.specs.contracts.rights.right.Right.{the_row as A}
-use Rattle.thread_local_ids.specs.contracts.rights.right.Right.apart as f
-use Rattle.thread_local_ids.proofs.rights.right.Right.apart.Statement.{statement}
-use Rattle.thread_local_ids.proofs.rights.right.Right.apart.Code as code
+use Rattle.thread_local_ids.specs.contracts.first.FirstIds.{the_row as A}
+use Rattle.thread_local_ids.specs.contracts.first.FirstIds.TheInside.{the_row as F}
+use Rattle.thread_local_ids.specs.contracts.first.FirstIds.apart as f
+use Rattle.thread_local_ids.proofs.first.FirstIds.apart.Statement.{statement}
+use Rattle.thread_local_ids.proofs.first.FirstIds.apart.Code as code
 
 abbrev stayed : Stays f.ended.signature.params f.ended.kept
 stayed = (stay_ref (0 ∷ []) tt (plain (λ _. A)), (stay_ref (1 ∷ []) tt (plain (λ _. A)), tt))
@@ -39,23 +40,24 @@ apart_spec 𝓤 𝓛 𝓜 𝓡 wired =
     let first = both.first 𝓛 A κs.0 κs.1.0 r s in
     let second = both.second 𝓛 A κs.0 κs.1.0 r s in
     let y : W.Ghost = ((κs, qs, bounds, a, (mut_vals r, (mut_vals s, tt))), g) in
-    let Apart : Type 0 = x.table ≡ z.table → x.id ≢ z.id in
+    let Apart : Type 0 = x.table ≢ z.table in
     qed 𝓛 (((‵ (flft κs.0 qs.0) ⊛ ‵ (flft κs.1.0 qs.1.0) ⊛ ‵ ftrue) ⊛ ‵ first ⊛ ‵ second ⊛ ‵ ftrue)
     ∷ ‵ ftrue ∷ []) ∵
     split ! $ move ! (1 ∷ []) $ split3 ! $ move ! (3 ∷ []) $ split3 ! $
     enter ! _ _ _ _ _ $ alloc_all ! (λ l. pass_all ! refl ((tt, tt), ((tt, tt), tt)) $ move ! (3 ∷ 4 ∷ 0 ∷ 1 ∷ []) $ group ! 4 $
     use1 𝓛 (later (given Apart (‵ first ⊛ ‵ second ⊛ ‵ (flft κs.0 qs.0) ⊛ ‵ (flft κs.1.0 qs.1.0))))
     (both.show 𝓛 A κs.0 κs.1.0 r s qs.0 qs.1.0 Apart (λ cs ds.
-    qed 𝓛 (‵ (A.own_val x cs) ∷ ‵ (A.own_val z ds) ∷ []) ∵ fsplit ! $ move ! (1 ∷ []) $ fsplit ! $ move ! (3 ∷ []) $ fsplit ! $
-    move ! (1 ∷ []) $ fsplit ! $
-    -- [the other right; its note; its fields; the right; its note; its fields]
-    move ! (3 ∷ 0 ∷ []) $
-    use2 𝓛 (given Apart (‵ (right_owns x.table x.id) ⊛ ‵ (right_owns z.table z.id)))
-    (right_apart 𝓛 x.table z.table x.id z.id) $
+    qed 𝓛 (‵ (A.own_val x cs) ∷ ‵ (A.own_val z ds) ∷ []) ∵
+    fsplit ! $ move ! (1 ∷ []) $ fpick ! (λ n. fsplit ! $ move ! (3 ∷ []) $ fsplit ! $ move ! (1 ∷ []) $ fpick ! (λ m. fsplit ! $
+    -- [the other word; what lies with it; its type; the word; what lies with it; its type]
+    move ! (4 ∷ 1 ∷ []) $
+    use2 𝓛 (given Apart (‵ (lies_with x.table n) ⊛ ‵ (lies_with z.table m))) (tables_apart 𝓛 x.table z.table n m) $
     learn ! (λ so. split ! $
-    -- [the right; the other right; its note; its fields; the note; the fields]
-    move ! (0 ∷ 4 ∷ []) $ fjoin ! $ move ! (4 ∷ 0 ∷ []) $ fjoin ! $ move ! (1 ∷ 2 ∷ []) $ fjoin ! $ move ! (2 ∷ 0 ∷ []) $ fjoin ! $
-    move ! (1 ∷ 0 ∷ []) $ check ! so $ done !))) $ await ! tt $
+    -- [what lies with the word; with the other; the other word; its type; the word; its type]
+    move ! (4 ∷ 0 ∷ []) $ fjoin ! $ fpack ! ℕ (λ k. fsep (F.own_val (record { word = k }) cs) (lies_with x.table k)) n $
+    move ! (4 ∷ 0 ∷ []) $ fjoin ! $ move ! (2 ∷ 1 ∷ []) $ fjoin ! $
+    fpack ! ℕ (λ k. fsep (F.own_val (record { word = k }) ds) (lies_with z.table k)) m $
+    move ! (2 ∷ 0 ∷ []) $ fjoin ! $ move ! (1 ∷ 0 ∷ []) $ check ! so $ done !))))) $ await ! tt $
     learn ! (λ so. split3 ! $ move ! (2 ∷ []) $ split ! $
     -- [a token for each; self; the other; nothing]
     sets ! (of_opd ! (unit_lit !)) refl (tt, tt) $ returns ! (look_at ! 0 refl) $ free_all ! refl $
