@@ -18,7 +18,7 @@ first_below id n below = let same = id_at-place id in omega arith
 -- an id that the ids of a table gave and the claim that its buckets answer make a `Local`
 pub makes_local : {V : Type 0} {of : ThreadLocalView} (held : HeldId) (buckets : TableView) (room : ℕ) (claim : ClaimView V)
     → thread_local_view buckets room ≡ of
-    → (claim.table ≡ buckets.table) × (claim.sharing ≡ buckets.sharing) × (claim.id ≡ held.id) × (claim.before ≡ held.tenure.before)
+    → (claim.table ≡ buckets.table) × (claim.sharing ≡ buckets.sharing) × (claim.id ≡ held.id) × (claim.before ≡ held.right.before)
     → HasLooked claim.learnt
     → (id_at (bucket_of held.id) 0 < buckets.reserved → claim.learnt ≢ Missing)
     → IsLocalOf of claim

@@ -31,11 +31,11 @@ use Rattle.thread_local_base.proofs.HeldLaws.{least_free, is_held-without, lengt
 use Rattle.thread_local_base.proofs.IdMoveLaws.{after_take, after_give}
 use Rattle.thread_local_base.proofs.SharedWord.{stepped}
 use Rattle.thread_local_base.proofs.Signs.{signs}
-use Rattle.thread_local_ids.specs.Rights.{is_out, less, right_owns, right_with, rights_own, history_owns, page_owns, tenure_of, taken_id}
+use Rattle.thread_local_ids.specs.Rights.{is_out, less, right_owns, right_with, right_in, rights_own, history_owns, page_owns, tenure_of, taken_id}
 use Rattle.thread_local_ids.specs.Rights.{note_key, note_owns, all_noted, AreNotedOut}
 use Rattle.thread_local_ids.specs.FirstIds.{IsWordOf, IsSameBeyond, IsGivenBeyond, HasFurther, AreOutOf, IsTiedTo, IsReturn, Kept, is_full, word_with}
 use Rattle.thread_local_ids.specs.Returns.{gives as times_given}
-use Rattle.thread_local_ids.specs.FirstIds.{log_key, log_owns, ledger_owns, kept_with, lies_with, tried_owns}
+use Rattle.thread_local_ids.specs.FirstIds.{log_key, log_owns, ledger_owns, kept_with, lies_with}
 use Rattle.thread_local_ids.proofs.FirstLaws as laws
 use Rattle.thread_local_ids.proofs.Logs.{O, halved, joined, agree, grown}
 use Rattle.thread_local_ids.proofs.MoveElements.{note_take, note_give, note_publish, page_of, page_is_early, history_once}
@@ -108,6 +108,10 @@ module _ {M : Type 1} {𝓤 : Ura M} (𝓛 : Logic 𝓤) where
   abbrev out_of : List IdMove → List ℕ → List ℕ
   out_of moves out = noted_out (published_in moves (taken_id moves)) (taken_id moves) (taken_id moves ∷ out)
 
+  -- what a step leaves, by whether it took the least id after these moves, or saw them
+  abbrev pub tried_owns : GName → List IdMove → Bool → Fml
+  tried_owns γ moves t = right_in γ moves t false (published_in moves (taken_id moves))
+
   -- the rights of the least id go out, with its note, and its take is noted
   taken : (γ : GName) (moves : List IdMove) (out : List ℕ) → AreOutOf out (held_after moves) → AreNotedOut out moves
       → taken_id moves < 2 ^ 63 - 1
@@ -134,7 +138,7 @@ module _ {M : Type 1} {𝓤 : Ura M} (𝓛 : Logic 𝓤) where
       -- [the note; the rights; what is noted; the right; the tenure; the history]
       move ! (3 ∷ 0 ∷ []) $ fjoin ! $
       -- [the right with its note; the rights; what is noted; the tenure; the history]
-      move ! (0 ∷ 3 ∷ []) $ fjoin ! $ frame ! $
+      move ! (3 ∷ 0 ∷ []) $ fjoin ! $ frame ! $
       -- [the rights; what is noted; the history]
       nothing ! $ use1 𝓛 (‵ (all_noted γ (Take ∷ []))) (id⊢ 𝓤 _) $ move ! (2 ∷ 0 ∷ []) $
       use2 𝓛 (‵ (all_noted γ more)) (all_more 𝓛 γ moves (Take ∷ [])) $
@@ -150,26 +154,36 @@ module _ {M : Type 1} {𝓤 : Ura M} (𝓛 : Logic 𝓤) where
       at None = note_publish 𝓛 γ moves id g
       at (Some h) = upd_i 𝓤 ⟦ history_owns γ moves ⟧
 
-  -- what comes back with an id: the right with what its slot is left with, and the tenure
-  abbrev pub gone : GName → List IdMove → ℕ → Option Gv → Fml
-  gone γ before id left = fsep (right_with γ id left) (tenure_of γ before)
+  -- what comes back with an id: its tenure, and the right with what its slot is left with
+  abbrev pub gone : GName → List IdMove → Option Gv → Fml
+  gone γ before left = right_in γ before true false left
+
+  -- the moves with the return of an id, before which it is noted what its slot is left with
+  abbrev with_return : List IdMove → List IdMove → Option Gv → List IdMove
+  with_return moves before left = noted (publishing moves (taken_id before) left) (Give (taken_id before))
+
+  abbrev Comes : List IdMove → List IdMove → Option Gv → Type 0
+  Comes moves before left =
+      (is_held (held_after moves) (taken_id before) ≡ true) × IsPrefix (noted before Take) moves
+      × (published_in (publishing moves (taken_id before) left) (taken_id before) ≡ left)
 
   -- the rights to an id that was taken come back, with what its slot is left with, and its return is noted
-  given_back : (γ : GName) (moves before : List IdMove) (out : List ℕ) (id : ℕ) (left : Option Gv) → AreOutOf out (held_after moves)
-      → id < 2 ^ 63 - 1 → id ≡ taken_id before
-      → ⟦ ledger_owns γ moves ⟧ ∗ ⟦ rights_own γ out ⟧ ∗ ⟦ gone γ before id left ⟧
-      ⊢ guard 𝓤 ((is_held (held_after moves) id ≡ true) × IsPrefix (noted before Take) moves × (published_in (publishing moves id left) id ≡ left))
-      (upd 𝓤 (⟦ page_owns γ (noted (publishing moves id left) (Give id)) ⟧ ∗ ⟦ ledger_owns γ (noted (publishing moves id left) (Give id)) ⟧
-      ∗ ⟦ rights_own γ (noted_back left id (less out id)) ⟧))
-  given_back γ moves before out id left are low is =
+  given_back : (γ : GName) (moves before : List IdMove) (out : List ℕ) (left : Option Gv) → AreOutOf out (held_after moves)
+      → taken_id before < 2 ^ 63 - 1
+      → ⟦ ledger_owns γ moves ⟧ ∗ ⟦ rights_own γ out ⟧ ∗ ⟦ gone γ before left ⟧
+      ⊢ guard 𝓤 (Comes moves before left)
+      (upd 𝓤 (⟦ page_owns γ (with_return moves before left) ⟧ ∗ ⟦ ledger_owns γ (with_return moves before left) ⟧
+      ∗ ⟦ rights_own γ (noted_back left (taken_id before) (less out (taken_id before))) ⟧))
+  given_back γ moves before out left are low =
+      let id : ℕ = taken_id before in
       let since : List IdMove = publishing moves id left in
       let more : List IdMove = noted since (Give id) in
       let early : Type 0 = IsPrefix (noted before Take) moves in
       let back : List ℕ = less out id in
       let Says : Type 0 = (published_in since id ≡ left) × (is_some left ≡ false → is_out back (note_key id) ≡ true) in
       let Z = ⟦ page_owns γ more ⟧ ∗ ⟦ ledger_owns γ more ⟧ ∗ ⟦ rights_own γ (noted_back left id back) ⟧ in
-      qed 𝓛 (‵ (ledger_owns γ moves) ∷ ‵ (rights_own γ out) ∷ ‵ (gone γ before id left) ∷ []) ∵
-      move ! (2 ∷ []) $ fsplit ! $ fsplit ! $
+      qed 𝓛 (‵ (ledger_owns γ moves) ∷ ‵ (rights_own γ out) ∷ ‵ (gone γ before left) ∷ []) ∵
+      move ! (2 ∷ []) $ fsplit ! $ move ! (1 ∷ []) $ fsplit ! $
       -- [the right; its note; the tenure; the ledger; the rights]
       move ! (0 ∷ 4 ∷ []) $
       use2 𝓛 (given (is_out out id ≡ true) (‵ (rights_own γ back))) (rights_join 𝓛 γ out id (omega (arith, low))) $
@@ -186,7 +200,7 @@ module _ {M : Type 1} {𝓤 : Ura M} (𝓛 : Logic 𝓤) where
       -- [the history; the tenure; the rights; what is noted]
       use1 𝓛 (raw (upd 𝓤 ⟦ history_owns γ since ⟧)) (history_with γ moves id left) $ settle 𝓛 Z (‵ (history_owns γ since)) $ move ! (0 ∷ 1 ∷ []) $
       use2 𝓛 (raw (upd 𝓤 (⟦ page_owns γ more ⟧ ∗ ⟦ history_owns γ more ⟧)))
-      (note_give 𝓛 γ since before id is (ap (λ h. is_held h id) (held_publishing moves id left) ∙ held)) $
+      (note_give 𝓛 γ since before (ap (λ h. is_held h id) (held_publishing moves id left) ∙ held)) $
       settle 𝓛 Z (‵ (page_owns γ more) ⊛ ‵ (history_owns γ more)) $ suffices ! _ (upd_i 𝓤 Z) $ split ! $ frame ! $
       -- [the history; the rights; what is noted]
       nothing ! $ use1 𝓛 (‵ (all_noted γ (Give id ∷ []))) (id⊢ 𝓤 _) $ move ! (3 ∷ 0 ∷ []) $
@@ -356,19 +370,20 @@ module _ {M : Type 1} {𝓤 : Ura M} (𝓛 : Logic 𝓤) where
       frame ! $ done !))))
 
   -- an id is given back
-  abbrev pub Returned : List IdMove → ℕ → Option Gv → List IdMove → Type 0
-  Returned before id left more = IsReturn before id more × (published_in more id ≡ left)
+  abbrev pub Returned : List IdMove → Option Gv → List IdMove → Type 0
+  Returned before left more = IsReturn before (taken_id before) more × (published_in more (taken_id before) ≡ left)
 
-  abbrev pub returned : GName → List IdMove → ℕ → Option Gv → Fml
-  returned γ before id left = fex (List IdMove) (λ more. fsep (fact (Returned before id left more)) (page_owns γ more))
+  abbrev pub returned : GName → List IdMove → Option Gv → Fml
+  returned γ before left = fex (List IdMove) (λ more. fsep (fact (Returned before left more)) (page_owns γ more))
 
-  pub gives_first : (γ : GName) (n k id : ℕ) (before : List IdMove) (left : Option Gv) → id < 58 → k ≡ 64 * 2 ^ id % 2 ^ 64
-      → id ≡ taken_id before
-      → ⟦ lies_with γ n ⟧ ∗ ⟦ gone γ before id left ⟧ ⊢ upd 𝓤 (⟦ lies_with γ ((n + (2 ^ 64 - k)) % 2 ^ 64) ⟧ ∗ ⟦ returned γ before id left ⟧)
-  gives_first γ n k id before left first k_is is =
+  pub gives_first : (γ : GName) (n k : ℕ) (before : List IdMove) (left : Option Gv) → taken_id before < 58
+      → k ≡ 64 * 2 ^ taken_id before % 2 ^ 64
+      → ⟦ lies_with γ n ⟧ ∗ ⟦ gone γ before left ⟧ ⊢ upd 𝓤 (⟦ lies_with γ ((n + (2 ^ 64 - k)) % 2 ^ 64) ⟧ ∗ ⟦ returned γ before left ⟧)
+  gives_first γ n k before left first k_is =
+      let id : ℕ = taken_id before in
       let n' : ℕ = (n + (2 ^ 64 - k)) % 2 ^ 64 in
-      let Z = ⟦ lies_with γ n' ⟧ ∗ ⟦ returned γ before id left ⟧ in
-      qed 𝓛 (‵ (lies_with γ n) ∷ ‵ (gone γ before id left) ∷ []) ∵
+      let Z = ⟦ lies_with γ n' ⟧ ∗ ⟦ returned γ before left ⟧ in
+      qed 𝓛 (‵ (lies_with γ n) ∷ ‵ (gone γ before left) ∷ []) ∵
       fpick ! (λ s. fsplit3 ! $ move ! (2 ∷ []) $ fsplit ! $ move ! (1 ∷ []) $
       let moves : List IdMove = s.0 in
       let out : List ℕ = s.1.0 in
@@ -380,11 +395,10 @@ module _ {M : Type 1} {𝓤 : Ura M} (𝓛 : Logic 𝓤) where
       let range : id < 2 ^ 63 - 1 = omega (arith, first) in
       let now : held_after more ≡ without held id = after_give since id ∙ ap (λ h. without h id) (held_publishing moves id left) in
       let later : IsPrefix moves more = O.trans moves since more (early_publishing moves id left) (Give id ∷ [], refl) in
-      let Held : Type 0 = (is_held held id ≡ true) × IsPrefix (noted before Take) moves × (published_in since id ≡ left) in
       -- [the fact; the log; the history; the rights; what comes back]
       fpick ! (λ tied. drop ! $ move ! (1 ∷ 2 ∷ 3 ∷ []) $
-      use3 𝓛 (given Held (raw (upd 𝓤 (⟦ page_owns γ more ⟧ ∗ ⟦ ledger_owns γ more ⟧ ∗ ⟦ rights_own γ out' ⟧))))
-      (given_back γ moves before out id left tied.rights range is) $ learn ! (λ so.
+      use3 𝓛 (given (Comes moves before left) (raw (upd 𝓤 (⟦ page_owns γ more ⟧ ∗ ⟦ ledger_owns γ more ⟧ ∗ ⟦ rights_own γ out' ⟧))))
+      (given_back γ moves before out left tied.rights range) $ learn ! (λ so.
       let plain : k ≡ 64 * 2 ^ id = k_is ∙ laws.bit_in_word id first in
       let tied' : IsTiedTo n' more out' log = record {
         word = subst (IsWordOf n') (sym now) (subst (λ (j : ℕ). IsWordOf ((n + (2 ^ 64 - j)) % 2 ^ 64) (without held id)) (sym plain)
@@ -398,30 +412,31 @@ module _ {M : Type 1} {𝓤 : Ura M} (𝓛 : Logic 𝓤) where
       } in
       settle 𝓛 Z (‵ (page_owns γ more) ⊛ ‵ (ledger_owns γ more) ⊛ ‵ (rights_own γ out')) $ suffices ! _ (upd_i 𝓤 Z) $ split3 ! $
       -- [the page; the history; the rights; the log]
-      nothing ! $ fpack ! (Returned before id left more) (λ _. ftrue) (
+      nothing ! $ fpack ! (Returned before left more) (λ _. ftrue) (
         record { since = since; given = refl; early = O.trans (noted before Take) moves since so.1 (early_publishing moves id left) },
         left_stays since id ∙ so.2,
       ) $
-      fjoin ! $ fpack ! (List IdMove) (λ m. fsep (fact (Returned before id left m)) (page_owns γ m)) more $
+      fjoin ! $ fpack ! (List IdMove) (λ m. fsep (fact (Returned before left m)) (page_owns γ m)) more $
       nothing ! $ fpack ! (IsTiedTo n' more out' log) (λ _. ftrue) tied' $ move ! (4 ∷ 0 ∷ []) $ fjoin ! $
       move ! (3 ∷ 0 ∷ []) $ fjoin ! $ move ! (2 ∷ 0 ∷ []) $ fjoin ! $ fpack ! Kept (kept_with γ n') (more, (out', log)) $
       frame ! $ done !)))
 
   -- a further id is given back
-  abbrev pub ReturnedFurther : List IdMove → List IdMove → ℕ → Option Gv → List IdMove → Type 0
-  ReturnedFurther before log id left more = Returned before id left more × IsGivenBeyond (held_after log) (held_after more) id
+  abbrev pub ReturnedFurther : List IdMove → List IdMove → Option Gv → List IdMove → Type 0
+  ReturnedFurther before log left more = Returned before left more × IsGivenBeyond (held_after log) (held_after more) (taken_id before)
 
-  abbrev pub returned_further : GName → List IdMove → List IdMove → ℕ → Option Gv → Fml
-  returned_further γ before log id left =
-      fex (List IdMove) (λ more. fsep (fact (ReturnedFurther before log id left more)) (fsep (page_owns γ more) (log_owns γ false more)))
+  abbrev pub returned_further : GName → List IdMove → List IdMove → Option Gv → Fml
+  returned_further γ before log left =
+      fex (List IdMove) (λ more. fsep (fact (ReturnedFurther before log left more)) (fsep (page_owns γ more) (log_owns γ false more)))
 
-  pub gives_further : (γ : GName) (n id : ℕ) (before log : List IdMove) (left : Option Gv) → 58 ≤ id → id < 2 ^ 63 - 1
-      → id ≡ taken_id before
-      → ⟦ lies_with γ n ⟧ ∗ ⟦ fsep (log_owns γ false log) (gone γ before id left) ⟧
-      ⊢ upd 𝓤 (⟦ lies_with γ n ⟧ ∗ ⟦ returned_further γ before log id left ⟧)
-  gives_further γ n id before log left further range is =
-      let Z = ⟦ lies_with γ n ⟧ ∗ ⟦ returned_further γ before log id left ⟧ in
-      qed 𝓛 (‵ (lies_with γ n) ∷ ‵ (fsep (log_owns γ false log) (gone γ before id left)) ∷ []) ∵
+  pub gives_further : (γ : GName) (n : ℕ) (before log : List IdMove) (left : Option Gv) → 58 ≤ taken_id before
+      → taken_id before < 2 ^ 63 - 1
+      → ⟦ lies_with γ n ⟧ ∗ ⟦ fsep (log_owns γ false log) (gone γ before left) ⟧
+      ⊢ upd 𝓤 (⟦ lies_with γ n ⟧ ∗ ⟦ returned_further γ before log left ⟧)
+  gives_further γ n before log left further range =
+      let id : ℕ = taken_id before in
+      let Z = ⟦ lies_with γ n ⟧ ∗ ⟦ returned_further γ before log left ⟧ in
+      qed 𝓛 (‵ (lies_with γ n) ∷ ‵ (fsep (log_owns γ false log) (gone γ before left)) ∷ []) ∵
       fpick ! (λ s. fsplit3 ! $ move ! (2 ∷ []) $ fsplit ! $ move ! (1 ∷ []) $
       let moves : List IdMove = s.0 in
       let out : List ℕ = s.1.0 in
@@ -431,7 +446,6 @@ module _ {M : Type 1} {𝓤 : Ura M} (𝓛 : Logic 𝓤) where
       let out' : List ℕ = noted_back left id (less out id) in
       let now : held_after more ≡ without held id = after_give since id ∙ ap (λ h. without h id) (held_publishing moves id left) in
       let later : IsPrefix moves more = O.trans moves since more (early_publishing moves id left) (Give id ∷ [], refl) in
-      let Held : Type 0 = (is_held held id ≡ true) × IsPrefix (noted before Take) moves × (published_in since id ≡ left) in
       fpick ! (λ tied. drop ! $ move ! (3 ∷ []) $ fsplit ! $ move ! (2 ∷ 0 ∷ []) $
       -- [the log; the other log; what comes back; the history; the rights]
       use2 𝓛 (given (s.1.1 ≡ log) (‵ (log_owns γ false s.1.1) ⊛ ‵ (log_owns γ false log))) (log_agrees γ s.1.1 log) $
@@ -440,8 +454,8 @@ module _ {M : Type 1} {𝓤 : Ura M} (𝓛 : Logic 𝓤) where
       (O.trans log moves more (subst (λ (l : List IdMove). IsPrefix l moves) same tied.early) later)) $
       settle 𝓛 Z (‵ (log_owns γ false more) ⊛ ‵ (log_owns γ false more)) $ split ! $
       move ! (3 ∷ 4 ∷ 2 ∷ []) $
-      use3 𝓛 (given Held (raw (upd 𝓤 (⟦ page_owns γ more ⟧ ∗ ⟦ ledger_owns γ more ⟧ ∗ ⟦ rights_own γ out' ⟧))))
-      (given_back γ moves before out id left tied.rights range is) $ learn ! (λ so.
+      use3 𝓛 (given (Comes moves before left) (raw (upd 𝓤 (⟦ page_owns γ more ⟧ ∗ ⟦ ledger_owns γ more ⟧ ∗ ⟦ rights_own γ out' ⟧))))
+      (given_back γ moves before out left tied.rights range) $ learn ! (λ so.
       let tied' : IsTiedTo n more out' more = record {
         word = subst (IsWordOf n) (sym now) (laws.word_stays n held (without held id) tied.word (laws.low_given held id further)
             (ap (min 58) (length-without held id)));
@@ -463,7 +477,7 @@ module _ {M : Type 1} {𝓤 : Ura M} (𝓛 : Logic 𝓤) where
       settle 𝓛 Z (‵ (page_owns γ more) ⊛ ‵ (ledger_owns γ more) ⊛ ‵ (rights_own γ out')) $ suffices ! _ (upd_i 𝓤 Z) $ split3 ! $
       -- [the page; the history; the rights; the log; the other log]
       move ! (0 ∷ 4 ∷ []) $ fjoin ! $
-      nothing ! $ fpack ! (ReturnedFurther before log id left more) (λ _. ftrue) (
+      nothing ! $ fpack ! (ReturnedFurther before log left more) (λ _. ftrue) (
         (
           record { since = since; given = refl; early = O.trans (noted before Take) moves since so.1 (early_publishing moves id left) },
           left_stays since id ∙ so.2,
@@ -471,7 +485,7 @@ module _ {M : Type 1} {𝓤 : Ura M} (𝓛 : Logic 𝓤) where
         was,
       ) $
       fjoin ! $
-      fpack ! (List IdMove) (λ m. fsep (fact (ReturnedFurther before log id left m)) (fsep (page_owns γ m) (log_owns γ false m))) more $
+      fpack ! (List IdMove) (λ m. fsep (fact (ReturnedFurther before log left m)) (fsep (page_owns γ m) (log_owns γ false m))) more $
       nothing ! $ fpack ! (IsTiedTo n more out' more) (λ _. ftrue) tied' $ move ! (4 ∷ 0 ∷ []) $ fjoin ! $
       move ! (3 ∷ 0 ∷ []) $ fjoin ! $ move ! (2 ∷ 0 ∷ []) $ fjoin ! $ fpack ! Kept (kept_with γ n) (more, (out', more)) $
       frame ! $ done !))))
@@ -502,19 +516,19 @@ module _ {M : Type 1} {𝓤 : Ura M} (𝓛 : Logic 𝓤) where
         (fsep (page_owns γ seen) (log_owns γ false log)) (λ n.
         looks_if γ n seen log (takes && is_full n) (λ both. (laws.both_right takes (is_full n) both, has (laws.both_left takes (is_full n) both))))
 
-    pub gives : (k id : ℕ) (before : List IdMove) (left : Option Gv) → id < 58 → k ≡ 64 * 2 ^ id % 2 ^ 64 → id ≡ taken_id before
-        → A.inv (fbor κ I) ∗ (A.lft κ q ∗ ⟦ gone γ before id left ⟧)
-        ⊢ asks 𝓛 (block_ptr b (o + 0)) (λ n. (n + (2 ^ 64 - k)) % 2 ^ 64) always (λ n. fsep (flft κ q) (returned γ before id left))
-    gives k id before left first k_is is =
-        stepped 𝓛 (lies_with γ) b (o + 0) κ q (λ n. (n + (2 ^ 64 - k)) % 2 ^ 64) (λ _. returned γ before id left) (gone γ before id left)
-        (λ n. gives_first γ n k id before left first k_is is)
+    pub gives : (k : ℕ) (before : List IdMove) (left : Option Gv) → taken_id before < 58 → k ≡ 64 * 2 ^ taken_id before % 2 ^ 64
+        → A.inv (fbor κ I) ∗ (A.lft κ q ∗ ⟦ gone γ before left ⟧)
+        ⊢ asks 𝓛 (block_ptr b (o + 0)) (λ n. (n + (2 ^ 64 - k)) % 2 ^ 64) always (λ n. fsep (flft κ q) (returned γ before left))
+    gives k before left first k_is =
+        stepped 𝓛 (lies_with γ) b (o + 0) κ q (λ n. (n + (2 ^ 64 - k)) % 2 ^ 64) (λ _. returned γ before left) (gone γ before left)
+        (λ n. gives_first γ n k before left first k_is)
 
-    pub gives_under_lock : (id : ℕ) (before log : List IdMove) (left : Option Gv) → 58 ≤ id → id < 2 ^ 63 - 1 → id ≡ taken_id before
-        → A.inv (fbor κ I) ∗ (A.lft κ q ∗ ⟦ fsep (log_owns γ false log) (gone γ before id left) ⟧)
-        ⊢ asks 𝓛 (block_ptr b (o + 0)) (λ n. n) always (λ n. fsep (flft κ q) (returned_further γ before log id left))
-    gives_under_lock id before log left further range is =
-        stepped 𝓛 (lies_with γ) b (o + 0) κ q (λ n. n) (λ _. returned_further γ before log id left)
-        (fsep (log_owns γ false log) (gone γ before id left)) (λ n. gives_further γ n id before log left further range is)
+    pub gives_under_lock : (before log : List IdMove) (left : Option Gv) → 58 ≤ taken_id before → taken_id before < 2 ^ 63 - 1
+        → A.inv (fbor κ I) ∗ (A.lft κ q ∗ ⟦ fsep (log_owns γ false log) (gone γ before left) ⟧)
+        ⊢ asks 𝓛 (block_ptr b (o + 0)) (λ n. n) always (λ n. fsep (flft κ q) (returned_further γ before log left))
+    gives_under_lock before log left further range =
+        stepped 𝓛 (lies_with γ) b (o + 0) κ q (λ n. n) (λ _. returned_further γ before log left)
+        (fsep (log_owns γ false log) (gone γ before left)) (λ n. gives_further γ n before log left further range)
 
 pub log_keyless : (γ : GName) (whole : Bool) (log : List IdMove) → Keyless (log_owns γ whole log)
 unfolding log_owns
@@ -523,10 +537,3 @@ log_keyless γ whole log = tt
 pub lies_keyless : (γ n : ℕ) → Keyless (lies_with γ n)
 lies_keyless γ n s =
     ((history_keyless γ s.0, all_noted_keyless γ s.0), (rights_keyless γ s.1.0, (log_keyless γ false s.1.1, λ _. tt)))
-
-pub tried_keyless : (γ : ℕ) (moves : List IdMove) (took : Bool) → Keyless (tried_owns γ moves took)
-tried_keyless γ moves true = (
-  (right_keyless γ (taken_id moves), note_keyless γ (taken_id moves) (published_in moves (taken_id moves))),
-  (page_keyless γ (noted moves Take), held_keyless γ (taken_id moves) (times_given moves (taken_id moves))),
-)
-tried_keyless γ moves false = page_keyless γ moves

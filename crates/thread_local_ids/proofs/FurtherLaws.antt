@@ -72,7 +72,7 @@ error_of d (Err e) = e
 taken_early : (table : ℕ) (early later : List IdMove) (held : HeldId) → IsTakenAfter table early later held → IsPrefix early later
 taken_early table early later held is =
     subst (λ (l : List IdMove). IsPrefix early l) (sym is.moves)
-    (O.trans early held.tenure.before (noted held.tenure.before Take) is.since (Take ∷ [], refl))
+    (O.trans early held.right.before (noted held.right.before Take) is.since (Take ∷ [], refl))
 
 -- what a take says, by the clauses of `SharedIds::take`
 pub take_tells : (table : ℕ) (early later : Page) (result : Result HeldId LocalError) → IsTake table early later result

@@ -20,6 +20,7 @@ pub mod NoteLaws
 pub mod ReachedElements
 pub mod Markers
 pub mod RightElements
+mod RightStates
 pub mod BlankLaws
 pub mod BookElements
 pub mod ToldNotes

@@ -247,22 +247,22 @@ module _ {M : Type 1} {𝓤 : Ura M} (𝓛 : Logic 𝓤) where
       settle 𝓛 Z (‵ (own γ (whole δ more))) $ fjoin ! $ fpack ! Head (history_as γ more) δ $ suffices ! _ (upd_i 𝓤 Z) $ done !)))
 
   -- the same, with the page that ends with it
-  pub note_give : (γ : GName) (moves before : List IdMove) (id : ℕ) → id ≡ taken_id before → is_held (held_after moves) id ≡ true
+  pub note_give : (γ : GName) (moves before : List IdMove) → is_held (held_after moves) (taken_id before) ≡ true
       → ⟦ history_owns γ moves ⟧ ∗ ⟦ tenure_of γ before ⟧
-      ⊢ upd 𝓤 (⟦ page_owns γ (noted moves (Give id)) ⟧ ∗ ⟦ history_owns γ (noted moves (Give id)) ⟧)
-  note_give γ moves before id low held =
+      ⊢ upd 𝓤 (⟦ page_owns γ (noted moves (Give (taken_id before))) ⟧ ∗ ⟦ history_owns γ (noted moves (Give (taken_id before))) ⟧)
+  note_give γ moves before held =
+      let id : ℕ = taken_id before in
       let more : List IdMove = noted moves (Give id) in
       let Z : SProp 𝓤 = ⟦ page_owns γ more ⟧ ∗ ⟦ history_owns γ more ⟧ in
-      let n : ℕ = gives before (taken_id before) in
+      let n : ℕ = gives before id in
       let early : Type 0 = IsPrefix (noted before Take) moves in
       qed 𝓛 (‵ (history_owns γ moves) ∷ ‵ (tenure_of γ before) ∷ []) ∵ move ! (1 ∷ []) $ fsplit ! $
       -- [the page; the count; the history]
       move ! (2 ∷ 0 ∷ []) $
       use2 𝓛 (given early (‵ (history_owns γ moves) ⊛ ‵ (page_owns γ (noted before Take)))) (page_is_early γ moves (noted before Take)) $
       learn ! (λ so. split ! $ move ! (1 ∷ []) $ drop ! $
-      move ! (1 ∷ []) $ rewrite ! 0 (λ (k : ℕ). ‵ (held_owns γ k n)) (sym low) refl $ move ! (1 ∷ 0 ∷ []) $
       use2 𝓛 (raw (upd 𝓤 ⟦ history_owns γ more ⟧))
-      (give_held γ moves id n held (subst (λ (k : ℕ). gives before k ≤ gives moves id) low (given_before before moves id so))) $
+      (give_held γ moves id n held (given_before before moves id so)) $
       settle 𝓛 Z (‵ (history_owns γ more)) $
       use1 𝓛 (‵ (page_owns γ more) ⊛ ‵ (history_owns γ more)) (page_of γ more) $ split ! $ suffices ! _ (upd_i 𝓤 Z) $ done !)
 

@@ -13,8 +13,8 @@ use base.Fml.{Share, Fml, fsep, fex}
 use Rattle.thread_local_base.specs.Bits.{is_set}
 use Rattle.thread_local_base.specs.Fact.{fact}
 use Rattle.thread_local_base.specs.Held.{is_held}
-use Rattle.thread_local_base.specs.IdMoves.{IdMove, Take, Give, held_after, noted, published_in}
-use Rattle.thread_local_ids.specs.Rights.{is_out, element_at, right_with, rights_own, history_owns, page_owns, tenure_of, taken_id, all_noted, AreNotedOut}
+use Rattle.thread_local_base.specs.IdMoves.{IdMove, Take, Give, held_after, noted}
+use Rattle.thread_local_ids.specs.Rights.{is_out, element_at, rights_own, history_owns, all_noted, AreNotedOut}
 
 -- what a contract sees of the word: the name of the table
 pub record FirstView : Type 0 where
@@ -102,8 +102,3 @@ kept_with table n s =
 -- what lies with the word
 abbrev pub lies_with : ℕ → ℕ → Fml
 lies_with table n = fex Kept (kept_with table n)
-
--- what a try left, by whether it took an id after these moves, or saw them
-abbrev pub tried_owns : ℕ → List IdMove → Bool → Fml
-tried_owns table moves true = fsep (right_with table (taken_id moves) (published_in moves (taken_id moves))) (tenure_of table moves)
-tried_owns table moves false = page_owns table moves

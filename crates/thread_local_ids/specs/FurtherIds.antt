@@ -1,5 +1,5 @@
 -- What a contract sees of the further ids, which lie under a lock.
-use Rattle.std.specs.Prelude.{◌≡◌, ℕ, ◌-◌, ◌^◌, ◌<◌, ◌≤◌, max, false, List, length}
+use Rattle.std.specs.Prelude.{◌≡◌, ℕ, ◌-◌, ◌^◌, ◌<◌, ◌≤◌, max, List, length}
 use Rattle.thread_local_base.specs.Held.{Manager}
 use Rattle.thread_local_base.specs.IdMoves.{IdMove, held_after}
 use Rattle.thread_local_ids.specs.FirstIds.{IsSameBeyond}
@@ -19,7 +19,6 @@ further_of i = record { manager = i.manager; table = i.log.table; moves = i.log.
 -- for as many as at the beginning, of which the first need none of the manager's
 pub record IsFurther (i : Inside) : Type 0 where
   pub filled : IsFilled i.manager.held
-  pub half : i.log.whole ≡ false
   pub beyond : IsSameBeyond (held_after i.log.moves) i.manager.held
   pub reached : i.reached ≡ length (held_after i.log.moves) - 58
   pub few : i.reached < 2 ^ 63

@@ -150,6 +150,22 @@ note_owns table id (Some value) = noted_owns table id value
 abbrev pub right_with : ℕ → ℕ → Maybe Gv → Fml
 right_with table id left = fsep (right_owns table id) (note_owns table id left)
 
+-- the right to an id, with its note, where it isn't lent
+abbrev pub right_unless : Bool → ℕ → ℕ → Maybe Gv → Fml
+right_unless true table id left = ftrue
+right_unless false table id left = right_with table id left
+
+-- the moves that a right has seen: those before a step on the word, and the take where the id is held
+abbrev pub seen_by : List IdMove → Bool → List IdMove
+seen_by before true = noted before Take
+seen_by before false = before
+
+-- what a right owns: where its id is held the tenure, and all else where it isn't lent
+abbrev pub right_in : ℕ → List IdMove → Bool → Bool → Maybe Gv → Fml
+right_in table before true lent left =
+    fsep (tenure_of table before) (right_unless lent table (taken_id before) left)
+right_in table before false lent left = page_owns table before
+
 -- all that was published is noted
 abbrev pub all_noted : ℕ → List IdMove → Fml
 all_noted table [] = ftrue

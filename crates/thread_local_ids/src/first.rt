@@ -1,9 +1,8 @@
 //! The first 58 ids of a table, as the bits of one word that threads change by atomic steps, each
 //! least id by one compare and exchange. For proofs the word keeps the history of all ids of the table
 //! and their rights. The further ids lie under a lock.
-ghost use Rattle.std.specs.Prelude.{◌≡◌, ◌≢◌, ◌+◌, ◌*◌, ◌-◌, ◌/◌, ◌%◌, ◌^◌, ◌<◌, ◌≤◌, ◌==◌, ◌&&◌, ℕ, max, Bool, true, false, List, [], length, if◌then◌else◌};
+ghost use Rattle.std.specs.Prelude.{◌≡◌, ◌≢◌, ◌+◌, ◌*◌, ◌-◌, ◌/◌, ◌%◌, ◌^◌, ◌<◌, ◌≤◌, ◌==◌, ◌&&◌, ℕ, max, true, false, List, [], length, if◌then◌else◌};
 ghost use Rattle.std.specs.Prelude.{IfSome, None};
-ghost use base.Stored.{coded_bool};
 ghost use mathlib.Core.List.{IsPrefix};
 ghost use Rattle.thread_local_base.specs.Bits.{IsLowestUnset};
 ghost use Rattle.thread_local_base.specs.SharedWord.{word_shares, word_owns};
@@ -12,14 +11,14 @@ ghost use Rattle.thread_local_ids.specs.Rights.{taken_id};
 ghost use Rattle.thread_local_base.specs.Buckets.{values};
 ghost use Rattle.thread_local_base.specs.Held.{is_held};
 ghost use Rattle.thread_local_ids.specs.Sharings.{IsFirst, left_of};
-ghost use Rattle.thread_local_ids.specs.Taken.{IsTakenAfter};
-ghost use Rattle.thread_local_ids.specs.FirstIds.{FirstView, first_coded, lies_with, log_owns, tried_owns};
+ghost use Rattle.thread_local_ids.specs.Taken.{IsStepped, IsTakenAfter};
+ghost use Rattle.thread_local_ids.specs.FirstIds.{FirstView, first_coded, lies_with, log_owns};
 ghost use Rattle.thread_local_ids.specs.FirstIds.{IsWordOf, IsSameBeyond, IsGivenBeyond, HasFurther, IsReturn};
 ghost use Rattle.thread_local_ids.specs.FirstIds.{is_full as is_full_word, word_with as word_that_holds};
 
 use crate::locks::word::exchange;
 use crate::rights::held::HeldId;
-use crate::rights::page::{Page, Tenure};
+use crate::rights::page::Page;
 use crate::rights::right::{Right, SlotRights};
 use crate::tokens::book::Book;
 use std::marker::{Brand, Model, Move, Owns, PhantomData};
@@ -55,39 +54,24 @@ impl Move for FirstIds {
     ghost own_val = { λ first vs. word_owns (lies_with first.table) (λ n. Fields.own_val (record { word = n }) vs) };
 }
 
-/// All moves of a table up to the last one of a further id: both halves of what is kept of them, or
-/// the one that lies with the further ids. It has no bytes.
+/// All moves of a table up to the last one of a further id: the half of what is kept of them that lies
+/// with the further ids. It has no bytes.
 #[derive(Drop)]
 pub(crate) struct Log {
     pub(crate) marker: PhantomData<()>,
     pub ghost table: { ℕ },
     pub ghost moves: { List IdMove } by { moves_coded },
-    pub ghost whole: { Bool } by { coded_bool },
 }
 
 impl Model for Log {
-    ghost also_owns = { λ l. log_owns l.table l.whole l.moves };
-}
-
-/// The moves before an atomic step on the word, with the rights and the tenure of the least id if the
-/// step took it. It has no bytes.
-#[derive(Drop)]
-pub(crate) struct Trace {
-    pub(crate) marker: PhantomData<()>,
-    pub ghost table: { ℕ },
-    pub ghost before: { List IdMove } by { moves_coded },
-    pub ghost took: { Bool } by { coded_bool },
-}
-
-impl Model for Trace {
-    ghost also_owns = { λ t. tried_owns t.table t.before t.took };
+    ghost also_owns = { λ l. log_owns l.table false l.moves };
 }
 
 impl FirstIds {
     /// The first ids of a new table whose further ids the manager gives out. Beside them are the log, the
     /// page from before any id is taken, and the rights to its slots.
     pub(crate) fn begun(manager: &ThreadIdManager) -> (FirstIds, Log, (Page, SlotRights))
-        ensures log { (result.1.table ≡ result.0.table) × (result.1.moves ≡ []) × (result.1.whole ≡ false) }
+        ensures log { (result.1.table ≡ result.0.table) × (result.1.moves ≡ []) }
         ensures page { (result.2.0.table ≡ result.0.table) × (result.2.0.moves ≡ []) }
         ensures room { result.2.0.room ≡ max 58 manager.now.room }
         ensures slots { result.2.1.table ≡ result.0.table }
@@ -144,9 +128,9 @@ impl FirstIds {
             if id >= FIRST_IDS {
                 return None;
             }
-            let (found, trace) = self.try_take(seen, word_with(seen, id as u64), id, page);
+            let (found, right) = self.try_take(seen, word_with(seen, id as u64), id, page);
             if found == seen {
-                return Some(trace.into_held(id, page));
+                return Some(right.into_held(id, page));
             }
             seen = found;
         }
@@ -158,64 +142,60 @@ impl FirstIds {
         unsafe { raw::load::<Brand>(&raw const self.word, SeqCst) }
     }
 
-    /// Takes the least id if the word is still as it was seen, by one compare and exchange.
-    fn try_take(&self, seen: u64, new: u64, id: usize, page: &Page) -> (u64, Trace)
+    /// Takes the least id if the word is still as it was seen, by one compare and exchange. The right isn't
+    /// held where it wasn't.
+    fn try_take(&self, seen: u64, new: u64, id: usize, page: &Page) -> (u64, Right)
         requires table { page.now.table ≡ self.now.table }
         requires lowest { IsLowestUnset (seen / 64) id }
         requires first { id < 58 }
         requires new { new ≡ word_that_holds seen id }
-        ensures table { result.1.table ≡ self.now.table }
-        ensures took { result.1.took ≡ (result.0 == seen) }
+        ensures right { IsStepped self.now.table (result.0 == seen) result.1 }
         ensures early { IsPrefix page.now.moves result.1.before }
-        ensures least { result.1.took ≡ true → id ≡ taken_id result.1.before }
+        ensures least { result.1.held ≡ true → id ≡ taken_id result.1.before }
     {
         let _ = id;
         let _ = page;
         let found = unsafe { exchange::<Brand>(&raw const self.word, seen, new) };
-        let trace = Trace {
+        let right = Right {
             marker: PhantomData,
         };
-        (found, trace)
+        (found, right)
     }
 
     /// Looks at the word by one atomic load. If it shows that all of the first ids are held, and the
     /// caller takes a further id, then that is the least, and it is taken at this load.
-    pub(crate) fn look(&self, log: &mut Log, page: &Page, takes: bool) -> (u64, Trace)
+    pub(crate) fn look(&self, log: &mut Log, page: &Page, takes: bool) -> (u64, Right)
         requires table { (page.now.table ≡ self.now.table) × (log.old.table ≡ self.now.table) }
-        requires half { log.old.whole ≡ false }
         requires further { takes ≡ true → HasFurther (held_after log.old.moves) }
-        ensures table { result.1.table ≡ self.now.table }
-        ensures took { result.1.took ≡ (takes && is_full_word result.0) }
+        ensures right { IsStepped self.now.table (takes && is_full_word result.0) result.1 }
         ensures early { IsPrefix page.now.moves result.1.before }
         ensures word { IsWordOf result.0 (held_after result.1.before) }
         ensures beyond { IsSameBeyond (held_after log.old.moves) (held_after result.1.before) }
         ensures peak { length (held_after log.old.moves) - 58 ≡ length (held_after result.1.before) - 58 }
         ensures log { (log.new.table ≡ log.old.table)
-            × (log.new.whole ≡ false)
-            × (log.new.moves ≡ (if result.1.took then noted result.1.before Take else log.old.moves)) }
+            × (log.new.moves ≡ (if result.1.held then noted result.1.before Take else log.old.moves)) }
     {
         let _ = log;
         let _ = page;
         let _ = takes;
         let found = unsafe { raw::load::<Brand>(&raw const self.word, SeqCst) };
-        let trace = Trace {
+        let right = Right {
             marker: PhantomData,
         };
-        (found, trace)
+        (found, right)
     }
 
     /// Gives one of the first ids back, whose bit is given, by one atomic step.
-    pub(crate) fn give(&self, right: Right, tenure: Tenure, bit: u64) -> Page
-        requires table { (right.table ≡ self.now.table) × (tenure.table ≡ self.now.table) }
-        requires id { right.id ≡ taken_id tenure.before }
-        requires first { right.id < 58 }
-        requires bit { bit ≡ 64 * 2 ^ right.id % 2 ^ 64 }
+    pub(crate) fn give(&self, right: Right, bit: u64) -> Page
+        requires table { right.table ≡ self.now.table }
+        requires held { (right.held ≡ true) × (right.lent ≡ false) }
+        requires first { taken_id right.before < 58 }
+        requires bit { bit ≡ 64 * 2 ^ taken_id right.before % 2 ^ 64 }
         ensures table { result.table ≡ self.now.table }
-        ensures moves { IsReturn tenure.before right.id result.moves }
-        ensures left { published_in result.moves right.id ≡ right.left }
+        ensures moves { IsReturn right.before (taken_id right.before) result.moves }
+        ensures left { published_in result.moves (taken_id right.before) ≡ right.left }
     {
         let Right { marker: _ } = right;
-        let Tenure { marker: _ } = tenure;
         unsafe { raw::fetch_sub::<Brand>(&raw const self.word, bit, SeqCst) };
         Page {
             marker: PhantomData,
@@ -223,19 +203,17 @@ impl FirstIds {
     }
 
     /// Notes that a further id is given back, at an atomic load of the word.
-    pub(crate) fn give_further(&self, log: &mut Log, right: Right, tenure: Tenure) -> Page
-        requires table { (right.table ≡ self.now.table) × (tenure.table ≡ self.now.table) }
-        requires log { (log.old.table ≡ self.now.table) × (log.old.whole ≡ false) }
-        requires id { right.id ≡ taken_id tenure.before }
-        requires further { (58 ≤ right.id) × (right.id < 2 ^ 63 - 1) }
+    pub(crate) fn give_further(&self, log: &mut Log, right: Right) -> Page
+        requires table { (right.table ≡ self.now.table) × (log.old.table ≡ self.now.table) }
+        requires held { (right.held ≡ true) × (right.lent ≡ false) }
+        requires further { (58 ≤ taken_id right.before) × (taken_id right.before < 2 ^ 63 - 1) }
         ensures table { result.table ≡ self.now.table }
-        ensures moves { IsReturn tenure.before right.id result.moves }
-        ensures left { published_in result.moves right.id ≡ right.left }
-        ensures given { IsGivenBeyond (held_after log.old.moves) (held_after result.moves) right.id }
-        ensures log { (log.new.table ≡ log.old.table) × (log.new.whole ≡ false) × (log.new.moves ≡ result.moves) }
+        ensures moves { IsReturn right.before (taken_id right.before) result.moves }
+        ensures left { published_in result.moves (taken_id right.before) ≡ right.left }
+        ensures given { IsGivenBeyond (held_after log.old.moves) (held_after result.moves) (taken_id right.before) }
+        ensures log { (log.new.table ≡ log.old.table) × (log.new.moves ≡ result.moves) }
     {
         let Right { marker: _ } = right;
-        let Tenure { marker: _ } = tenure;
         let _ = log;
         unsafe { raw::load::<Brand>(&raw const self.word, SeqCst) };
         Page {
@@ -244,48 +222,17 @@ impl FirstIds {
     }
 }
 
-impl Trace {
-    /// The id that a step took, with its right. The page becomes that of the moves with the take.
+impl Right {
+    /// The id that a step took. The page becomes that of the moves with the take.
     pub(crate) fn into_held(self, id: usize, page: &mut Page) -> HeldId
-        requires took { (self.took ≡ true) × (self.table ≡ page.old.table) }
+        requires step { IsStepped page.old.table true self }
         requires id { (id ≡ taken_id self.before) × (id < 2 ^ 63 - 1) }
         requires early { IsPrefix page.old.moves self.before }
         ensures taken { IsTakenAfter self.table page.old.moves page.new.moves result }
         ensures table { page.new.table ≡ page.old.table }
     {
-        let (right, tenure) = self.into_rights();
-        *page = tenure.page();
-        HeldId { id, right, tenure }
-    }
-
-    /// Takes out what a step that took an id left.
-    fn into_rights(self) -> (Right, Tenure)
-        requires { self.took ≡ true }
-        ensures tables { (result.0.table ≡ self.table) × (result.1.table ≡ self.table) }
-        ensures id { result.0.id ≡ taken_id self.before }
-        ensures left { result.0.left ≡ published_in self.before (taken_id self.before) }
-        ensures before { result.1.before ≡ self.before }
-    {
-        let Self { marker: _ } = self;
-        (
-            Right {
-                marker: PhantomData,
-            },
-            Tenure {
-                marker: PhantomData,
-            },
-        )
-    }
-
-    /// The page of the moves that a step saw which took no id.
-    pub(crate) fn into_page(self) -> Page
-        requires { self.took ≡ false }
-        ensures { (result.table ≡ self.table) × (result.moves ≡ self.before) }
-    {
-        let Self { marker: _ } = self;
-        Page {
-            marker: PhantomData,
-        }
+        *page = self.page();
+        HeldId { id, right: self }
     }
 }
 
@@ -329,7 +276,3 @@ unsafe impl Sync for FirstIds {}
 unsafe impl Send for Log {}
 
 unsafe impl Sync for Log {}
-
-unsafe impl Send for Trace {}
-
-unsafe impl Sync for Trace {}

@@ -63,20 +63,20 @@ impl Further {
         self.start.in_line(page);
         match alloc(&mut self.manager) {
             Ok(id) => {
-                let (word, trace) = first.look(&mut self.log, page, true);
+                let (word, right) = first.look(&mut self.log, page, true);
                 if !is_full(word) {
                     self.manager.free(id);
                     return None;
                 }
                 self.reached = self.reached.max(id - (FIRST_IDS - 1));
-                Some(Ok(trace.into_held(id, page)))
+                Some(Ok(right.into_held(id, page)))
             }
             Err(error) => {
-                let (word, trace) = first.look(&mut self.log, page, false);
+                let (word, right) = first.look(&mut self.log, page, false);
                 if !is_full(word) {
                     return None;
                 }
-                *page = trace.into_page();
+                *page = right.page();
                 Some(Err(error))
             }
         }
@@ -84,14 +84,14 @@ impl Further {
 
     /// Takes a further id back.
     pub(crate) fn give(&mut self, first: &FirstIds, held: HeldId) -> Page
-        requires table { (first.now.table ≡ self.old.table) × (held.tenure.table ≡ self.old.table) }
+        requires table { (first.now.table ≡ self.old.table) × (held.right.table ≡ self.old.table) }
         requires further { 58 ≤ held.id }
         ensures table { (self.new.table ≡ self.old.table) × (result.table ≡ self.old.table) }
-        ensures moves { IsReturn held.tenure.before held.id result.moves }
+        ensures moves { IsReturn held.right.before held.id result.moves }
         ensures left { published_in result.moves held.id ≡ held.right.left }
     {
-        let HeldId { id, right, tenure } = held;
-        let page = first.give_further(&mut self.log, right, tenure);
+        let HeldId { id, right } = held;
+        let page = first.give_further(&mut self.log, right);
         self.manager.free(id);
         page
     }
@@ -103,8 +103,8 @@ impl Further {
         ensures peak { result.0 ≡ length (held_after result.1.moves) }
         ensures early { IsPrefix page.now.moves result.1.moves }
     {
-        let (word, trace) = first.look(&mut self.log, page, false);
-        (peak(word) + self.reached, trace.into_page())
+        let (word, right) = first.look(&mut self.log, page, false);
+        (peak(word) + self.reached, right.page())
     }
 
     /// Takes every id back, also the first ones, and counts the peak anew. The room stays. The rights

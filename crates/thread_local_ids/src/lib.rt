@@ -13,7 +13,7 @@ pub mod tokens;
 
 pub use locks::lock::{Fits, Lock, LockGuard};
 pub use rights::held::HeldId;
-pub use rights::page::{Page, Tenure};
+pub use rights::page::Page;
 pub use rights::right::{Right, SlotRights};
 pub use shared_ids::SharedIds;
 pub use tokens::book::Book;

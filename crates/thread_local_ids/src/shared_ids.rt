@@ -132,26 +132,26 @@ impl SharedIds {
     /// the further ids, where the id is one of these.
     #[inline]
     pub fn give<R: Wait>(&self, rt: &R, held: HeldId) -> Page
-        requires table { held.tenure.table ≡ self.now.table }
+        requires table { held.right.table ≡ self.now.table }
         ensures table { result.table ≡ self.now.table }
-        ensures moves { IsReturn held.tenure.before held.id result.moves }
+        ensures moves { IsReturn held.right.before held.id result.moves }
         ensures left { published_in result.moves held.id ≡ held.right.left }
     {
         if held.id >= FIRST_IDS {
             return self.give_further(rt, held);
         }
-        let HeldId { id, right, tenure } = held;
-        self.first.give(right, tenure, 64 << id)
+        let HeldId { id, right } = held;
+        self.first.give(right, 64 << id)
     }
 
     /// Takes a further id back, under the lock.
     #[cold]
     #[inline(never)]
     fn give_further<R: Wait>(&self, rt: &R, held: HeldId) -> Page
-        requires table { held.tenure.table ≡ self.now.table }
+        requires table { held.right.table ≡ self.now.table }
         requires further { 58 ≤ held.id }
         ensures table { result.table ≡ self.now.table }
-        ensures moves { IsReturn held.tenure.before held.id result.moves }
+        ensures moves { IsReturn held.right.before held.id result.moves }
         ensures left { published_in result.moves held.id ≡ held.right.left }
     {
         self.further.lock(rt).give(&self.first, held)

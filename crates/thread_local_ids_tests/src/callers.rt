@@ -43,11 +43,11 @@ fn take_two<R: Wait>(
 ) -> Result<(HeldId, HeldId), LocalError>
     requires { page.old.table ≡ ids.now.table }
     ensures differ { IfOk result (λ two. two.0.id ≢ two.1.id) }
-    ensures in_turn { IfOk result (λ two. IsPrefix (noted two.0.tenure.before Take) two.1.tenure.before) }
+    ensures in_turn { IfOk result (λ two. IsPrefix (noted two.0.right.before Take) two.1.right.before) }
 {
     let mut first = ids.take(rt, page)?;
     let mut second = ids.take(rt, page)?;
-    first.tenure.apart(&mut second.tenure);
+    first.right.apart(&mut second.right);
     Ok((first, second))
 }
 
@@ -59,17 +59,17 @@ fn an_id_is_held_once(rt: HostRuntime) -> Result<(), Fail> {
     Ok(())
 }
 
-/// Two held ids of one table are two, as their tenures show.
+/// Two held ids of one table are two, as their rights show.
 fn are_two(one: &mut HeldId, other: &mut HeldId)
-    requires { one.old.tenure.table ≡ other.old.tenure.table }
+    requires { one.old.right.table ≡ other.old.right.table }
     ensures differ { one.old.id ≢ other.old.id }
     ensures same { (one.new.id ≡ one.old.id) × (other.new.id ≡ other.old.id) }
 {
-    one.tenure.apart(&mut other.tenure);
+    one.right.apart(&mut other.right);
 }
 
 #[test]
-fn two_held_ids_have_two_tenures(rt: HostRuntime) -> Result<(), Fail> {
+fn two_held_ids_have_two_rights(rt: HostRuntime) -> Result<(), Fail> {
     let table = Table::new(rt.alloc());
     let mut first = table.take(&rt)?;
     let mut second = table.take(&rt)?;
@@ -86,13 +86,13 @@ fn give_and_take<R: Wait>(
     rt: &R,
     given: HeldId,
 ) -> Result<(Page, HeldId), LocalError>
-    requires held { given.tenure.table ≡ ids.now.table }
+    requires held { given.right.table ≡ ids.now.table }
     ensures history { IfOk result (λ both. published_in both.0.moves given.id ≡ given.right.left) }
     ensures value { IfOk result (λ both.
         both.1.id ≡ given.id → IsSome given.right.left → both.1.right.left ≡ given.right.left) }
     ensures at_once { IfOk result (λ both.
         both.1.id ≡ given.id
-        → both.1.tenure.before ≡ both.0.moves
+        → both.1.right.before ≡ both.0.moves
         → both.1.right.left ≡ given.right.left) }
 {
     let page = ids.give(rt, given);

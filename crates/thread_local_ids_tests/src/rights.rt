@@ -1,12 +1,13 @@
 //! Tests of rights: they take no bytes, and stand in types of one's own; a cleared table has another
 //! name.
 ghost use Rattle.std.specs.Prelude.{◌≡◌, ◌≢◌};
+ghost use Rattle.thread_local_ids.specs.Rights.{taken_id};
 
 use crate::same::assert_same;
 use crate::shared_ids::Table;
 use std::mem;
 use std::test::Fail;
-use thread_local_ids::{HeldId, Page, Right, SharedIds, SlotRights, Tenure};
+use thread_local_ids::{HeldId, Page, Right, SharedIds, SlotRights};
 
 /// Where a right may stand: in a struct and in an enum.
 #[derive(Drop)]
@@ -19,7 +20,7 @@ enum Slot {
 struct Held {
     id: usize,
     right: Right,
-    ghost own: { right.id ≡ id },
+    ghost own: { id ≡ taken_id right.before },
 }
 
 /// Takes every id back.
@@ -46,19 +47,14 @@ fn a_right_takes_no_bytes(rt: HostRuntime) {
         mem::size_of::<Right>(),
         mem::size_of::<SlotRights>(),
         mem::size_of::<Page>(),
-        mem::size_of::<Tenure>(),
     ];
-    assert_same(&rt, sizes, [0; 4]);
+    assert_same(&rt, sizes, [0; 3]);
 }
 
 #[test]
 fn a_right_stands_in_a_struct_and_in_an_enum(rt: HostRuntime) -> Result<(), Fail> {
     let table = Table::new(rt.alloc());
-    let HeldId {
-        id,
-        right,
-        tenure: _,
-    } = table.take(&rt)?;
+    let HeldId { id, right } = table.take(&rt)?;
     let mut slot = Slot::Taken(Held { id, right });
     let before = mem::replace(&mut slot, Slot::Vacant);
     if let Slot::Taken(held) = before {

@@ -44,7 +44,7 @@ impl Table {
 
     /// Takes an id.
     pub fn take<R: Wait>(&self, rt: &R) -> Result<HeldId, LocalError>
-        ensures { IfOk result (λ held. held.tenure.table ≡ self.now.ids.table) }
+        ensures { IfOk result (λ held. held.right.table ≡ self.now.ids.table) }
     {
         let mut page = self.start.again();
         self.ids.take(rt, &mut page)
@@ -58,7 +58,7 @@ impl Table {
     /// Takes an id, and never gives it back. Answers it, and how many ids were held at once by then.
     fn take_and_peak<R: Wait>(&self, rt: &R) -> Result<(usize, usize), LocalError> {
         let held = self.take(rt)?;
-        let peak = self.ids.peak(rt, &mut held.tenure.page());
+        let peak = self.ids.peak(rt, &mut held.right.page());
         Ok((held.id, peak))
     }
 
@@ -71,7 +71,7 @@ impl Table {
 
     /// Gives an id back, and answers it.
     fn give<R: Wait>(&self, rt: &R, held: HeldId) -> usize
-        requires { held.tenure.table ≡ self.now.ids.table }
+        requires { held.right.table ≡ self.now.ids.table }
     {
         let id = held.id;
         self.ids.give(rt, held);

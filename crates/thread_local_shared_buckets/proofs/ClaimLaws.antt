@@ -3,7 +3,7 @@ use Rattle.std.proofs.Common.{◌≡◌, ◌∙◌, List, Option, ℕ, ap, sym, 
 use base.Stored.{Gv}
 use Rattle.thread_local_base.specs.IdMoves.{IdMove}
 use Rattle.thread_local_base.specs.Learnt.{Learnt}
-use Rattle.thread_local_ids.specs.declared.rights.page.Tenure.{Tenure}
+use Rattle.thread_local_ids.specs.declared.rights.right.Right.{Right}
 use Rattle.thread_local_shared_buckets.specs.Announcing.{Announcing}
 use Rattle.thread_local_shared_buckets.specs.Known.{HasLooked}
 use Rattle.thread_local_shared_buckets.specs.Room.{IsClaim}
@@ -12,12 +12,12 @@ use Rattle.thread_local_shared_buckets.specs.Views.{ClaimView}
 
 module _ {V : Type 0} where
   -- it keeps that where its slot has learnt something
-  pub goes_on : (slot to : ClaimedSlot V) (id : ℕ) (word : Announcing) (tenure : Tenure) (learnt : Learnt V) (left : Option Gv)
-      → IsClaim slot id word tenure
+  pub goes_on : (slot to : ClaimedSlot V) (id : ℕ) (word : Announcing) (right : Right) (learnt : Learnt V) (left : Option Gv)
+      → IsClaim slot id word right
       → to ≡ record slot { at = to.at; state = to.state; learnt = learnt; left = left } → HasLooked learnt
-      → IsClaim to id word tenure
-  goes_on slot to id word tenure learnt left kept same looked =
-      subst (λ (s : ClaimedSlot V). IsClaim s id word tenure) (sym same)
+      → IsClaim to id word right
+  goes_on slot to id word right learnt left kept same looked =
+      subst (λ (s : ClaimedSlot V). IsClaim s id word right) (sym same)
       (kept.0, kept.1, kept.2, looked, kept.4, kept.5, kept.6, kept.7, kept.8)
 
   abbrev view : ClaimedSlot V → ℕ → List IdMove → ClaimView V

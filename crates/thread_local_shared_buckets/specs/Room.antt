@@ -1,12 +1,12 @@
 -- A claim's parts. The room that it has for a value: a vacant slot, or a block that was made for its
 -- missing bucket. What filling the slot leaves.
-use Rattle.std.specs.Prelude.{◌≡◌, ◌⊎◌, ℕ, ◌^◌, ◌-◌, ◌<◌, Option, None, Some}
+use Rattle.std.specs.Prelude.{◌≡◌, ◌⊎◌, ℕ, true, ◌^◌, ◌-◌, ◌<◌, Option, None, Some}
 use Rattle.thread_local_base.specs.Learnt.{Learnt, Missing, Vacant, Holding}
 use Rattle.thread_local_base.specs.Place.{index_of}
 use Rattle.thread_local_buckets.specs.Slots.{empty_slots}
 use Rattle.thread_local_ids.specs.Sharings.{Belongs}
-use Rattle.thread_local_ids.specs.Rights.{taken_id}
-use Rattle.thread_local_ids.specs.declared.rights.page.Tenure.{Tenure}
+use Rattle.thread_local_ids.specs.Taken.{IsRightTo}
+use Rattle.thread_local_ids.specs.declared.rights.right.Right.{Right}
 use Rattle.thread_local_shared_buckets.specs.Announcing.{Announcing, BeginsWithFirst}
 use Rattle.thread_local_shared_buckets.specs.Known.{HasLooked}
 use Rattle.thread_local_shared_buckets.specs.declared.claimed.ClaimedSlot.{ClaimedSlot}
@@ -20,10 +20,10 @@ HasRoom heap bucket learnt None = learnt ≡ Vacant
 HasRoom heap bucket learnt (Some block) =
     (learnt ≡ Missing) × (block.heap ≡ heap) × (block.slots ≡ empty_slots (2 ^ bucket)) × (block.left ≡ 0)
 
--- What a claim keeps of its slot, the id, the word of announced buckets, and the tenure of the id: all are
+-- What a claim keeps of its slot, the id, the word of announced buckets, and the right to the id: all are
 -- of the same table, and the slot is that of the id.
-abbrev pub IsClaim : {V : Type 0} → ClaimedSlot V → ℕ → Announcing → Tenure → Type 0
-IsClaim slot id word tenure =
+abbrev pub IsClaim : {V : Type 0} → ClaimedSlot V → ℕ → Announcing → Right → Type 0
+IsClaim slot id word right =
     (slot.id ≡ id)
     × (slot.index ≡ index_of id)
     × (id < 2 ^ 63 - 1)
@@ -31,8 +31,8 @@ IsClaim slot id word tenure =
     × Belongs slot.sharing slot.table
     × (slot.word ≡ word)
     × BeginsWithFirst word
-    × (tenure.table ≡ slot.table)
-    × (id ≡ taken_id tenure.before)
+    × IsRightTo slot.table id right
+    × (right.lent ≡ true)
 
 -- no value is known: the bucket was missing, or the slot is vacant
 abbrev pub IsEmpty : {V : Type 0} → Learnt V → Type 0

@@ -18,7 +18,7 @@ use std::alloc::{AllocError, Global};
 use std::marker::Model;
 use thread_local_base::{Thread, bucket_size};
 use thread_local_buckets::{Block, BucketPointer, flag_word_at};
-use thread_local_ids::{HeldId, Page, Tenure, Token};
+use thread_local_ids::{HeldId, Page, Right, Token};
 
 /// The slot of an id, for the holder of the id, whose right lies with the slot meanwhile. Contracts
 /// see its table, the sharing, its id, what was done with the table's ids before the id was taken,
@@ -33,7 +33,7 @@ pub struct Claim<'a, T> {
     id: usize,
     /// The word in which the claim announces its bucket before it installs one.
     announcements: &'a Announcements,
-    tenure: Tenure,
+    right: Right,
 }
 
 impl<'a, T> Model for Claim<'a, T> {
@@ -49,12 +49,12 @@ impl<'a, T> Model for Claim<'a, T> {
           table = c.slot.table;
           sharing = c.slot.sharing;
           id = c.id;
-          before = c.tenure.before;
+          before = c.right.before;
           reserved = c.slot.reserved;
           learnt = c.slot.learnt;
         } };
 
-    ghost invariant = { λ c. IsClaim c.slot c.id c.announcements.now c.tenure };
+    ghost invariant = { λ c. IsClaim c.slot c.id c.announcements.now c.right };
 }
 
 impl<T> Shared<T> {
@@ -62,30 +62,30 @@ impl<T> Shared<T> {
     /// the bucket's pointer, and where the bucket stands, one of the word that has the slot's flag.
     /// The bucket of a reserved slot is never missing.
     pub fn claim(&self, held: HeldId) -> Claim<'_, T>
-        requires table { held.tenure.table ≡ self.now.table }
+        requires table { held.right.table ≡ self.now.table }
         requires sharing { Belongs self.now.sharing self.now.table }
         ensures same_slot { (result.table ≡ self.now.table)
             × (result.sharing ≡ self.now.sharing)
             × (result.id ≡ held.id)
-            × (result.before ≡ held.tenure.before) }
+            × (result.before ≡ held.right.before) }
         ensures found { Finds Unknown result.learnt }
         ensures learnt { HasLooked result.learnt }
         ensures reserved { id_at (bucket_of held.id) 0 < self.now.reserved → result.learnt ≢ Missing }
         ensures left { is_first self.now.sharing self.now.table ≡ true
             → held.right.left ≡ left_of T.row (value_held result.learnt) }
     {
-        let HeldId { id, right, tenure } = held;
+        let HeldId { id, right } = held;
         let thread = Thread::new(id);
         let pointers = &self.parts().pointers;
         let bucket = &pointers.pointers.pointers[thread.bucket];
-        let mut slot = ClaimedSlot::hold(bucket, thread.index, right);
+        let (mut slot, right) = ClaimedSlot::hold(bucket, thread.index, right);
         slot.find(thread.index, flag_word_of::<T>(thread));
         slot.notes();
         Claim {
             slot,
             id,
             announcements: &pointers.announced,
-            tenure,
+            right,
         }
     }
 }
@@ -206,10 +206,10 @@ impl<'a, T> Claim<'a, T> {
         ensures { self.new ≡ record self.old { learnt = Vacant } }
     {
         let announced = self.announcements.announce(thread.bucket);
-        let tenure = &self.tenure;
+        let right = &self.right;
         let back = self
             .slot
-            .exchange(thread.index, block, tenure, announced, VACANT);
+            .exchange(thread.index, block, right, announced, VACANT);
         if let Some(block) = back {
             block.release(alloc, bucket_size(thread.bucket));
         }
@@ -281,8 +281,8 @@ impl<'a, T> Claim<'a, T> {
         };
         let block = filled(block, alloc, thread, value);
         let announced = self.announcements.announce(thread.bucket);
-        let tenure = &self.tenure;
-        self.slot.install(alloc, thread, block, tenure, announced);
+        let right = &self.right;
+        self.slot.install(alloc, thread, block, right, announced);
     }
 
     /// `publish`, which is never inlined, so that the way of who installs a block is short.
@@ -367,8 +367,8 @@ impl<'a, T> Claim<'a, T> {
 
     /// Gives the claim up, and returns the held id. The id's note says what the slot is left with.
     pub fn give_up(self) -> HeldId
-        ensures table { result.tenure.table ≡ self.entry.table }
-        ensures id { (result.id ≡ self.entry.id) × (result.tenure.before ≡ self.entry.before) }
+        ensures table { result.right.table ≡ self.entry.table }
+        ensures id { (result.id ≡ self.entry.id) × (result.right.before ≡ self.entry.before) }
         ensures left { is_first self.entry.sharing self.entry.table ≡ true
             → result.right.left ≡ left_of T.row (value_held self.entry.learnt) }
     {
@@ -376,14 +376,13 @@ impl<'a, T> Claim<'a, T> {
             slot,
             id,
             announcements: _,
-            tenure,
+            right,
         } = self;
         let mut slot = slot;
         slot.notes();
         HeldId {
             id,
-            right: slot.give_up(),
-            tenure,
+            right: slot.give_up(right),
         }
     }
 
@@ -393,14 +392,14 @@ impl<'a, T> Claim<'a, T> {
         ensures ids { self.old.id ≢ other.old.id }
         ensures same { (self.new ≡ self.old) × (other.new ≡ other.old) }
     {
-        self.tenure.apart(&mut other.tenure)
+        self.right.apart(&mut other.right)
     }
 
     /// The page of the table's ids that ends with the take of this id. At run time it does nothing.
     pub fn page(&self) -> Page
         ensures { (result.table ≡ self.now.table) × (result.moves ≡ noted self.now.before Take) }
     {
-        self.tenure.page()
+        self.right.page()
     }
 
     /// Shows that the id is held after all moves of a later page. At run time it does nothing.
@@ -410,7 +409,7 @@ impl<'a, T> Claim<'a, T> {
         ensures held { is_held (held_after page.moves) self.old.id ≡ true }
         ensures same { self.new ≡ self.old }
     {
-        self.tenure.held_at(page);
+        self.right.held_at(page);
     }
 }
 

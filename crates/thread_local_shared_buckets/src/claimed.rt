@@ -1,6 +1,6 @@
 //! A claimed slot as it is stored: it points to the bucket's pointer until the bucket is found, and
 //! to the slot's value from then on.
-ghost use Rattle.std.specs.Prelude.{◌≡◌, ◌≢◌, ◌<◌, ◌^◌, ◌⊎◌, ℕ, Bool, true, Option, is_some};
+ghost use Rattle.std.specs.Prelude.{◌≡◌, ◌≢◌, ◌<◌, ◌^◌, ◌⊎◌, ℕ, Bool, true, false, Option, is_some};
 ghost use base.Fml.{fsep};
 ghost use base.Stored.{Gv, coded_bool};
 ghost use Rattle.std.specs.Coded.{coded_option, coded_ℕ};
@@ -8,7 +8,8 @@ ghost use denote.RawPtr.{Ptr, coded_ptr};
 ghost use Rattle.thread_local_base.specs.Learnt.{Learnt, learnt_coded, Unknown, Missing, Vacant, Holding, Finds};
 ghost use Rattle.thread_local_base.specs.Place.{id_at};
 ghost use Rattle.thread_local_base.specs.IdMoves.{left_coded};
-ghost use Rattle.thread_local_ids.specs.Rights.{note_owns};
+ghost use Rattle.thread_local_ids.specs.Rights.{note_owns, taken_id};
+ghost use Rattle.thread_local_ids.specs.Taken.{IsRightTo};
 ghost use Rattle.thread_local_ids.specs.Sharings.{Belongs};
 ghost use Rattle.thread_local_shared_buckets.specs.Announcing.{Announcing, announcing_coded};
 ghost use Rattle.thread_local_shared_buckets.specs.Known.{HasLooked, MayLook, state_of, value_held};
@@ -78,31 +79,33 @@ impl<'a, T> Model for ClaimedSlot<'a, T> {
 }
 
 impl<'a, T> ClaimedSlot<'a, T> {
-    /// A claim that has the right to its id, and has not looked for its slot yet.
+    /// A claim to which the right is lent, and which has not looked for its slot yet.
     pub(crate) fn hold(
         bucket: &'a SharedBucket<T>,
         index: usize,
         right: Right,
-    ) -> ClaimedSlot<'a, T>
-        requires table { right.table ≡ bucket.now.table }
-        requires id { right.id ≡ id_at bucket.now.bucket index }
+    ) -> (ClaimedSlot<'a, T>, Right)
+        requires right { IsRightTo bucket.now.table (id_at bucket.now.bucket index) right }
+        requires here { right.lent ≡ false }
         requires within { index < 2 ^ bucket.now.bucket }
-        ensures same_slot { (result.table ≡ right.table)
-            × (result.sharing ≡ bucket.now.sharing)
-            × (result.word ≡ bucket.now.word)
-            × (result.id ≡ right.id)
-            × (result.index ≡ index) }
-        ensures unknown { result.learnt ≡ Unknown }
-        ensures left { result.left ≡ right.left }
-        ensures reserved { result.reserved ≡ bucket.now.reserved }
+        ensures same_slot { (result.0.table ≡ right.table)
+            × (result.0.sharing ≡ bucket.now.sharing)
+            × (result.0.word ≡ bucket.now.word)
+            × (result.0.id ≡ taken_id right.before)
+            × (result.0.index ≡ index) }
+        ensures unknown { result.0.learnt ≡ Unknown }
+        ensures left { result.0.left ≡ right.left }
+        ensures reserved { result.0.reserved ≡ bucket.now.reserved }
+        ensures right { result.1 ≡ record right { lent = true } }
     {
-        right.lay_down();
+        let right = right.lend();
         let _ = index;
-        ClaimedSlot {
+        let slot = ClaimedSlot {
             at: bucket as *const SharedBucket<T> as *const (),
             state: MISSING,
             marker: PhantomData,
-        }
+        };
+        (slot, right)
     }
 
     /// Looks for the bucket, and where it stands, at the slot: one atomic load of the bucket's

@@ -88,7 +88,7 @@ fn each_published_value_is_dropped_once(rt: HostRuntime) -> Result<(), Fail> {
 
 /// What a new claim holds, which is forgotten then.
 fn found_and_forgotten(shared: &Shared<u32>, held: HeldId) -> Option<u32>
-    requires table { held.tenure.table ≡ shared.now.table }
+    requires table { held.right.table ≡ shared.now.table }
     requires sharing { Belongs shared.now.sharing shared.now.table }
 {
     let claimed = Kept {

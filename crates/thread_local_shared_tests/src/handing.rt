@@ -18,9 +18,9 @@ use thread_local_shared_buckets::Shared;
 
 /// Adds to the number at an id, and answers what was there.
 fn add(shared: &Shared<Cell<u64>>, held: HeldId, more: u64) -> (HeldId, Option<u64>)
-    requires held { held.tenure.table ≡ shared.now.table }
+    requires held { held.right.table ≡ shared.now.table }
     requires sharing { Belongs shared.now.sharing shared.now.table }
-    ensures table { result.0.tenure.table ≡ shared.now.table }
+    ensures table { result.0.right.table ≡ shared.now.table }
     ensures id { result.0.id ≡ held.id }
 {
     let claim = shared.claim(held);
@@ -41,7 +41,7 @@ fn look_while_claimed<R: Threads>(
     shared: &Shared<u32>,
     held: HeldId,
 ) -> (Option<u32>, Option<u32>)
-    requires table { held.tenure.table ≡ shared.now.table }
+    requires table { held.right.table ≡ shared.now.table }
     requires sharing { Belongs shared.now.sharing shared.now.table }
 {
     let id = held.id;

@@ -51,7 +51,7 @@ impl<'a, T: Drop> Kept<'a, T> {
 
 /// Claims an id that was taken.
 fn claim_early<T>(shared: &Shared<T>, held: HeldId) -> Kept<'_, T>
-    requires held { held.tenure.table ≡ shared.now.table }
+    requires held { held.right.table ≡ shared.now.table }
     requires sharing { Belongs shared.now.sharing shared.now.table }
 {
     Kept {

@@ -17,7 +17,7 @@ use thread_local_shared_buckets::Shared;
 
 /// What the holder of an id finds in its slot, which is what the id's note says.
 fn found<T: Copy>(shared: &Shared<T>, held: HeldId) -> Option<T>
-    requires held { held.tenure.table ≡ shared.now.table }
+    requires held { held.right.table ≡ shared.now.table }
     requires first { IsFirst shared.now.sharing shared.now.table }
     requires sharing { Belongs shared.now.sharing shared.now.table }
     ensures { held.right.left ≡ left_of T.row result }

@@ -54,7 +54,7 @@ impl Table {
 
     /// Takes an id that isn't given back.
     pub fn take<R: Wait>(&self, rt: &R) -> Result<HeldId, LocalError>
-        ensures { IfOk result (λ held. held.tenure.table ≡ self.now.ids.table) }
+        ensures { IfOk result (λ held. held.right.table ≡ self.now.ids.table) }
     {
         self.ids.take(rt, &mut self.start.again())
     }
@@ -121,9 +121,9 @@ impl<T> Drop for Kept<'_, T> {
 /// Publishes a value at an id whose slot is empty, with a block for its bucket where that is missing.
 /// Answers whether it did.
 pub fn publish<T: Drop>(shared: &Shared<T>, held: HeldId, alloc: Global, value: T) -> (HeldId, bool)
-    requires held { held.tenure.table ≡ shared.now.table }
+    requires held { held.right.table ≡ shared.now.table }
     requires sharing { Belongs shared.now.sharing shared.now.table }
-    ensures table { result.0.tenure.table ≡ shared.now.table }
+    ensures table { result.0.right.table ≡ shared.now.table }
     ensures id { result.0.id ≡ held.id }
 {
     let mut claim = shared.claim(held);
@@ -136,7 +136,7 @@ pub fn publish<T: Drop>(shared: &Shared<T>, held: HeldId, alloc: Global, value: 
 
 /// Publishes a value in a slot that is vacant, and answers whether it did.
 pub fn publish_claimed<T: Drop>(claim: Claim<'_, T>, value: T) -> (HeldId, bool)
-    ensures table { result.0.tenure.table ≡ claim.entry.table }
+    ensures table { result.0.right.table ≡ claim.entry.table }
     ensures id { result.0.id ≡ claim.entry.id }
 {
     let mut claim = claim;

@@ -22,9 +22,9 @@ pub(crate) fn told<T: Drop>(
     alloc: Global,
     value: T,
 ) -> (HeldId, Option<Token<T>>)
-    requires held { held.tenure.table ≡ shared.now.table }
+    requires held { held.right.table ≡ shared.now.table }
     requires sharing { Belongs shared.now.sharing shared.now.table }
-    ensures table { result.0.tenure.table ≡ shared.now.table }
+    ensures table { result.0.right.table ≡ shared.now.table }
     ensures id { result.0.id ≡ held.id }
     ensures token { IfSome result.1 (λ token.
         (token.sharing ≡ shared.now.sharing) × (token.id ≡ held.id)) }
@@ -104,7 +104,7 @@ fn renewed<T>(shared: &mut Shared<T>)
 
 /// What the next claim of a token's slot holds, and the id of the token that it answers.
 fn held_again(shared: &Shared<u32>, held: HeldId, token: &Token<u32>) -> (u32, Option<usize>)
-    requires held { held.tenure.table ≡ shared.now.table }
+    requires held { held.right.table ≡ shared.now.table }
     requires id { held.id ≡ token.now.id }
     requires belongs { Belongs shared.now.sharing shared.now.table }
     requires sharing { (shared.now.sharing ≡ token.now.sharing) × IsSome shared.now.sharing }

@@ -1,28 +1,37 @@
-//! The right to an id is out, as a `Right` with one holder, or it lies with the table's ids. The same
-//! holds of numbers that are no ids, which notes, the history and its log are to. No type here has bytes, and no call does anything at run time.
-ghost use Rattle.std.specs.Prelude.{◌≡◌, ℕ, Option};
+//! The rights to ids, which threads that hold them have, and a new table's rights to its slots. No type
+//! here has bytes, and no call does anything at run time.
+ghost use Rattle.std.specs.Prelude.{◌≡◌, ◌≢◌, ℕ, Bool, true, false, List, Option};
 ghost use types.Logic.{sem};
-ghost use base.Stored.{Gv};
-ghost use Rattle.thread_local_base.specs.IdMoves.{left_coded};
-ghost use Rattle.thread_local_ids.specs.Rights.{right_with, slots_own};
+ghost use base.Stored.{Gv, coded_bool};
+ghost use mathlib.Core.List.{IsPrefix};
+ghost use denote.Sharing.{said};
+ghost use Rattle.thread_local_base.specs.IdMoves.{IdMove, Take, left_coded, moves_coded, held_after, noted};
+ghost use Rattle.thread_local_base.specs.Held.{is_held};
+ghost use Rattle.thread_local_ids.specs.Rights.{right_in, right_with, seen_by, page_owns, slots_own, taken_id};
 
+use crate::rights::page::Page;
 use std::marker::{Model, PhantomData};
 
-/// The right to one id of one table: no two values are the right to the same id. With it comes the id's
-/// note, which says what the slot was published with in the table's first sharing: nothing yet, or the
-/// code of a value.
+/// The right to the least id after some moves, since it was taken then: no two values are the right to
+/// the same id. It shows that the id is held. Where it isn't lent, the id's slot may be claimed with it. It has
+/// the id's note then, which says what the slot was published with in the table's first sharing: nothing yet, or the code of a value.
 ///
-/// One that is dropped or forgotten is lost for good, and its id stays out.
+/// A step that took no id leaves one that isn't held, and shows which moves it saw. One that is dropped
+/// or forgotten is lost for good, and its id stays out.
 #[derive(Drop)]
 pub struct Right {
     pub(crate) marker: PhantomData<()>,
     pub ghost table: { ℕ },
-    pub ghost id: { ℕ },
+    pub ghost before: { List IdMove } by { moves_coded },
+    pub ghost held: { Bool } by { coded_bool },
+    pub ghost lent: { Bool } by { coded_bool },
     pub ghost left: { Option Gv } by { left_coded },
 }
 
 impl Model for Right {
-    ghost also_owns = { λ r. right_with r.table r.id r.left };
+    ghost also_owns = { λ r. right_in r.table r.before r.held r.lent r.left };
+
+    ghost also_shares = { λ r _ κ. said (page_owns r.table (seen_by r.before r.held)) κ };
 }
 
 /// A new table's rights to tell what its slots are published with in its first sharing: of none of them
@@ -38,20 +47,51 @@ impl Model for SlotRights {
 }
 
 impl Right {
-    /// Leaves the right with the caller's proof, as for an invariant of its own. At run time it
-    /// does nothing.
-    pub fn lay_down(self)
-        ensures* { sem 𝓛 (right_with self.table self.id self.left) }
+    /// The page of the moves that it has seen. It ends with the take, where the id is held.
+    pub fn page(&self) -> Page
+        ensures { (result.table ≡ self.now.table) × (result.moves ≡ seen_by self.now.before self.now.held) }
     {
-        let Right { marker: _ } = self;
+        Page {
+            marker: PhantomData,
+        }
     }
 
-    /// Makes a right again out of what `lay_down` gave to the proof.
-    pub fn take_up() -> Right
-        ghost of: { ℕ × ℕ × Option Gv }
-        requires* { sem 𝓛 (right_with of.0 of.1 of.2) }
-        ensures { (result.table ≡ of.0) × (result.id ≡ of.1) × (result.left ≡ of.2) }
+    /// Shows that two rights of one table are to different ids.
+    pub fn apart(&mut self, other: &mut Right)
+        requires held { (self.old.held ≡ true) × (other.old.held ≡ true) }
+        ensures ids { self.old.table ≡ other.old.table → taken_id self.old.before ≢ taken_id other.old.before }
+        ensures same { (self.new ≡ self.old) × (other.new ≡ other.old) }
+    {}
+
+    /// Shows that the id is held after all moves of a later page.
+    pub fn held_at(&mut self, page: Page)
+        requires held { self.old.held ≡ true }
+        requires table { page.table ≡ self.old.table }
+        requires later { IsPrefix (noted self.old.before Take) page.moves }
+        ensures held { is_held (held_after page.moves) (taken_id self.old.before) ≡ true }
+        ensures same { self.new ≡ self.old }
+    {}
+
+    /// Lends the right to the caller's proof, as for an invariant of its own.
+    pub fn lend(self) -> Right
+        requires { (self.held ≡ true) × (self.lent ≡ false) }
+        ensures* right { sem 𝓛 (right_with self.table (taken_id self.before) self.left) }
+        ensures lent { result ≡ record self { lent = true } }
     {
+        let Right { marker: _ } = self;
+        Right {
+            marker: PhantomData,
+        }
+    }
+
+    /// Takes back what `lend` gave to the proof, with what the id's note says by now.
+    pub fn take_back(self) -> Right
+        ghost left: { Option Gv }
+        requires lent { (self.held ≡ true) × (self.lent ≡ true) }
+        requires* right { sem 𝓛 (right_with self.table (taken_id self.before) left) }
+        ensures { result ≡ record self { lent = false; left = left } }
+    {
+        let Right { marker: _ } = self;
         Right {
             marker: PhantomData,
         }

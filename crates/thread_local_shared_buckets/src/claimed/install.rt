@@ -5,7 +5,7 @@ ghost use Rattle.thread_local_buckets.specs.Slots.{empty_slots, slot_value};
 ghost use Rattle.thread_local_shared_buckets.specs.Known.{found_as, state_of};
 ghost use Rattle.thread_local_base.specs.Learnt.{Missing, Vacant};
 ghost use Rattle.thread_local_base.specs.Place.{IsPlaceOf, bucket_of};
-ghost use Rattle.thread_local_ids.specs.Rights.{taken_id};
+ghost use Rattle.thread_local_ids.specs.Taken.{IsRightTo};
 ghost use Rattle.thread_local_ids.specs.Sharings.{Belongs};
 
 use super::{ClaimedSlot, HOLDING, VACANT};
@@ -19,7 +19,7 @@ use std::sync::atomic::Ordering::SeqCst;
 use std::sync::atomic::raw::ptr;
 use thread_local_base::{Thread, bucket_size};
 use thread_local_buckets::Block;
-use thread_local_ids::Tenure;
+use thread_local_ids::Right;
 
 impl<'a, T> ClaimedSlot<'a, T> {
     /// Offers a block with the value of the slot, which publishes it. Where another block was installed
@@ -31,7 +31,7 @@ impl<'a, T> ClaimedSlot<'a, T> {
         alloc: &Global,
         thread: Thread,
         block: Block<T, Global>,
-        tenure: &Tenure,
+        right: &Right,
         announced: Announced,
     )
         requires missing { self.old.learnt ≡ Missing }
@@ -40,7 +40,7 @@ impl<'a, T> ClaimedSlot<'a, T> {
         requires block { (block.heap ≡ alloc.now) × (block.left ≡ 0) }
         requires others { slice_set block.slots thread.index None ≡ empty_slots (2 ^ thread.bucket) }
         requires value { IsSome (slot_value block.slots thread.index) }
-        requires tenure { (tenure.now.table ≡ self.old.table) × (self.old.id ≡ taken_id tenure.now.before) }
+        requires right { IsRightTo self.old.table self.old.id right.now }
         requires announced { (announced.by ≡ self.old.word) × (announced.bucket ≡ thread.bucket) }
         requires sharing { Belongs self.old.sharing self.old.table }
         ensures same { self.new ≡ record self.old {
@@ -51,7 +51,7 @@ impl<'a, T> ClaimedSlot<'a, T> {
         } }
         ensures learnt { self.new.learnt ≡ found_as (slot_value block.slots thread.index) }
     {
-        let back = self.exchange(thread.index, block, tenure, announced, HOLDING);
+        let back = self.exchange(thread.index, block, right, announced, HOLDING);
         if let Some(block) = back {
             self.publish_second(alloc, thread, block);
         }
@@ -92,7 +92,7 @@ impl<'a, T> ClaimedSlot<'a, T> {
         &mut self,
         index: usize,
         block: Block<T, Global>,
-        tenure: &Tenure,
+        right: &Right,
         announced: Announced,
         state: u64,
     ) -> Option<Block<T, Global>>
@@ -100,7 +100,7 @@ impl<'a, T> ClaimedSlot<'a, T> {
         requires index { index ≡ self.old.index }
         requires made { (block.left ≡ 0)
             × (slice_set block.slots self.old.index None ≡ empty_slots (2 ^ bucket_of self.old.id)) }
-        requires tenure { (tenure.now.table ≡ self.old.table) × (self.old.id ≡ taken_id tenure.now.before) }
+        requires right { IsRightTo self.old.table self.old.id right.now }
         requires announced { (announced.by ≡ self.old.word) × (announced.bucket ≡ bucket_of self.old.id) }
         requires state { state ≡ state_of (found_as (slot_value block.slots self.old.index)) }
         requires sharing { Belongs self.old.sharing self.old.table }

@@ -1,5 +1,6 @@
 //! Claims at concrete types.
 ghost use Rattle.std.specs.Prelude.{◌≡◌, ◌≢◌, ◌^◌, ◌⊎◌, MatchBool, MatchOption};
+ghost use Rattle.thread_local_ids.specs.Rights.{taken_id};
 ghost use Rattle.thread_local_buckets.specs.Slots.{empty_slots};
 ghost use Rattle.thread_local_base.specs.Learnt.{Missing, Vacant, Holding};
 ghost use Rattle.thread_local_base.specs.Place.{bucket_of};
@@ -24,7 +25,7 @@ fn offered<T: Send + Drop>(claim: &mut Claim<'_, T>, value: T)
 }
 
 fn number(claim: Claim<'_, u32>) -> HeldId
-    ensures { (result.id ≡ claim.entry.id) × (result.right.id ≡ claim.entry.id) }
+    ensures { (result.id ≡ claim.entry.id) × (taken_id result.right.before ≡ claim.entry.id) }
 {
     claim.give_up()
 }
@@ -58,10 +59,10 @@ fn ref_cell(claim: &mut Claim<'_, RefCell<String>>, value: RefCell<String>)
 
 /// Looks, and gives the claim up.
 fn visit<T: Send>(shared: &Shared<T>, held: HeldId) -> HeldId
-    requires table { held.tenure.table ≡ shared.now.table }
+    requires table { held.right.table ≡ shared.now.table }
     requires sharing { Belongs shared.now.sharing shared.now.table }
-    ensures table { (result.right.table ≡ held.right.table) × (result.tenure.table ≡ held.tenure.table) }
-    ensures id { (result.id ≡ held.id) × (result.right.id ≡ held.id) }
+    ensures table { result.right.table ≡ held.right.table }
+    ensures id { (result.id ≡ held.id) × (taken_id result.right.before ≡ held.id) }
 {
     shared.claim(held).give_up()
 }
@@ -69,7 +70,7 @@ fn visit<T: Send>(shared: &Shared<T>, held: HeldId) -> HeldId
 /// What the look lent outlives the claim, and so does a token of it.
 fn seen<'a, T: Send + Sync>(claim: Claim<'a, T>) -> (HeldId, Option<(Token<T>, &'a T)>)
     requires { claim.learnt ≢ Missing }
-    ensures id { (result.0.id ≡ claim.entry.id) × (result.0.right.id ≡ claim.entry.id) }
+    ensures id { (result.0.id ≡ claim.entry.id) × (taken_id result.0.right.before ≡ claim.entry.id) }
     ensures value { MatchOption result.1 (claim.entry.learnt ≡ Vacant) (λ x.
         (x.0.value ≡ x.1.now) × (claim.entry.learnt ≡ Holding x.1.now)) }
 {

@@ -20,7 +20,7 @@ stays before later id v early is some =
 pub returns-clause-value : goal.returns-clause-value
 returns-clause-value g c = λ same some.
     let taken = c.in_ok-again.ensures.taken in
-    let since = subst (λ (l : List IdMove). IsPrefix l c.in_ok-again.again.tenure.before) c.again.ensures.page.1 taken.since in
-    taken.left ∙ ap (published_in c.in_ok-again.again.tenure.before) same
-    ∙ stays c.give-page.result.moves c.in_ok-again.again.tenure.before c.args.given.id c.args.given.right.left since
+    let since = subst (λ (l : List IdMove). IsPrefix l c.in_ok-again.again.right.before) c.again.ensures.page.1 taken.since in
+    taken.left ∙ ap (published_in c.in_ok-again.again.right.before) same
+    ∙ stays c.give-page.result.moves c.in_ok-again.again.right.before c.args.given.id c.args.given.right.left since
     c.give-page.ensures.left some

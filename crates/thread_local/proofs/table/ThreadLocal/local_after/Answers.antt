@@ -40,7 +40,7 @@ returns-clause-since g c =
 
 pub returns-clause-found : goal.returns-clause-found
 returns-clause-found g c = λ first value says.
-    let left : left_of g.row.T (view_of c.claim.result.learnt).value ≡ published_in c.in_ok-held.held.tenure.before c.claim.result.id = search (rules, first) in
+    let left : left_of g.row.T (view_of c.claim.result.learnt).value ≡ published_in c.in_ok-held.held.right.before c.claim.result.id = search (rules, first) in
     c.a_value_left_is_found.ensures.found _ _ _ _ _ value says c.in_ok-held.ensures.taken.since left refl
 
 pub returns-clause-moves : goal.returns-clause-moves

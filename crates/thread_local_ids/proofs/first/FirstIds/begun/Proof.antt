@@ -68,7 +68,7 @@ begun_spec 𝓤 𝓛 𝓜 𝓡 wired =
     use0 𝓛 (later (some (λ (γ : ℕ). ‵ (begun 𝓛 room γ)))) (via 𝓤 _ (begins 𝓛 room) (basic 𝓛 (ex 𝓤 Begun))) $ await ! tt $ pick ! (λ γ.
     let p : Pa.Denot = record { marker = record {}; table = γ; moves = []; room = room } in
     let s : Sl.Denot = record { marker = record {}; table = γ } in
-    let g : Lg.Denot = record { marker = record {}; table = γ; moves = []; whole = false } in
+    let g : Lg.Denot = record { marker = record {}; table = γ; moves = [] } in
     fsplit ! $ nothing ! $ flt_i ! 0 (2 ^ 64) (lit< tt) $ feq_i ! _ (vint w64 0 ∷ []) _ refl $ fjoin ! $ fjoin ! $
     feq_i ! _ (v ∷ []) _ refl $ fjoin ! $
     fpack ! (Valss (u64 ∷ [])) (within D (0, tt) (v ∷ [])) (vint w64 0 ∷ [], tt) $ fjoin ! $
@@ -92,7 +92,7 @@ begun_spec 𝓤 𝓛 𝓜 𝓡 wired =
     -- [what is answered; the token]
     knows ! (γ ≡ γ) refl $ knows ! (room ≡ room) refl $ join ! $
     knows ! ((γ ≡ γ) × (◌≡◌ {A = List IdMove} [] [])) (refl, refl) $ join ! $
-    knows ! ((γ ≡ γ) × (◌≡◌ {A = List IdMove} [] []) × (false ≡ false)) (refl, refl, refl) $ join ! $ nothing ! $ nothing ! $ fjoin ! $
+    knows ! ((γ ≡ γ) × (◌≡◌ {A = List IdMove} [] [])) (refl, refl) $ join ! $ nothing ! $ nothing ! $ fjoin ! $
     -- [nothing; the facts; what is answered; the token]
     returns ! (look_at ! 0 refl) $ free_all ! refl $ keep ! (3 ∷ 0 ∷ 2 ∷ 1 ∷ []) $
     by ! (leaves 𝓛 ended hs c y all (record { table = γ }, g, (p, s)) (tt, tt) (tt, tt)))))

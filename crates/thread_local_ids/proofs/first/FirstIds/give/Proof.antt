@@ -17,14 +17,13 @@ use Rattle.thread_local_ids.proofs.FirstElements as step
 use Rattle.thread_local_base.specs.IdMoves.{published_in}
 use Rattle.thread_local_ids.specs.FirstIds.{FirstView}
 use Rattle.thread_local_ids.specs.contracts.first.FirstIds as words
-use Rattle.thread_local_ids.specs.Rights.{right_with, tenure_of, taken_id}
-use Rattle.std.proofs.Common.{◌%◌}
+use Rattle.thread_local_ids.specs.Rights.{right_in, taken_id}
+use Rattle.std.proofs.Common.{◌%◌, Bool, true, false}
 use Rattle.thread_local_ids.specs.FirstIds.{IsReturn}
 use Rattle.thread_local_ids.proofs.Markers.{Mark, token, told, made}
 use Rattle.thread_local_ids.specs.contracts.rights.right.Right as right
 use base.Stored.{Gv}
 use Rattle.std.proofs.Common.{Option}
-use Rattle.thread_local_ids.specs.contracts.rights.page.Tenure as tenure
 use Rattle.thread_local_ids.specs.contracts.rights.page.Page as page
 use Rattle.thread_local_ids.specs.contracts.first.FirstIds.give.{ended, clauses, Key.name as #self}
 use Rattle.thread_local_ids.proofs.first.FirstIds.give.Statement.{statement}
@@ -39,61 +38,52 @@ give_spec 𝓤 𝓛 𝓜 𝓡 wired =
     let Row : RattleType = words.the_row in
     let self = RefOf (0 ∷ []) tt (plain (λ _. Row)) (λ _. tt) in
     let rights = plain (λ _. right.the_row) in
-    let kept = plain (λ _. tenure.the_row) in
     let number = plain (λ _. u64) in
     let hs : Stays ended.signature.params ended.kept =
-    (stay_dropped self yes, (stay_dropped rights yes, (stay_dropped kept yes, (stay_dropped number yes, tt)))) in
+    (stay_dropped self yes, (stay_dropped rights yes, (stay_dropped number yes, tt))) in
     proved 𝓛 ended hs c 𝓜 𝓡 (
       Goes-dropped 𝓛 1 self yes (λ κs x f. refl),
-      (
-        Goes-dropped 𝓛 1 rights yes (λ κs x f. refl),
-        (Goes-dropped 𝓛 1 kept yes (λ κs x f. refl), (Goes-dropped 𝓛 1 number yes (λ κs x f. refl), tt)),
-      ),
+      (Goes-dropped 𝓛 1 rights yes (λ κs x f. refl), (Goes-dropped 𝓛 1 number yes (λ κs x f. refl), tt)),
     ) #self fn (code.unfolded 𝓤 H 𝓜 𝓡 wired)
-    (λ κs. (shr_vals, ((λ x. token ∷ []), ((λ x. token ∷ []), (uint_vals w64, tt)))))
-    (λ κs. (
-      shr_Tells (named 0) κs.0 Row,
-      (
-        (λ x vs is. told (right.the_type).name vs is.0),
-        ((λ x vs is. told (tenure.the_type).name vs is.0), (uint_Tells w64, tt)),
-      ),
-    )) (λ κs qs bounds a gh are.
+    (λ κs. (shr_vals, ((λ x. token ∷ []), (uint_vals w64, tt))))
+    (λ κs. (shr_Tells (named 0) κs.0 Row, ((λ x vs is. told (right.the_type).name vs is.0), (uint_Tells w64, tt)))) (λ κs qs bounds a gh are.
     let b : ℕ = a.0.ref_ptr.0 in
     let o : ℕ = a.0.ref_ptr.1 in
     let d : FirstView = a.0.now in
     let mine = a.1.0 in
-    let since = a.1.1.0 in
-    let k : ℕ = a.1.1.1.0 in
+    let id : ℕ = taken_id mine.before in
+    let k : ℕ = a.1.1.0 in
     let κ : Lft = κs.0 in
     let q : Share = qs.0 in
     let others : Fml = ftrue in
     let y : (walk_of 𝓛 ended hs c).Ghost =
-    ((κs, qs, bounds, a, (vptr b o ∷ [], (token ∷ [], (token ∷ [], (vint w64 k ∷ [], tt))))), gh) in
+    ((κs, qs, bounds, a, (vptr b o ∷ [], (token ∷ [], (vint w64 k ∷ [], tt)))), gh) in
     let Post : Val → SProp 𝓤 = (walk_of 𝓛 ended hs c).post y in
-    let At : Type 0 = (mine.table ≡ d.table) × (since.table ≡ d.table) in
-    let Is : Type 0 = mine.id ≡ taken_id since.before in
-    let Low : Type 0 = mine.id < 58 in
-    let Bit : Type 0 = k ≡ 64 * 2 ^ mine.id % 2 ^ 64 in
+    let At : Type 0 = mine.table ≡ d.table in
+    let Held : Type 0 = (mine.held ≡ true) × (mine.lent ≡ false) in
+    let Low : Type 0 = id < 58 in
+    let Bit : Type 0 = k ≡ 64 * 2 ^ id % 2 ^ 64 in
     qed 𝓛 (((‵ (flft κ q) ⊛ ‵ others) ⊛ ‵ (owns (types_at ended.signature.params κs) a y.0.4))
-    ∷ raw (fact 𝓤 At) ∷ raw (fact 𝓤 Is) ∷ raw (fact 𝓤 Low) ∷ raw (fact 𝓤 Bit) ∷ []) ∵
-    keep ! (1 ∷ 2 ∷ 3 ∷ 4 ∷ 0 ∷ []) $ heard ! At (λ at. heard ! Is (λ is. heard ! Low (λ low. heard ! Bit (λ bit.
-    split ! $ split ! $ move ! (2 ∷ []) $ fsplit ! $ fsplit ! $ move ! (2 ∷ []) $ fsplit3 ! $ fsplit ! $ move ! (2 ∷ []) $ fsplit ! $
-    keep ! (6 ∷ 7 ∷ 8 ∷ 3 ∷ 1 ∷ []) $
-    rewrite ! 3 (λ (t : ℕ). ‵ (right_with t mine.id mine.left)) at.0 refl $
-    rewrite ! 4 (λ (t : ℕ). ‵ (tenure_of t since.before)) at.1 refl $
-    -- [what the `&` holds; its token; the other tokens; the right; the tenure]
-    enter ! 𝓣.C 𝓣.Λ fn (vptr b o ∷ token ∷ token ∷ vint w64 k ∷ []) Post $ alloc_all ! (λ l.
-    pass_all ! refl ((tt, tt), ((tt, (tt, tt)), ((tt, (tt, tt)), ((tt, record { fits = are.1.1.1.0.1 }), tt)))) $
+    ∷ raw (fact 𝓤 At) ∷ raw (fact 𝓤 Held) ∷ raw (fact 𝓤 Low) ∷ raw (fact 𝓤 Bit) ∷ []) ∵
+    keep ! (1 ∷ 2 ∷ 3 ∷ 4 ∷ 0 ∷ []) $ heard ! At (λ at. heard ! Held (λ held. heard ! Low (λ low. heard ! Bit (λ bit.
+    split ! $ split ! $ move ! (2 ∷ []) $ fsplit ! $ fsplit ! $ move ! (2 ∷ []) $ fsplit ! $ fsplit ! $
+    keep ! (4 ∷ 5 ∷ 6 ∷ 1 ∷ []) $
+    rewrite ! 3 (λ (t : ℕ). ‵ (right_in t mine.before mine.held mine.lent mine.left)) at refl $
+    rewrite ! 3 (λ (h : Bool). ‵ (right_in d.table mine.before h mine.lent mine.left)) held.0 refl $
+    rewrite ! 3 (λ (t : Bool). ‵ (right_in d.table mine.before true t mine.left)) held.1 refl $
+    -- [what the `&` holds; its token; the other tokens; the right]
+    enter ! 𝓣.C 𝓣.Λ fn (vptr b o ∷ token ∷ vint w64 k ∷ []) Post $ alloc_all ! (λ l.
+    pass_all ! refl ((tt, tt), ((tt, (tt, tt)), ((tt, record { fits = are.1.1.0.1 }), tt))) $
     let Ev = env fn.locals l in
     unhide ! $ fpick ! (λ α. fsplit ! $ move ! (0 ∷ 2 ∷ []) $
     lends_token ! 𝓜 𝓡 κ α q $ await ! tt $ pick ! (λ s. split ! $
-    -- [α's token, and the way back; the invariant; the other tokens; the right; the tenure]
-    let out : ℕ → Fml = λ n. fsep (flft α s) (step.returned 𝓛 d.table since.before mine.id mine.left) in
+    -- [α's token, and the way back; the invariant; the other tokens; the right]
+    let out : ℕ → Fml = λ n. fsep (flft α s) (step.returned 𝓛 d.table mine.before mine.left) in
     first ! $ blocks ! $ sets ! (addr ! (through ! refl (fld ! refl (stop !)))) refl (tt, tt) $
-    move ! (4 ∷ 5 ∷ []) $ fjoin ! $ move ! (3 ∷ 1 ∷ 0 ∷ []) $
+    move ! (2 ∷ 0 ∷ 4 ∷ []) $
     use3 𝓛 (raw (𝓣.C _ (vptr b (o + 0) ∷ vint w64 k ∷ seq_cst ∷ []) (λ u. mean 𝓛 (found out u))))
-    (via 𝓤 _ (step.gives 𝓛 d.table b o α s k mine.id since.before mine.left low bit is)
-    (calls.subs 𝓛 𝓜 𝓡 (code.calls-std::sync::atomic::raw::fetch_sub 𝓡.env wired) (block_ptr b (o + 0)) k are.1.1.1.0.1 out)) $
+    (via 𝓤 _ (step.gives 𝓛 d.table b o α s k mine.before mine.left low bit)
+    (calls.subs 𝓛 𝓜 𝓡 (code.calls-std::sync::atomic::raw::fetch_sub 𝓡.env wired) (block_ptr b (o + 0)) k are.1.1.0.1 out)) $
     sets ! (agg ! (and_then ! (lit ! tt) (no_more !))) refl (tt, (record { fits = lit< tt }, tt)) $
     Calls-last ! (fm 𝓛 𝓜 𝓡) (found out) (and_then ! (get ! refl) (and_then ! (get ! refl) (and_then ! (get ! refl) (no_more !)))) (λ u.
     finds ! out (λ n fits.
@@ -106,10 +96,10 @@ give_spec 𝓤 𝓛 𝓜 𝓡 wired =
     move ! (1 ∷ []) $ fpick ! (λ more. fsplit ! $ fpick ! (λ so. drop ! $ fpick ! (λ room.
     let r : page.the_row.Denot = record { marker = record {}; table = d.table; moves = more; room = room } in
     use0 𝓛 (‵ ((Mark (page.the_type).name).own_val (tt, tt) (token ∷ []))) (made (page.the_type).name 𝓛) $
-    fjoin ! $ knows ! (◌≡◌ {A = Option Gv} (published_in more mine.id) mine.left) so.1 $ knows ! (IsReturn since.before mine.id more) so.0 $ join ! $
+    fjoin ! $ knows ! (◌≡◌ {A = Option Gv} (published_in more id) mine.left) so.1 $ knows ! (IsReturn mine.before id more) so.0 $ join ! $
     knows ! (d.table ≡ d.table) refl $ join ! $
     -- [the facts; the page; the token; the other tokens]
-    move ! (2 ∷ 3 ∷ []) $ join ! $ nothing ! $ nothing ! $ fjoin ! $ nothing ! $ fjoin ! $ nothing ! $ fjoin ! $ nothing ! $ fjoin ! $
+    move ! (2 ∷ 3 ∷ []) $ join ! $ nothing ! $ nothing ! $ fjoin ! $ nothing ! $ fjoin ! $ nothing ! $ fjoin ! $
     -- [nothing; the tokens; the facts; the page]
     returns ! (look_at ! 0 refl) $ free_all ! refl $ keep ! (1 ∷ 0 ∷ 3 ∷ 2 ∷ []) $
-    by ! (leaves 𝓛 ended hs c y token r (tt, (tt, (tt, (tt, tt)))) (tt, (tt, (tt, (tt, tt))))))))))))))))))
+    by ! (leaves 𝓛 ended hs c y token r (tt, (tt, (tt, tt))) (tt, (tt, (tt, tt)))))))))))))))))

@@ -17,15 +17,14 @@ use Rattle.thread_local_ids.proofs.FirstElements as step
 use Rattle.thread_local_base.specs.IdMoves.{published_in}
 use Rattle.thread_local_ids.specs.FirstIds.{FirstView}
 use Rattle.thread_local_ids.specs.contracts.first.FirstIds as words
-use Rattle.std.proofs.Common.{Bool, false}
+use Rattle.std.proofs.Common.{Bool, true, false}
 use Rattle.thread_local_base.specs.IdMoves.{held_after}
-use Rattle.thread_local_ids.specs.Rights.{right_with, tenure_of, taken_id}
+use Rattle.thread_local_ids.specs.Rights.{right_in, taken_id}
 use Rattle.thread_local_ids.specs.FirstIds.{IsReturn, IsGivenBeyond, log_owns}
 use Rattle.thread_local_ids.proofs.Markers.{Mark, token, told, made}
 use Rattle.thread_local_ids.specs.contracts.rights.right.Right as right
 use base.Stored.{Gv}
 use Rattle.std.proofs.Common.{Option}
-use Rattle.thread_local_ids.specs.contracts.rights.page.Tenure as tenure
 use Rattle.thread_local_ids.specs.contracts.rights.page.Page as page
 use Rattle.thread_local_ids.specs.contracts.first.Log as log
 use Rattle.thread_local_ids.specs.contracts.first.FirstIds.give_further.{ended, clauses, Key.name as #self}
@@ -42,28 +41,16 @@ give_further_spec 𝓤 𝓛 𝓜 𝓡 wired =
     let Lg : RattleType = log.the_row in
     let self = RefOf (0 ∷ []) tt (plain (λ _. Row)) (λ _. tt) in
     let rights = plain (λ _. right.the_row) in
-    let kept = plain (λ _. tenure.the_row) in
-    let hs : Stays ended.signature.params ended.kept = (
-      stay_dropped self yes,
-      (
-        stay_ref (1 ∷ []) tt (plain (λ _. Lg)),
-        (stay_dropped rights yes, (stay_dropped kept yes, tt)),
-      ),
-    ) in
+    let hs : Stays ended.signature.params ended.kept =
+    (stay_dropped self yes, (stay_ref (1 ∷ []) tt (plain (λ _. Lg)), (stay_dropped rights yes, tt))) in
     proved 𝓛 ended hs c 𝓜 𝓡 (
       Goes-dropped 𝓛 2 self yes (λ κs x f. refl),
-      (
-        Goes-ref 𝓛 2 1 tt (plain (λ _. Lg)),
-        (Goes-dropped 𝓛 2 rights yes (λ κs x f. refl), (Goes-dropped 𝓛 2 kept yes (λ κs x f. refl), tt)),
-      ),
+      (Goes-ref 𝓛 2 1 tt (plain (λ _. Lg)), (Goes-dropped 𝓛 2 rights yes (λ κs x f. refl), tt)),
     ) #self fn (code.unfolded 𝓤 H 𝓜 𝓡 wired)
-    (λ κs. (shr_vals, (mut_vals, ((λ x. token ∷ []), ((λ x. token ∷ []), tt)))))
+    (λ κs. (shr_vals, (mut_vals, ((λ x. token ∷ []), tt))))
     (λ κs. (
       shr_Tells (named 0) κs.0 Row,
-      (
-        mut_Tells (named 1) κs.1.0 Lg,
-        ((λ x vs is. told (right.the_type).name vs is.0), ((λ x vs is. told (tenure.the_type).name vs is.0), tt)),
-      ),
+      (mut_Tells (named 1) κs.1.0 Lg, ((λ x vs is. told (right.the_type).name vs is.0), tt)),
     )) (λ κs qs bounds a gh are.
     let b : ℕ = a.0.ref_ptr.0 in
     let o : ℕ = a.0.ref_ptr.1 in
@@ -72,40 +59,39 @@ give_further_spec 𝓤 𝓛 𝓜 𝓡 wired =
     let lb : ℕ = a.1.0.ref_ptr.0 in
     let lo : ℕ = a.1.0.ref_ptr.1 in
     let mine = a.1.1.0 in
-    let since = a.1.1.1.0 in
+    let id : ℕ = taken_id mine.before in
     let κ : Lft = κs.0 in
     let q : Share = qs.0 in
     let μ : Lft = κs.1.0 in
     let m : Share = qs.1.0 in
     let y : (walk_of 𝓛 ended hs c).Ghost =
-    ((κs, qs, bounds, a, (vptr b o ∷ [], (mut_vals a.1.0, (token ∷ [], (token ∷ [], tt))))), gh) in
+    ((κs, qs, bounds, a, (vptr b o ∷ [], (mut_vals a.1.0, (token ∷ [], tt)))), gh) in
     let Post : Val → SProp 𝓤 = (walk_of 𝓛 ended hs c).post y in
-    let At : Type 0 = (mine.table ≡ d.table) × (since.table ≡ d.table) in
-    let Half : Type 0 = (s'.table ≡ d.table) × (s'.whole ≡ false) in
-    let Is : Type 0 = mine.id ≡ taken_id since.before in
-    let High : Type 0 = (58 ≤ mine.id) × (mine.id < 2 ^ 63 - 1) in
+    let At : Type 0 = (mine.table ≡ d.table) × (s'.table ≡ d.table) in
+    let Held : Type 0 = (mine.held ≡ true) × (mine.lent ≡ false) in
+    let High : Type 0 = (58 ≤ id) × (id < 2 ^ 63 - 1) in
     qed 𝓛 (((‵ (flft κ q) ⊛ ‵ (flft μ m) ⊛ ‵ ftrue) ⊛ ‵ (owns (types_at ended.signature.params κs) a y.0.4))
-    ∷ raw (fact 𝓤 At) ∷ raw (fact 𝓤 Half) ∷ raw (fact 𝓤 Is) ∷ raw (fact 𝓤 High) ∷ []) ∵
-    keep ! (1 ∷ 2 ∷ 3 ∷ 4 ∷ 0 ∷ []) $ heard ! At (λ at. heard ! Half (λ half. heard ! Is (λ is. heard ! High (λ high.
-    split ! $ split3 ! $ move ! (3 ∷ []) $ fsplit3 ! $ fsplit ! $ move ! (2 ∷ []) $ fsplit3 ! $ move ! (5 ∷ []) $ fsplit3 ! $ fsplit ! $
-    move ! (2 ∷ []) $ fsplit ! $
-    keep ! (6 ∷ 7 ∷ 11 ∷ 9 ∷ 10 ∷ 3 ∷ 1 ∷ 5 ∷ 12 ∷ []) $
-    rewrite ! 5 (λ (t : ℕ). ‵ (right_with t mine.id mine.left)) at.0 refl $
-    rewrite ! 6 (λ (t : ℕ). ‵ (tenure_of t since.before)) at.1 refl $
-    -- [the `&mut`, in two parts; its token; what the `&` holds; its token; the right; the tenure; the first part of the `&mut`; nothing]
+    ∷ raw (fact 𝓤 At) ∷ raw (fact 𝓤 Held) ∷ raw (fact 𝓤 High) ∷ []) ∵
+    keep ! (1 ∷ 2 ∷ 3 ∷ 0 ∷ []) $ heard ! At (λ at. heard ! Held (λ held. heard ! High (λ high.
+    split ! $ split3 ! $ move ! (3 ∷ []) $ fsplit3 ! $ fsplit ! $ move ! (2 ∷ []) $ fsplit3 ! $ move ! (5 ∷ []) $ fsplit ! $ fsplit ! $
+    keep ! (4 ∷ 5 ∷ 9 ∷ 7 ∷ 8 ∷ 1 ∷ 3 ∷ 10 ∷ []) $
+    rewrite ! 5 (λ (t : ℕ). ‵ (right_in t mine.before mine.held mine.lent mine.left)) at.0 refl $
+    rewrite ! 5 (λ (h : Bool). ‵ (right_in d.table mine.before h mine.lent mine.left)) held.0 refl $
+    rewrite ! 5 (λ (t : Bool). ‵ (right_in d.table mine.before true t mine.left)) held.1 refl $
+    -- [the `&mut`, in two parts; its token; what the `&` holds; its token; the right; the first part of the `&mut`; nothing]
     enter ! 𝓣.C 𝓣.Λ fn _ Post $ alloc_all ! (λ l.
-    pass_all ! refl ((tt, tt), ((tt, tt), ((tt, (tt, tt)), ((tt, (tt, tt)), tt)))) $
+    pass_all ! refl ((tt, tt), ((tt, tt), ((tt, (tt, tt)), tt))) $
     let Ev = env fn.locals l in
     opens ! tt Lg lb lo (λ us. move ! (1 ∷ []) $ fsplit ! $
-    rewrite ! 1 (λ (w : Bool). ‵ (log_owns s'.table w s'.moves)) half.1 refl $ rewrite ! 1 (λ (t : ℕ). ‵ (log_owns t false s'.moves)) half.0 refl $
+    rewrite ! 1 (λ (t : ℕ). ‵ (log_owns t false s'.moves)) at.1 refl $
     move ! (6 ∷ 7 ∷ []) $ unhide ! $ fpick ! (λ α. fsplit ! $ move ! (0 ∷ 2 ∷ []) $
     lends_token ! 𝓜 𝓡 κ α q $ await ! tt $ pick ! (λ s. split ! $
-    -- [α's token, and the way back; the invariant; the fields; the log; the cell and the open borrow; the right; the tenure; ..]
-    let out : ℕ → Fml = λ n. fsep (flft α s) (step.returned_further 𝓛 d.table since.before s'.moves mine.id mine.left) in
+    -- [α's token, and the way back; the invariant; the fields; the log; the cell and the open borrow; the right; ..]
+    let out : ℕ → Fml = λ n. fsep (flft α s) (step.returned_further 𝓛 d.table mine.before s'.moves mine.left) in
     first ! $ blocks ! $ sets ! (addr ! (through ! refl (fld ! refl (stop !)))) refl (tt, tt) $
-    move ! (9 ∷ 10 ∷ []) $ fjoin ! $ move ! (5 ∷ 0 ∷ []) $ fjoin ! $ move ! (3 ∷ 1 ∷ 0 ∷ []) $
+    move ! (4 ∷ 9 ∷ []) $ fjoin ! $ move ! (3 ∷ 1 ∷ 0 ∷ []) $
     use3 𝓛 (raw (𝓣.C _ (vptr b (o + 0) ∷ seq_cst ∷ []) (λ u. mean 𝓛 (found out u))))
-    (via 𝓤 _ (step.gives_under_lock 𝓛 d.table b o α s mine.id since.before s'.moves mine.left high.0 high.1 is)
+    (via 𝓤 _ (step.gives_under_lock 𝓛 d.table b o α s mine.before s'.moves mine.left high.0 high.1)
     (calls.loads 𝓛 𝓜 𝓡 (code.calls-std::sync::atomic::raw::load 𝓡.env wired) (block_ptr b (o + 0)) out)) $
     sets ! (agg ! (and_then ! (lit ! tt) (no_more !))) refl (tt, (record { fits = lit< tt }, tt)) $
     Calls-last ! (fm 𝓛 𝓜 𝓡) (found out) (and_then ! (get ! refl) (and_then ! (get ! refl) (no_more !))) (λ u.
@@ -117,18 +103,18 @@ give_further_spec 𝓤 𝓛 𝓜 𝓡 wired =
     returns_token ! κ α q s $ await ! tt $
     -- [the token; what the step left; the fields; the cell and the open borrow; ..]
     move ! (1 ∷ []) $ fpick ! (λ more. fsplit ! $ fpick ! (λ so. drop ! $ fsplit ! $ fpick ! (λ room.
-    let new : Lg.Denot = record s' { moves = more; whole = false } in
+    let new : Lg.Denot = record s' { moves = more } in
     let r : page.the_row.Denot = record { marker = record {}; table = d.table; moves = more; room = room } in
-    rewrite ! 1 (λ (t : ℕ). ‵ (log_owns t false more)) (sym half.0) refl $
+    rewrite ! 1 (λ (t : ℕ). ‵ (log_owns t false more)) (sym at.1) refl $
     move ! (3 ∷ 1 ∷ []) $ fjoin ! $ move ! (3 ∷ 0 ∷ 4 ∷ 5 ∷ 6 ∷ []) $ closes ! tt Lg new us lb lo $
     -- [two parts of the `&mut`; its token; the page; the token; its first part; nothing]
-    move ! (5 ∷ 0 ∷ 1 ∷ []) $ fjoin3 ! $ nothing ! $ nothing ! $ fjoin ! $ nothing ! $ fjoin ! $
+    move ! (5 ∷ 0 ∷ 1 ∷ []) $ fjoin3 ! $ nothing ! $ nothing ! $ fjoin ! $
     move ! (1 ∷ 0 ∷ []) $ fjoin ! $ nothing ! $ fjoin ! $ move ! (1 ∷ 4 ∷ []) $ join ! $ move ! (3 ∷ 0 ∷ []) $ join ! $ move ! (2 ∷ []) $
     use0 𝓛 (‵ ((Mark (page.the_type).name).own_val (tt, tt) (token ∷ []))) (made (page.the_type).name 𝓛) $ fjoin ! $
-    knows ! ((s'.table ≡ s'.table) × (false ≡ false) × (more ≡ more)) (refl, refl, refl) $
-    knows ! (IsGivenBeyond (held_after s'.moves) (held_after more) mine.id) so.1 $ join ! $
-    knows ! (◌≡◌ {A = Option Gv} (published_in more mine.id) mine.left) so.0.1 $ join ! $
-    knows ! (IsReturn since.before mine.id more) so.0.0 $ join ! $ knows ! (d.table ≡ d.table) refl $ join ! $
+    knows ! ((s'.table ≡ s'.table) × (more ≡ more)) (refl, refl) $
+    knows ! (IsGivenBeyond (held_after s'.moves) (held_after more) id) so.1 $ join ! $
+    knows ! (◌≡◌ {A = Option Gv} (published_in more id) mine.left) so.0.1 $ join ! $
+    knows ! (IsReturn mine.before id more) so.0.0 $ join ! $ knows ! (d.table ≡ d.table) refl $ join ! $
     -- [the facts; the page; the tokens; what is left of the arguments]
     returns ! (look_at ! 0 refl) $ free_all ! refl $ keep ! (2 ∷ 3 ∷ 1 ∷ 0 ∷ []) $
-    by ! (leaves 𝓛 ended hs c y token r (tt, (new, (tt, (tt, tt)))) (tt, (tt, (tt, (tt, tt)))))))))))))))))))
+    by ! (leaves 𝓛 ended hs c y token r (tt, (new, (tt, tt))) (tt, (tt, (tt, tt)))))))))))))))))

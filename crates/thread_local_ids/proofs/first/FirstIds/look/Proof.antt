@@ -16,20 +16,21 @@ use Rattle.thread_local_base.proofs.Walking.{knows, lends_token, returns_token}
 use Rattle.thread_local_ids.proofs.FirstElements as step
 use Rattle.thread_local_ids.specs.FirstIds.{FirstView}
 use Rattle.thread_local_ids.specs.contracts.first.FirstIds as words
-use Rattle.thread_local_base.specs.IdMoves.{IdMove, noted, Take}
-use Rattle.std.proofs.Common.{Bool, true, false, ◌&&◌, if◌then◌else◌, List, length}
+use Rattle.std.proofs.Common.{Bool, true, false, ◌&&◌, if◌then◌else◌, List, Option, length}
 use mathlib.Core.List.{IsPrefix}
 use denote.Builtin.{bool}
 use denote.Plain.{bool_vals, bool_Tells}
 use denote.Struct.Tuple.{Tuple}
 use Rattle.thread_local_base.proofs.Pairs.{both, pair_in}
-use Rattle.thread_local_base.specs.IdMoves.{IdMove, Take, noted, held_after}
-use Rattle.thread_local_ids.specs.Rights.{page_owns, page_with}
+use Rattle.thread_local_base.specs.IdMoves.{IdMove, Take, noted, held_after, published_in}
+use Rattle.thread_local_ids.specs.Rights.{page_owns, page_with, taken_id}
+use base.Stored.{Gv}
+use Rattle.thread_local_ids.specs.Taken.{IsStepped}
 use Rattle.thread_local_ids.specs.FirstIds.{IsWordOf, IsSameBeyond, HasFurther, is_full, log_owns}
 use Rattle.thread_local_ids.proofs.Markers.{Mark, token, made}
 use Rattle.thread_local_ids.specs.contracts.rights.page.Page as page
 use Rattle.thread_local_ids.specs.contracts.first.Log as log
-use Rattle.thread_local_ids.specs.contracts.first.Trace as trace
+use Rattle.thread_local_ids.specs.contracts.rights.right.Right as right
 use Rattle.thread_local_ids.specs.contracts.first.FirstIds.look.{ended, clauses, Key.name as #self}
 use Rattle.thread_local_ids.proofs.first.FirstIds.look.Statement.{statement}
 use Rattle.thread_local_ids.proofs.first.FirstIds.look.Code as code
@@ -42,7 +43,7 @@ look_spec 𝓤 𝓛 𝓜 𝓡 wired =
     let fn = code.function in
     let Row : RattleType = words.the_row in
     let Lg : RattleType = log.the_row in
-    let Tr : RattleType = trace.the_row in
+    let Tr : RattleType = right.the_row in
     let Pair : RattleType = Tuple (u64 ∷ Tr ∷ []) in
     let self = RefOf (0 ∷ []) tt (plain (λ _. Row)) (λ _. tt) in
     let early = RefOf (2 ∷ []) tt (plain (λ _. page.the_row)) (λ _. tt) in
@@ -78,11 +79,10 @@ look_spec 𝓤 𝓛 𝓜 𝓡 wired =
     let y : (walk_of 𝓛 ended hs c).Ghost = ((κs, qs, bounds, a, (vptr b o ∷ [], (mut_vals a.1.0, (pv ∷ [], (bool_vals takes, tt))))), gh) in
     let Post : Val → SProp 𝓤 = (walk_of 𝓛 ended hs c).post y in
     let At : Type 0 = (p.table ≡ d.table) × (s'.table ≡ d.table) in
-    let Half : Type 0 = s'.whole ≡ false in
     let Has : Type 0 = takes ≡ true → HasFurther (held_after s'.moves) in
     qed 𝓛 (((‵ (flft κ q) ⊛ ‵ (flft μ m) ⊛ ‵ last) ⊛ ‵ (owns (types_at ended.signature.params κs) a y.0.4))
-    ∷ raw (fact 𝓤 At) ∷ raw (fact 𝓤 Half) ∷ raw (fact 𝓤 Has) ∷ []) ∵
-    keep ! (1 ∷ 2 ∷ 3 ∷ 0 ∷ []) $ heard ! At (λ at. heard ! Half (λ half. heard ! Has (λ has.
+    ∷ raw (fact 𝓤 At) ∷ raw (fact 𝓤 Has) ∷ []) ∵
+    keep ! (1 ∷ 2 ∷ 0 ∷ []) $ heard ! At (λ at. heard ! Has (λ has.
     split ! $ split3 ! $ move ! (3 ∷ []) $ fsplit3 ! $ fsplit ! $ move ! (2 ∷ []) $ fsplit3 ! $ move ! (5 ∷ []) $ fsplit ! $ fsplit ! $
     move ! (1 ∷ []) $ unhide ! $ fsplit ! $ drop ! $ fpack ! ℕ (page_with p.table p.moves) p.room $ rewrite ! 0 (λ (t : ℕ). ‵ (page_owns t p.moves)) at.0 refl $
     keep ! (4 ∷ 5 ∷ 9 ∷ 7 ∷ 8 ∷ 0 ∷ 3 ∷ 10 ∷ []) $
@@ -90,7 +90,7 @@ look_spec 𝓤 𝓛 𝓜 𝓡 wired =
     enter ! 𝓣.C 𝓣.Λ fn _ Post $ alloc_all ! (λ l. pass_all ! refl ((tt, tt), ((tt, tt), ((tt, tt), ((tt, tt), tt)))) $
     let Ev = env fn.locals l in
     opens ! tt Lg lb lo (λ us. move ! (1 ∷ []) $ fsplit ! $
-    rewrite ! 1 (λ (w : Bool). ‵ (log_owns s'.table w s'.moves)) half refl $ rewrite ! 1 (λ (t : ℕ). ‵ (log_owns t false s'.moves)) at.1 refl $
+    rewrite ! 1 (λ (t : ℕ). ‵ (log_owns t false s'.moves)) at.1 refl $
     -- [the fields; the log; the cell and the open borrow; what the `&` holds; its token; the page; ..]
     move ! (6 ∷ 7 ∷ []) $ unhide ! $ fpick ! (λ α. fsplit ! $ move ! (0 ∷ 2 ∷ []) $
     lends_token ! 𝓜 𝓡 κ α q $ await ! tt $ pick ! (λ s. split ! $
@@ -115,21 +115,22 @@ look_spec 𝓤 𝓛 𝓜 𝓡 wired =
     move ! (1 ∷ []) $ fpick ! (λ before. fsplit ! $ fpick ! (λ so. drop ! $ fsplit ! $
     let took : Bool = takes && is_full n in
     let more : List IdMove = if took then noted before Take else s'.moves in
-    let new : Lg.Denot = record s' { moves = more; whole = false } in
-    let r : Tr.Denot = record { marker = record {}; table = d.table; before = before; took = took } in
+    let new : Lg.Denot = record s' { moves = more } in
+    let left : Option Gv = published_in before (taken_id before) in
+    let r : Tr.Denot = record { marker = record {}; table = d.table; before = before; held = took; lent = false; left = left } in
     rewrite ! 1 (λ (t : ℕ). ‵ (log_owns t false more)) (sym at.1) refl $
     move ! (3 ∷ 1 ∷ []) $ fjoin ! $ move ! (3 ∷ 0 ∷ 4 ∷ 5 ∷ 6 ∷ []) $ closes ! tt Lg new us lb lo $
     -- [two parts of the `&mut`; its token; what the step left; the token; its first part; the other tokens]
     move ! (5 ∷ 0 ∷ 1 ∷ []) $ fjoin3 ! $ nothing ! $ nothing ! $ fjoin ! $ nothing ! $ fjoin ! $ move ! (1 ∷ 0 ∷ []) $ fjoin ! $
     nothing ! $ fjoin ! $ move ! (1 ∷ 4 ∷ []) $ join ! $ move ! (3 ∷ 0 ∷ []) $ join ! $ move ! (2 ∷ []) $
-    use0 𝓛 (‵ ((Mark (trace.the_type).name).own_val (tt, tt) (token ∷ []))) (made (trace.the_type).name 𝓛) $
+    use0 𝓛 (‵ ((Mark (right.the_type).name).own_val (tt, tt) (token ∷ []))) (made (right.the_type).name 𝓛) $
     fjoin ! $ flt_i ! n (2 ^ 64) fits $ feq_i ! _ (vint w64 n ∷ []) _ refl $ fjoin ! $
     pair_in u64 Tr ! n r (vint w64 n) token $
-    knows ! ((s'.table ≡ s'.table) × (false ≡ false) × (more ≡ more)) (refl, refl, refl) $
+    knows ! ((s'.table ≡ s'.table) × (more ≡ more)) (refl, refl) $
     knows ! (length (held_after s'.moves) - 58 ≡ length (held_after before) - 58) so.peak $ join ! $
     knows ! (IsSameBeyond (held_after s'.moves) (held_after before)) so.beyond $ join ! $
     knows ! (IsWordOf n (held_after before)) so.word $ join ! $ knows ! (IsPrefix p.moves before) so.early $ join ! $
-    knows ! (took ≡ took) refl $ join ! $ knows ! (d.table ≡ d.table) refl $ join ! $
+    knows ! (IsStepped d.table took r) (record { of_table = refl; held = refl; here = refl; left = refl }) $ join ! $
     -- [the facts; what is answered; the tokens; what is left of the arguments]
     returns ! (look_at ! 0 refl) $ free_all ! refl $ keep ! (2 ∷ 3 ∷ 1 ∷ 0 ∷ []) $
-    by ! (leaves 𝓛 ended hs c y (both (vint w64 n) token) (n, r) (tt, (new, (tt, (tt, tt)))) (tt, (tt, (tt, (tt, tt)))))))))))))))))
+    by ! (leaves 𝓛 ended hs c y (both (vint w64 n) token) (n, r) (tt, (new, (tt, (tt, tt)))) (tt, (tt, (tt, (tt, tt))))))))))))))))

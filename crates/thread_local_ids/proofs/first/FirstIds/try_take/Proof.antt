@@ -14,7 +14,10 @@ use Rattle.thread_local_base.proofs.Walking.{knows, lends_token, returns_token}
 use Rattle.thread_local_ids.proofs.FirstElements as step
 use Rattle.thread_local_ids.specs.FirstIds.{FirstView}
 use Rattle.thread_local_ids.specs.contracts.first.FirstIds as words
-use Rattle.std.proofs.Common.{true, ◌==◌, ◌/◌}
+use Rattle.std.proofs.Common.{true, false, Option, ◌==◌, ◌/◌}
+use base.Stored.{Gv}
+use Rattle.thread_local_base.specs.IdMoves.{published_in}
+use Rattle.thread_local_ids.specs.Taken.{IsStepped}
 use mathlib.Core.List.{IsPrefix}
 use denote.Struct.Tuple.{Tuple}
 use Rattle.thread_local_base.proofs.Pairs.{both, pair_in}
@@ -24,7 +27,7 @@ use Rattle.thread_local_ids.specs.FirstIds.{word_with}
 use Rattle.thread_local_ids.proofs.Calls.{exchanges}
 use Rattle.thread_local_ids.proofs.Markers.{Mark, token, made}
 use Rattle.thread_local_ids.specs.contracts.rights.page.Page as page
-use Rattle.thread_local_ids.specs.contracts.first.Trace as trace
+use Rattle.thread_local_ids.specs.contracts.rights.right.Right as right
 use Rattle.thread_local_ids.specs.contracts.first.FirstIds.try_take.{ended, clauses, Key.name as #self}
 use Rattle.thread_local_ids.proofs.first.FirstIds.try_take.Statement.{statement}
 use Rattle.thread_local_ids.proofs.first.FirstIds.try_take.Code as code
@@ -36,7 +39,7 @@ try_take_spec 𝓤 𝓛 𝓜 𝓡 wired =
     let c = clauses 𝓛 𝓜.mem 𝓡.returns in
     let fn = code.function in
     let Row : RattleType = words.the_row in
-    let Tr : RattleType = trace.the_row in
+    let Tr : RattleType = right.the_row in
     let Pair : RattleType = Tuple (u64 ∷ Tr ∷ []) in
     let self = RefOf (0 ∷ []) tt (plain (λ _. Row)) (λ _. tt) in
     let early = RefOf (1 ∷ []) tt (plain (λ _. page.the_row)) (λ _. tt) in
@@ -115,12 +118,13 @@ try_take_spec 𝓤 𝓛 𝓜 𝓡 wired =
     returns_token ! κ α q s $ await ! tt $
     -- [the token; what the step left; the other tokens]
     move ! (1 ∷ []) $ fpick ! (λ before. fsplit ! $ fpick ! (λ so. drop ! $
-    let r : Tr.Denot = record { marker = record {}; table = d.table; before = before; took = n == old } in
-    use0 𝓛 (‵ ((Mark (trace.the_type).name).own_val (tt, tt) (token ∷ []))) (made (trace.the_type).name 𝓛) $
+    let left : Option Gv = published_in before (taken_id before) in
+    let r : Tr.Denot = record { marker = record {}; table = d.table; before = before; held = n == old; lent = false; left = left } in
+    use0 𝓛 (‵ ((Mark (right.the_type).name).own_val (tt, tt) (token ∷ []))) (made (right.the_type).name 𝓛) $
     fjoin ! $ flt_i ! n (2 ^ 64) fits $ feq_i ! _ (vint w64 n ∷ []) _ refl $ fjoin ! $
     pair_in u64 Tr ! n r (vint w64 n) token $
     knows ! ((n == old) ≡ true → id ≡ taken_id before) so.1 $ knows ! (IsPrefix p.moves before) so.0 $ join ! $
-    knows ! ((n == old) ≡ (n == old)) refl $ join ! $ knows ! (d.table ≡ d.table) refl $ join ! $
+    knows ! (IsStepped d.table (n == old) r) (record { of_table = refl; held = refl; here = refl; left = refl }) $ join ! $
     -- [the facts; what the step left; the token; the other tokens]
     move ! (2 ∷ 3 ∷ []) $ join ! $ nothing ! $ nothing ! $ fjoin ! $ nothing ! $ fjoin ! $ nothing ! $ fjoin ! $ nothing ! $ fjoin ! $
     nothing ! $ fjoin ! $

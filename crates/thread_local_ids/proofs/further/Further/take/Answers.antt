@@ -10,6 +10,7 @@ use Rattle.thread_local_ids.specs.Filled.{IsFilled, TakesFurther}
 use Rattle.thread_local_ids.specs.FurtherIds.{IsFurther}
 use Rattle.thread_local_ids.specs.declared.further.Further.TheInside.{Inside}
 use Rattle.thread_local_ids.specs.declared.first.Log.{Log}
+use Rattle.thread_local_ids.specs.Rights.{seen_by}
 use Rattle.thread_local_ids.specs.Taken.{IsTakenAfter}
 use Rattle.thread_local_ids.proofs.FirstLaws.{full_holds}
 use Rattle.thread_local_ids.proofs.FurtherLaws.{is_least, has_further, same_after, peak_after, all_held, if_took}
@@ -35,13 +36,12 @@ given_back old mid new id filled taken gives = (
 
 -- where the log has no further move, and the manager holds the same further ids, the invariant stays
 still : (i : Inside) (manager : Manager) (log : Log) → IsFurther i → IsFilled manager.held → IsSameBeyond i.manager.held manager.held
-    → i.manager.room ≤ manager.room → (log.table ≡ i.log.table) × (log.whole ≡ false) × (log.moves ≡ i.log.moves)
+    → i.manager.room ≤ manager.room → (log.table ≡ i.log.table) × (log.moves ≡ i.log.moves)
     → IsFurther (record { manager = manager; log = log; start = i.start; reached = i.reached })
 still i manager log kept filled same room is = record {
   filled = filled;
-  half = is.1;
-  beyond = λ id far. ap (λ (l : List IdMove). is_held (held_after l) id) is.2 ∙ kept.beyond id far ∙ same id far;
-  reached = kept.reached ∙ sym (ap (λ (l : List IdMove). length (held_after l) - 58) is.2);
+  beyond = λ id far. ap (λ (l : List IdMove). is_held (held_after l) id) is.1 ∙ kept.beyond id far ∙ same id far;
+  reached = kept.reached ∙ sym (ap (λ (l : List IdMove). length (held_after l) - 58) is.1);
   few = kept.few;
   room = omega (arith, kept.room, room);
   start = kept.start ∙ sym is.0;
@@ -54,28 +54,28 @@ invariant_of-self c =
     c.in-Ok.ensures.ok c.free.ensures in
     let not_full = sym c.is_full.ensures ∙ c.if-not-is_full.true in
     let log = look.ensures.log in
-    let moves = if_not_took look.result.1.took look.new.log.moves (noted look.result.1.before Take) c.self.inside.log.moves log.2
-    (look.ensures.took ∙ not_full) in
+    let moves = if_not_took look.result.1.held look.new.log.moves (noted look.result.1.before Take) c.self.inside.log.moves log.1
+    (look.ensures.right.held ∙ not_full) in
     still c.self.inside c.free.new.self look.new.log c.self.invariant back.0 back.1
-    (subst (λ (n : ℕ). c.self.inside.manager.room ≤ n) (sym c.free.ensures.room) c.in-Ok.ensures.room) (log.0, log.1, moves)
+    (subst (λ (n : ℕ). c.self.inside.manager.room ≤ n) (sym c.free.ensures.room) c.in-Ok.ensures.room) (log.0, moves)
 
 pub invariant_of-self-then-not-is_full-2 : goal.invariant_of-self-then-not-is_full-2
 invariant_of-self-then-not-is_full-2 c =
     let look = c.look-word-in-Err in
     let log = look.ensures.log in
-    let moves = if_not_took look.result.1.took look.new.log.moves (noted look.result.1.before Take) c.self.inside.log.moves log.2
-    look.ensures.took in
+    let moves = if_not_took look.result.1.held look.new.log.moves (noted look.result.1.before Take) c.self.inside.log.moves log.1
+    look.ensures.right.held in
     still c.self.inside c.alloc.new.manager look.new.log c.self.invariant c.in-Err.ensures.filled c.in-Err.ensures.err
-    c.in-Err.ensures.room (log.0, log.1, moves)
+    c.in-Err.ensures.room (log.0, moves)
 
 pub invariant_of-self-in-Err : goal.invariant_of-self-in-Err
 invariant_of-self-in-Err c =
     let look = c.look-word-in-Err in
     let log = look.ensures.log in
-    let moves = if_not_took look.result.1.took look.new.log.moves (noted look.result.1.before Take) c.self.inside.log.moves log.2
-    look.ensures.took in
+    let moves = if_not_took look.result.1.held look.new.log.moves (noted look.result.1.before Take) c.self.inside.log.moves log.1
+    look.ensures.right.held in
     still c.self.inside c.alloc.new.manager look.new.log c.self.invariant c.in-Err.ensures.filled c.in-Err.ensures.err
-    c.in-Err.ensures.room (log.0, log.1, moves)
+    c.in-Err.ensures.room (log.0, moves)
 
 pub look-word-requires-clause-further : goal.look-word-requires-clause-further
 look-word-requires-clause-further c = λ _.
@@ -101,13 +101,12 @@ invariant_of-self-in-Ok c =
     let is = is_least c.self.inside.log.moves before c.self.inside.manager c.alloc.new.manager id taken c.self.invariant.beyond with_moves full in
     let log = c.look-word.ensures.log in
     let moves : c.look-word.new.log.moves ≡ noted before Take =
-    if_took c.look-word.result.1.took c.look-word.new.log.moves (noted before Take) c.self.inside.log.moves log.2
-    (c.look-word.ensures.took ∙ is_full) in
+    if_took c.look-word.result.1.held c.look-word.new.log.moves (noted before Take) c.self.inside.log.moves log.1
+    (c.look-word.ensures.right.held ∙ is_full) in
     let peak : c.max-self-inside.result ≡ length (held_after (noted before Take)) - 58 =
     c.max-self-inside.ensures ∙ peak_after before id c.self.inside.reached taken.further is (c.self.invariant.reached ∙ c.look-word.ensures.peak) in
     record {
       filled = c.in-Ok.ensures.filled;
-      half = log.1;
       beyond = subst (λ (l : List IdMove). IsSameBeyond (held_after l) c.alloc.new.manager.held) (sym moves)
           (same_after c.self.inside.log.moves before c.self.inside.manager c.alloc.new.manager id taken c.self.invariant.beyond with_moves is);
       reached = peak ∙ sym (ap (λ (l : List IdMove). length (held_after l) - 58) moves);
@@ -118,16 +117,16 @@ invariant_of-self-in-Ok c =
 
 pub returns-else-not-is_full-clause-take : goal.returns-else-not-is_full-clause-take
 returns-else-not-is_full-clause-take c =
-    subst (λ (t : ℕ). IsTakenAfter t c.args.page.now.moves c.into_held.new.page.moves c.into_held.result) c.look-word.ensures.table
+    subst (λ (t : ℕ). IsTakenAfter t c.args.page.now.moves c.into_held.new.page.moves c.into_held.result) c.look-word.ensures.right.of_table
     c.into_held.ensures.taken
 
 pub returns-else-not-is_full-2-clause-take : goal.returns-else-not-is_full-2-clause-take
 returns-else-not-is_full-2-clause-take c =
     let before = c.look-word-in-Err.result.1.before in
-    let moves = sym c.into_page.ensures.1 in
+    let moves : before ≡ c.page.result.moves = sym (c.page.ensures.1 ∙ ap (seen_by before) c.look-word-in-Err.ensures.right.held) in
     let full = full_holds c.look-word-in-Err.result.0 (held_after before) c.look-word-in-Err.ensures.word
     (sym c.is_full-in-Err.ensures ∙ c.if-not-is_full-2.false) in
-    let all : (n m : ℕ) → HoldsAllBelow m c.alloc.new.manager.held → n ≤ max 58 m → HoldsAllBelow n (held_after c.into_page.result.moves) = λ n m held few.
+    let all : (n m : ℕ) → HoldsAllBelow m c.alloc.new.manager.held → n ≤ max 58 m → HoldsAllBelow n (held_after c.page.result.moves) = λ n m held few.
     subst (λ (l : List IdMove). HoldsAllBelow n (held_after l)) moves
     (all_held n m c.self.inside.log.moves before c.self.inside.manager c.alloc.new.manager
     c.self.invariant.beyond c.in-Err.ensures.err c.look-word-in-Err.ensures.beyond full held few) in

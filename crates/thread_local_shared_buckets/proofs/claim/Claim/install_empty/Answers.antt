@@ -45,11 +45,11 @@ returns g c =
     let same =
     ◌∙◌ {A = ClaimedSlot g.row.T.Denot} c.exchange-back.ensures.same
     (ap (λ (l : Learnt g.row.T.Denot). record from.slot { at = to.at; state = to.state; learnt = l; left = to.left }) vacant) in
-    seen_on from.slot to from.id from.tenure.before Vacant to.left c.args.self.now same c.self.view_is
+    seen_on from.slot to from.id from.right.before Vacant to.left c.args.self.now same c.self.view_is
 
 pub invariant_of-self : goal.invariant_of-self
 invariant_of-self g c =
     let from = c.self.inside in
     let to = c.exchange-back.new.self in
     let looked = subst HasLooked (sym (vacant_now g (goal.at.invariant_of-self g c).After-exchange-back)) tt in
-    goes_on from.slot to from.id from.announcements.now from.tenure to.learnt to.left c.self.invariant c.exchange-back.ensures.same looked
+    goes_on from.slot to from.id from.announcements.now from.right to.learnt to.left c.self.invariant c.exchange-back.ensures.same looked

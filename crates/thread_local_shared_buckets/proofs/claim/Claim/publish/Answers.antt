@@ -9,7 +9,7 @@ pub returns-clause-same : goal.returns-clause-same
 returns-clause-same g c =
     let from = c.self.inside in
     let to = c.publish.new.self in
-    seen_on from.slot to from.id from.tenure.before (Holding c.args.value) to.left c.args.self.now c.publish.ensures c.self.view_is
+    seen_on from.slot to from.id from.right.before (Holding c.args.value) to.left c.args.self.now c.publish.ensures c.self.view_is
     ∙ ap (λ (l : Learnt g.row.T.Denot). record c.args.self.now { learnt = l })
     (sym (ap (λ (slot : ClaimedSlot g.row.T.Denot). slot.learnt) c.publish.ensures))
 
@@ -22,4 +22,4 @@ pub invariant_of-self : goal.invariant_of-self
 invariant_of-self g c =
     let from = c.self.inside in
     let to = c.publish.new.self in
-    goes_on from.slot to from.id from.announcements.now from.tenure (Holding c.args.value) to.left c.self.invariant c.publish.ensures tt
+    goes_on from.slot to from.id from.announcements.now from.right (Holding c.args.value) to.left c.self.invariant c.publish.ensures tt

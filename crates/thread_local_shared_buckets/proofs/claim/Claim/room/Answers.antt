@@ -22,23 +22,23 @@ pub returns-then-not-is_missing-2-clause-same : goal.returns-then-not-is_missing
 returns-then-not-is_missing-2-clause-same g c =
     let from = c.self.inside in
     let to = c.find.new.self in
-    seen_on from.slot to from.id from.tenure.before to.learnt from.slot.left c.args.self.now c.find.ensures.same c.self.view_is
+    seen_on from.slot to from.id from.right.before to.learnt from.slot.left c.args.self.now c.find.ensures.same c.self.view_is
 
 pub returns-in_err-new-clause-same : goal.returns-in_err-new-clause-same
 returns-in_err-new-clause-same g c =
     let from = c.self.inside in
     let to = c.find.new.self in
-    seen_on from.slot to from.id from.tenure.before to.learnt from.slot.left c.args.self.now c.find.ensures.same c.self.view_is
+    seen_on from.slot to from.id from.right.before to.learnt from.slot.left c.args.self.now c.find.ensures.same c.self.view_is
 
 pub returns-clause-same : goal.returns-clause-same
 returns-clause-same g c =
     let from = c.self.inside in
     let to = c.find.new.self in
-    seen_on from.slot to from.id from.tenure.before to.learnt from.slot.left c.args.self.now c.find.ensures.same c.self.view_is
+    seen_on from.slot to from.id from.right.before to.learnt from.slot.left c.args.self.now c.find.ensures.same c.self.view_is
 
 pub invariant_of-self : goal.invariant_of-self
 invariant_of-self g c =
     let from = c.self.inside in
     let to = c.find.new.self in
-    goes_on from.slot to from.id from.announcements.now from.tenure to.learnt from.slot.left c.self.invariant c.find.ensures.same
+    goes_on from.slot to from.id from.announcements.now from.right to.learnt from.slot.left c.self.invariant c.find.ensures.same
     c.find.ensures.looked

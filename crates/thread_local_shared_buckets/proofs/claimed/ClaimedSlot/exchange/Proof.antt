@@ -1,7 +1,7 @@
 -- `exchange` lends the block for a lifetime of its own, and ends that lifetime if another block was
 -- installed first. Then the claim finds its slot empty, and else as it is in the block.
 use Rattle.thread_local_base.proofs.Names.{fpack, vint, w64, usize, uint_vals, uint_Tells, yes, ◌≡◌, ℕ, ◌+◌, ◌^◌}
-use Rattle.thread_local_base.proofs.Names.{false, sem, List, [], ◌∷◌, refl, sym, ap, ◌∙◌, lit<, Option, None, Some}
+use Rattle.thread_local_base.proofs.Names.{Bool, false, sem, List, [], ◌∷◌, refl, sym, ap, ◌∙◌, lit<, Option, None, Some}
 use Rattle.thread_local_base.proofs.Names.{Body, a_type, Val, vptr, vcons, vnil, inst_fn, dnil, SProp, emp, via}
 use Rattle.thread_local_base.proofs.Names.{Lft, Share, Fml, ftrue, fsep, flft, fbor, ‵, raw, ◌⊛◌, some, given}
 use Rattle.thread_local_base.proofs.Names.{later, mean, at_ret, any_q, ◌$◌, ◌∵◌, !, qed, by, move, keep, drop, split}
@@ -78,8 +78,9 @@ use Rattle.thread_local_base.specs.Fact.{fact as said_fact}
 use Rattle.thread_local_buckets.specs.contracts.block.Block as block
 use Rattle.thread_local_buckets.proofs.BlockFields as fields
 use Rattle.thread_local_base.specs.IdMoves.{IdMove, Take, held_after, noted}
-use Rattle.thread_local_ids.specs.Rights.{right_owns, note_owns, page_owns, reached_owns, taken_id}
-use Rattle.thread_local_ids.specs.contracts.rights.page.Tenure as Tenure
+use Rattle.thread_local_ids.specs.Rights.{right_owns, note_owns, page_owns, reached_owns, seen_by, taken_id}
+use Rattle.thread_local_ids.specs.Taken.{IsRightTo}
+use Rattle.thread_local_ids.specs.contracts.rights.right.Right as Right
 use Rattle.thread_local_ids.proofs.ReachedElements.{shows_reached, taken_reached}
 use Rattle.thread_local_ids.specs.Sharings.{Belongs, left_after}
 use Rattle.thread_local_ids.proofs.Markers.{token}
@@ -153,7 +154,7 @@ module _ {M : Type 1} {𝓤 : Ura M} (𝓛 : Logic 𝓤) (𝓜 : Model 𝓤 𝓛
   abbrev stayed : Stays En.signature.params En.kept
   stayed =
       let self = plain (λ κs. claim.the_row (named_lft 4 1 tt κs) R) in let number = plain (λ _. usize) in let lot = plain (λ _. Bl) in
-      let shown = RefOf (2 ∷ []) tt (plain (λ _. Tenure.the_row)) (λ _. tt) in
+      let shown = RefOf (2 ∷ []) tt (plain (λ _. Right.the_row)) (λ _. tt) in
       let known = plain (λ _. Announced.the_row) in (
         stay_ref (0 ∷ []) tt self,
         (
@@ -229,14 +230,14 @@ module _ {M : Type 1} {𝓤 : Ura M} (𝓛 : Logic 𝓤) (𝓜 : Model 𝓤 𝓛
     abbrev bv : Val
     bv = fields.block_val p
 
-    abbrev had : Tenure.the_row.Denot
+    abbrev had : Right.the_row.Denot
     had = a.1.1.1.0.now
 
     abbrev seen : Val
     seen = vptr a.1.1.1.0.ref_ptr.0 a.1.1.1.0.ref_ptr.1
 
     abbrev Had : Type 0
-    Had = (had.table ≡ h.table) × (h.id ≡ taken_id had.before)
+    Had = IsRightTo h.table h.id had
 
     -- all that was done by the take of the id
     abbrev by_then : List IdMove
@@ -651,6 +652,7 @@ module _ {M : Type 1} {𝓤 : Ura M} (𝓛 : Logic 𝓤) (𝓜 : Model 𝓤 𝓛
         let all : next ≤ length (held_after by_then) = taken_reached had.before in
         let shown : shown_by d ≤ next = shown_reached d h.id i next of.3 (omega (arith, evident.1)) in
         move ! (7 ∷ []) $
+        rewrite ! 0 (λ (b : Bool). ‵ (page_owns had.table (seen_by had.before b))) evident.2 refl $
         rewrite ! 0 (λ (n : ℕ). ‵ (page_owns n by_then)) (evident.0 ∙ sym of.2) refl $
         use1 𝓛 (‵ (reached_owns d.table (shown_by d))) (shows_reached 𝓛 d.table (shown_by d) by_then (omega (arith, all, shown))) $
         move ! (8 ∷ []) $ fsplit ! $ move ! (2 ∷ 0 ∷ 1 ∷ []) $
@@ -677,7 +679,7 @@ exchange_spec 𝓤 𝓛 𝓜 𝓡 wired X L =
         (
           Goes-dropped 𝓛 4 (plain (λ _. Bl 𝓛 𝓜 𝓡 X)) no (λ κs x f. refl),
           (
-            Goes-dropped 𝓛 4 (RefOf (2 ∷ []) tt (plain (λ _. Tenure.the_row)) (λ _. tt)) yes (λ κs x f. refl),
+            Goes-dropped 𝓛 4 (RefOf (2 ∷ []) tt (plain (λ _. Right.the_row)) (λ _. tt)) yes (λ κs x f. refl),
             (
               Goes-dropped 𝓛 4 (plain (λ _. Announced.the_row)) yes (λ κs x f. refl),
               (Goes-dropped 𝓛 4 number yes (λ κs x f. refl), tt),
@@ -698,7 +700,7 @@ exchange_spec 𝓤 𝓛 𝓜 𝓡 wired X L =
         (
           (λ x vs so. fields.told (param 0 X) heap.the_row ghosts x.at vs so.0),
           (
-            shr_Tells (named 2) κs.1.1.0 Tenure.the_row,
+            shr_Tells (named 2) κs.1.1.0 Right.the_row,
             ((λ x vs so. token_told (Announced.the_type).name vs so.0), (uint_Tells w64, tt)),
           ),
         ),

@@ -23,7 +23,7 @@ exchange-back-requires g c =
         ◌∙◌ {A = List (Option g.row.T.Denot)} (ap (λ (i : ℕ). slice_set slots i none) (sym asked.index))
             (asked.others ∙ ap (λ (b : ℕ). empty_slots {X = g.row.T.Denot} (2 ^ b)) asked.place.0),
       );
-      tenure = asked.tenure;
+      right = asked.right;
       announced = (asked.announced.0, ◌∙◌ {A = ℕ} asked.announced.1 asked.place.0);
       state =
           ◌∙◌ {A = ℕ} (holding_number (slot_value slots c.args.thread.index) asked.value)

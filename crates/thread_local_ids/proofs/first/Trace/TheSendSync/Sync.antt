@@ -1,7 +1,0 @@
--- Threads may share it: its elements name none.
-use denote.Param.Send.{IsSync, part_keyless}
-use Rattle.thread_local_ids.proofs.first.Trace.TheSendSync.Send.{send}
-use Rattle.thread_local_ids.specs.contracts.first.Trace.{the_row}
-
-pub sync : IsSync the_row
-sync = record { shared = λ d b o κ q. part_keyless the_row send q d b o }
