@@ -135,7 +135,7 @@ module _ (R : RattleType) (s : IsSend R) where
   )
 
   pub found_keyless : (d : BucketView) (names : List ℕ) (β : Lft) (p : Ptr) → Keyless (row_owns R d names β p)
-  found_keyless d names β p = λ z. ((λ _. tt), (kept_keyless d z.0 z.2 z.3 β, row_keyless d z.0 z.1 β))
+  found_keyless d names β p = λ z. ((λ _. tt), (kept_keyless d z.0 z.2 z.3 β, (reached_keyless d.table (shown_by d), row_keyless d z.0 z.1 β)))
 
   seen_value_keyless : (d : BucketView) (p : Ptr) (κ : Lft) (η : GName) (i : ℕ) (set : Bool)
       → Keyless (if_set R (seen_value R d p κ η i) set)

@@ -154,6 +154,15 @@ module _ {M : Type 1} {𝓤 : Ura M} (𝓛 : Logic 𝓤) (R : RattleType) (d : B
       fpack ! ((z.0.at ≡ p) × (length z.0.names ≡ len R d) × Sized R (len R d) p) (λ _. ftrue) so $
       fjoin3 ! $ done !)
 
+  -- a standing block shows how many ids were held at once
+  pub shows_held : (p : Ptr) (z : StandingBlock × Share) → ⟦ part p z ⟧ ⊢ ⟦ part p z ⟧ ∗ ⟦ reached_owns d.table (shown_by d) ⟧
+  shows_held p z =
+      let Held : Fml = reached_owns d.table (shown_by d) in
+      qed 𝓛 (‵ (part p z) ∷ []) ∵ fsplit3 ! $ move ! (2 ∷ []) $ fsplit ! $ move ! (1 ∷ []) $ fsplit ! $
+      use1 𝓛 (‵ Held ⊛ ‵ Held) (reached_twice 𝓛 d.table (shown_by d)) $ split ! $
+      -- [how many, twice; that it is announced; the token; the fact; which block]
+      move ! (1 ∷ 2 ∷ []) $ fjoin ! $ move ! (2 ∷ 0 ∷ []) $ fjoin ! $ move ! (3 ∷ 0 ∷ []) $ fjoin ! $ move ! (2 ∷ 0 ∷ []) $ fjoin ! $ done !
+
   -- giving the part up for good makes the block last as long as the reader's lifetime
   pub reaches : (κ : Lft) (p : Ptr) (z : StandingBlock × Share)
       → ⟦ part p z ⟧ ∗ ⟦ before κ t.life ⟧

@@ -22,7 +22,9 @@ use denote.Struct.Struct.{Struct}
 use denote.Struct.Owning.{shape}
 use Rattle.thread_local_base.specs.Judged.{Judged}
 use Rattle.thread_local_shared_buckets.specs.Shared.{BucketView, Turn, StandingBlock, Sized, len, bucket_invariant, kept}
-use Rattle.thread_local_shared_buckets.specs.Shared.{loaded, Found, row_as, row_owns}
+use Rattle.thread_local_shared_buckets.specs.Shared.{loaded, Found, row_as, row_owns, shown_by}
+use Rattle.thread_local_ids.specs.Rights.{reached_owns}
+use Rattle.thread_local_ids.proofs.ReachedElements.{reached_twice}
 use Rattle.thread_local_shared_buckets.specs.contracts.row.Row as Row
 
 abbrev pub row_val : Ptr → Val
@@ -90,9 +92,12 @@ module _ {M : Type 1} {𝓤 : Ura M} (𝓛 : Logic 𝓤) (R : RattleType) (d : B
       qed 𝓛 (‵ (row_owns R d names β p) ∷ []) ∵ fpick ! (λ z.
       let K : Fml = kept R d z.0 z.2 z.3 β in
       let W : Fml = loaded R d z.0 z.1 β in
+      let S : Fml = reached_owns d.table (shown_by d) in
       fsplit3 ! $ fpick ! (λ so. drop ! $
-      use1 𝓛 (‵ K ⊛ ‵ K) (kept_dup z.0 z.2 z.3 β) $ split ! $ move ! (2 ∷ []) $
-      use1 𝓛 (‵ W ⊛ ‵ W) (row_dup z.0 z.1 β) $ split ! $ move ! (2 ∷ 0 ∷ []) $ nothing ! $
+      use1 𝓛 (‵ K ⊛ ‵ K) (kept_dup z.0 z.2 z.3 β) $ split ! $ move ! (2 ∷ []) $ fsplit ! $
+      use1 𝓛 (‵ S ⊛ ‵ S) (reached_twice 𝓛 d.table (shown_by d)) $ split ! $ move ! (2 ∷ []) $
+      use1 𝓛 (‵ W ⊛ ‵ W) (row_dup z.0 z.1 β) $ split ! $ move ! (2 ∷ 0 ∷ []) $ fjoin ! $ move ! (2 ∷ 1 ∷ []) $ fjoin ! $
+      move ! (2 ∷ 0 ∷ []) $ nothing ! $
       fpack ! ((z.1.at ≡ p) × (z.1.names ≡ names) × Judged R) (λ _. ftrue) so $ fjoin3 ! $
       fpack ! Found (row_as R d names β p) z $ frame ! $ move ! (1 ∷ 0 ∷ []) $ nothing ! $
       fpack ! ((z.1.at ≡ p) × (z.1.names ≡ names) × Judged R) (λ _. ftrue) so $ fjoin3 ! $

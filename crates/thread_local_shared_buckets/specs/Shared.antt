@@ -387,9 +387,12 @@ module _ (R : RattleType) where
 
   -- 6. What a load hands out, as a value, and what a look says of the value that it finds.
   module _ (d : BucketView) (names : List ℕ) where
-    -- a row: the bucket is shared, and this block stands at p, whose slots have these names
+    -- a row: the bucket is shared, this block stands at p, whose slots have these names, and so many ids
+    -- were held at once
     abbrev pub row_as : Lft → Ptr → Found → Fml
-    row_as β p z = fsep (fact ((z.1.at ≡ p) × (z.1.names ≡ names) × Judged R)) (fsep (kept d z.0 z.2 z.3 β) (loaded d z.0 z.1 β))
+    row_as β p z =
+        fsep (fact ((z.1.at ≡ p) × (z.1.names ≡ names) × Judged R))
+        (fsep (kept d z.0 z.2 z.3 β) (fsep (reached_owns d.table (shown_by d)) (loaded d z.0 z.1 β)))
 
     -- a row of some turn and block
     abbrev pub row_owns : Lft → Ptr → Fml

@@ -1,12 +1,14 @@
 //! The slots of a bucket that stands, seen by any thread: each is empty until its flag is set, and
 //! holds its value from then on.
-ghost use Rattle.std.specs.Prelude.{◌≡◌, ℕ, ◌+◌, ◌*◌, ◌^◌, ◌<◌, true, List};
+ghost use Rattle.std.specs.Prelude.{◌≡◌, ℕ, ◌+◌, ◌*◌, ◌^◌, ◌<◌, ◌≤◌, true, List, length};
 ghost use Rattle.thread_local_base.specs.Bits.{is_set};
 ghost use Rattle.thread_local_base.specs.Place.{id_at};
 ghost use Rattle.thread_local_ids.specs.TokenLists.{AllOf};
 ghost use Rattle.thread_local_base.specs.Judged.{Shareable};
 ghost use Rattle.thread_local_buckets.specs.Slots.{flag_word_at};
-ghost use Rattle.thread_local_shared_buckets.specs.Shared.{BucketView, bucket_view_coded, row_owns};
+ghost use Rattle.thread_local_shared_buckets.specs.Shared.{BucketView, bucket_view_coded, row_owns, shown_by};
+ghost use mathlib.Core.List.{IsPrefix};
+ghost use Rattle.thread_local_base.specs.IdMoves.{held_after};
 ghost use denote.Sharing.{said};
 
 use crate::seen::Seen;
@@ -14,7 +16,7 @@ use std::marker::{Brand, Model, PhantomData};
 use std::sync::atomic::Ordering::SeqCst;
 use std::sync::atomic::raw;
 use thread_local_buckets::Chunk;
-use thread_local_ids::Told;
+use thread_local_ids::{Page, Told};
 
 /// The slots of a bucket, for as long as the bucket is borrowed. A contract sees which bucket it
 /// is, and for each slot a name, under which it is known what the slot holds.
@@ -33,6 +35,20 @@ impl<'a, T> Model for Row<'a, T> {
 }
 
 impl<'a, T> Row<'a, T> {
+    /// A page of the table's ids that shows how many were held at once for sure, since the bucket stands. It
+    /// extends a page at hand. At run time it does nothing.
+    pub fn reached(&self, page: &Page) -> Page
+        requires { page.now.table ≡ self.now.of.table }
+        ensures table { result.table ≡ self.now.of.table }
+        ensures early { IsPrefix page.now.moves result.moves }
+        ensures shown { shown_by self.now.of ≤ length (held_after result.moves) }
+    {
+        let _ = page;
+        Page {
+            marker: PhantomData,
+        }
+    }
+
     /// Looks at the slots of a chunk: one atomic load of the word with their flags, which is the word
     /// `flag_word` of the block. It sees all of them at one instant. It never waits and takes no
     /// memory.

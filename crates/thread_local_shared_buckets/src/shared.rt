@@ -177,9 +177,9 @@ impl<T> Shared<T> {
         let mut left = announced & !(slots as u64);
         'buckets: while left != 0 {
             let (bucket, size) = take_first_bucket(&mut left);
-            if let Some(later) = self.bucket(bucket).reached(&seen, told) {
+            if let Some(row) = self.bucket(bucket).load(told) {
                 slots += size;
-                seen = later;
+                seen = row.reached(&seen);
             }
         }
         (slots, seen)

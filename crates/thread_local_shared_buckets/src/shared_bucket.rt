@@ -1,11 +1,9 @@
 //! The pointer of a bucket that threads share: null while the bucket is missing, and to its block
 //! of slots once it stands.
-ghost use Rattle.std.specs.Prelude.{◌≡◌, ◌^◌, ◌<◌, ◌≤◌, length, true, None, IfSome, IsSome};
-ghost use mathlib.Core.List.{IsPrefix};
-ghost use Rattle.thread_local_base.specs.IdMoves.{held_after};
+ghost use Rattle.std.specs.Prelude.{◌≡◌, ◌^◌, ◌<◌, true, None, IfSome, IsSome};
 ghost use Rattle.thread_local_base.specs.Place.{id_at};
 ghost use Rattle.thread_local_base.specs.Judged.{Judged};
-ghost use Rattle.thread_local_shared_buckets.specs.Shared.{BucketView, bucket_view_coded, bucket_owns, bucket_shares, shown_by};
+ghost use Rattle.thread_local_shared_buckets.specs.Shared.{BucketView, bucket_view_coded, bucket_owns, bucket_shares};
 ghost use Rattle.thread_local_ids.specs.TokenLists.{NoneIn};
 
 use crate::row::Row;
@@ -13,7 +11,7 @@ use std::marker::{Brand, Move, Owns, PhantomData};
 use std::sync::atomic::Ordering::SeqCst;
 use std::sync::atomic::raw::ptr;
 use thread_local_buckets::Chunk;
-use thread_local_ids::{Page, Token, Told};
+use thread_local_ids::{Token, Told};
 
 /// A bucket that threads share: its pointer, which an owner sees as a `BucketPointer`. A contract
 /// sees its table, the sharing, its number, whether it is reserved, and whether its table grew by
@@ -52,31 +50,6 @@ impl<T> SharedBucket<T> {
         } else {
             Some(Row {
                 at: at as *mut Chunk<T>,
-                marker: PhantomData,
-            })
-        }
-    }
-
-    /// A page of the table's ids that shows how many were held at once for sure, since the bucket
-    /// stands, or `None` where it is missing. It extends a page at hand. A bucket with the slot of a
-    /// token of `told`, which proofs alone use, isn't missing. It is one atomic load.
-    pub fn reached(&self, page: &Page, told: &Told<T>) -> Option<Page>
-        requires { page.now.table ≡ self.now.table }
-        ensures table { IfSome result (λ later. later.table ≡ self.now.table) }
-        ensures early { IfSome result (λ later. IsPrefix page.now.moves later.moves) }
-        ensures shown { IfSome result (λ later. shown_by self.now ≤ length (held_after later.moves)) }
-        ensures reserved { self.now.reserved ≡ true → IsSome result }
-        ensures told { result ≡ None → NoneIn self.now.sharing self.now.bucket told.now }
-    {
-        let _ = page;
-        let _ = told;
-        let block = unsafe {
-            ptr::load::<u64, Brand>(&raw const self.at as *const *mut u64, SeqCst)
-        };
-        if block.is_null() {
-            None
-        } else {
-            Some(Page {
                 marker: PhantomData,
             })
         }

@@ -113,7 +113,7 @@ look_spec {M} 𝓤 𝓛 𝓜 𝓡 wired T L =
     let sd : StandingBlock = z.1 in
     let J : Fml = fbor t.life (bucket_invariant R d t z.2 z.3) in
     let Which : Fml = fres t.which (block_code sd) in
-    fsplit3 ! $ fpick ! (λ so. drop ! $ fsplit ! $ move ! (2 ∷ []) $ fsplit3 ! $ fpick ! (λ long.
+    fsplit3 ! $ fpick ! (λ so. drop ! $ fsplit ! $ move ! (2 ∷ []) $ fsplit ! $ drop ! $ fsplit3 ! $ fpick ! (λ long.
     drop ! $
     -- [which; before the block's own; before; the invariant; the fields; κ's token; β's; the
     -- others]

@@ -11,7 +11,7 @@ use Rattle.thread_local_base.specs.IdMoves.{held_after}
 use Rattle.thread_local_ids.proofs.Logs.{O}
 use Rattle.thread_local_ids.specs.TokenLists.{NoneIn}
 use Rattle.thread_local_ids.specs.Views.{TokenView}
-use Rattle.thread_local_shared_buckets.specs.Shared.{ids_shown}
+use Rattle.thread_local_shared_buckets.specs.Shared.{BucketView, ids_shown, shown_by}
 use Rattle.thread_local_shared_buckets.specs.TableView.{TableView}
 use Rattle.thread_local_shared_buckets.proofs.CountedSlots.{Counted, begins, more, missed, allowed, counted_below, all_counted}
 use Rattle.thread_local_shared_buckets.proofs.RoomForTokens.{IsTold, no_token, tokens_fit}
@@ -72,15 +72,15 @@ buckets-preserved-in-Some g c =
           more (IsTold sharing tokens) (in_table sharing tokens (low c.told.view_is c.told.invariant)) reserved c.buckets.left first.new.left
           c.buckets.slots first.result.0 c.buckets.invariant.counted first.ensures.first first.ensures.rest first.result.1
           first.ensures.size;
-      table = c.in-Some.ensures.table ∙ at.table;
-      early = O.trans c.args.page.now.moves c.buckets.seen.moves c.in-Some.later.moves c.buckets.invariant.early c.in-Some.ensures.early;
+      table = c.reached-seen.ensures.table ∙ ap (λ (d : BucketView). d.table) c.in-Some.ensures.of ∙ at.table;
+      early = O.trans c.args.page.now.moves c.buckets.seen.moves c.reached-seen.result.moves c.buckets.invariant.early c.reached-seen.ensures.early;
       grown = λ grown.
           allowed (IsTold sharing tokens) (in_table sharing tokens (low c.told.view_is c.told.invariant)) reserved c.buckets.left first.new.left
           c.buckets.slots first.result.0 c.buckets.invariant.counted first.ensures.first first.ensures.rest first.result.1
-          (length (held_after c.in-Some.later.moves)) first.ensures.size
-          (subst (λ (n : ℕ). n ≤ length (held_after c.in-Some.later.moves))
-          ((λ j. ids_shown (at.grown j) (at.reserved j) (at.number j))
-          ∙ ap (λ (t : Bool). ids_shown t (nat_lt (id_at first.result.0 0) reserved) first.result.0) grown) c.in-Some.ensures.shown);
+          (length (held_after c.reached-seen.result.moves)) first.ensures.size
+          (subst (λ (n : ℕ). n ≤ length (held_after c.reached-seen.result.moves))
+          (ap shown_by c.in-Some.ensures.of ∙ (λ j. ids_shown (at.grown j) (at.reserved j) (at.number j))
+          ∙ ap (λ (t : Bool). ids_shown t (nat_lt (id_at first.result.0 0) reserved) first.result.0) grown) c.reached-seen.ensures.shown);
     }
 
 pub buckets-preserved : goal.buckets-preserved
@@ -92,7 +92,7 @@ buckets-preserved g c =
     let none : NoneIn sharing first.result.0 tokens =
     subst (λ (s : Option ℕ). NoneIn s first.result.0 tokens) at.ensures.sharing
     (subst (λ (b : ℕ). NoneIn at.result.now.sharing b tokens) at.ensures.number
-    (c.reached.ensures.told c.in_default.is)) in record {
+    (c.load.ensures.told c.in_default.is)) in record {
       counted =
           missed (IsTold sharing tokens) (in_table sharing tokens (low c.told.view_is c.told.invariant)) c.args.self.now.reserved c.buckets.left
           first.new.left c.buckets.slots first.result.0 c.buckets.invariant.counted first.ensures.first first.ensures.rest

@@ -31,12 +31,13 @@ use Rattle.std.proofs.raw_atomic.PtrCalls.{seq_cst_good}
 use Rattle.std.specs.contracts.option.Option as Opt
 use Rattle.thread_local_base.specs.Judged.{Judged}
 use Rattle.thread_local_base.specs.Fact.{fact as said_fact}
-use Rattle.thread_local_shared_buckets.specs.Shared.{BucketView, Sized, len, bucket_invariant, loaded, Found, row_as}
+use Rattle.thread_local_shared_buckets.specs.Shared.{BucketView, Sized, len, bucket_invariant, loaded, Found, row_as, shown_by}
+use Rattle.thread_local_ids.specs.Rights.{reached_owns}
 use Rattle.thread_local_shared_buckets.specs.contracts.shared_bucket.SharedBucket as one_bucket
 use Rattle.thread_local_shared_buckets.specs.contracts.row.Row as Row
 use Rattle.thread_local_shared_buckets.specs.contracts.shared_bucket.SharedBucket.load.{ended, clauses, Key.name as #self}
 use Rattle.thread_local_shared_buckets.proofs.RowFields.{row_val, row_good, FieldsType, made, word_laws}
-use Rattle.thread_local_shared_buckets.proofs.Loads.{glimpse, reaches, reads, NoneThere, none_there, forgets}
+use Rattle.thread_local_shared_buckets.proofs.Loads.{glimpse, part, shows_held, reaches, reads, NoneThere, none_there, forgets}
 use Rattle.thread_local_shared_buckets.proofs.shared_bucket.SharedBucket.load.Statement.{statement}
 use Rattle.thread_local_shared_buckets.proofs.shared_bucket.SharedBucket.load.Code as code
 use Rattle.thread_local_buckets.proofs.Slots.{ptr_good}
@@ -115,12 +116,13 @@ load_spec 𝓤 𝓛 𝓜 𝓡 wired T L =
     fsplit ! $ move ! (0 ∷ 2 ∷ []) $
     returns_token ! κ t.life q s $ await ! tt $
     -- [κ's token; what was seen; the invariant; before, twice; the other tokens]
-    move ! (1 ∷ []) $ fsplit ! $ fpick ! (λ z. move ! (0 ∷ 4 ∷ []) $
+    move ! (1 ∷ []) $ fsplit ! $ fpick ! (λ z.
+    use1 𝓛 (‵ (part 𝓛 R d t p z) ⊛ ‵ (reached_owns d.table (shown_by d))) (shows_held 𝓛 R d t p z) $ split ! $ move ! (0 ∷ 5 ∷ []) $
     use2 𝓛 (later (‵ (said_fact ((z.0.at ≡ p) × Sized R (len R d) p)) ⊛ ‵ (loaded R d t z.0 κ)))
     (reaches 𝓛 R d t κ p z) $
     await ! tt $ split ! $ fpick ! (λ so. drop ! $
-    -- [the row; nothing; κ's token; the invariant; before; the other tokens]
-    move ! (4 ∷ 3 ∷ []) $ fjoin ! $ nothing ! $
+    -- [the row; how many ids were held; nothing; κ's token; the invariant; before; the other tokens]
+    move ! (1 ∷ 0 ∷ []) $ fjoin ! $ move ! (4 ∷ 3 ∷ []) $ fjoin ! $ nothing ! $
     fpack ! ((z.0.at ≡ p) × (z.0.names ≡ z.0.names) × Judged R) (λ _. ftrue) (so.0, refl, j) $
     fjoin3 ! $ fpack ! Found (row_as R d z.0.names κ p) (t, z.0, b, o + 0) $
     sets ! (of_opd ! (get ! refl)) refl (tt, tt) $
