@@ -452,20 +452,6 @@ impl<T: Sync> ThreadLocal<T> {
         Iter::new(&self.buckets, told)
     }
 
-    /// `iter`, which gives what a token says: a walk that runs to its end gives this value, at its
-    /// id.
-    pub fn iter_with(&self, token: &Token<T>) -> Iter<'_, T>
-        requires sharing { token.now.sharing ≡ self.now.sharing }
-        requires named { IsSome self.now.sharing }
-        ensures { result ≡
-            fresh
-            self.now.sharing
-            (Some (record { id = token.now.id; value = token.now.value }))
-            true }
-    {
-        Iter::with_own(&self.buckets, token, self.value(token), Told::new())
-    }
-
     /// The value that a token's slot was published with. It can't fail, and is one atomic load, of
     /// the bucket's pointer.
     pub fn value<'a>(&'a self, token: &Token<T>) -> &'a T

@@ -14,7 +14,7 @@ use thread_local::ThreadLocal;
 use thread_local::local::{Local, SetError};
 use thread_local_base::{Judge, Thread, judge_sync};
 use thread_local_buckets::Buckets;
-use thread_local_ids::{Book, Token};
+use thread_local_ids::{Book, Token, Told};
 use thread_local_shared_buckets::Tokens;
 
 /// Publishes a value with a new `Local`, and answers a token of what the slot holds.
@@ -113,7 +113,7 @@ fn owned_and_found<T: Copy>(
 fn walks_with<T: Sync>(table: &ThreadLocal<T>, token: &Token<T>, expected: usize) -> bool
     requires { (token.now.sharing ≡ table.now.sharing) × IsSome table.now.sharing }
 {
-    table.iter_with(token).count() == expected
+    table.iter_told(Told::new().and(token)).count() == expected
 }
 
 // What two threads read, each by the other's token, and whether walks with the tokens give two.

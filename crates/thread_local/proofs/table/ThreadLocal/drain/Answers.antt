@@ -4,7 +4,7 @@ use Rattle.thread_local_base.specs.Buckets.{stands}
 use Rattle.thread_local_base.specs.Owned.{Owned}
 use Rattle.thread_local_buckets.specs.Drain.{drain_leaves}
 use Rattle.thread_local_shared_buckets.specs.Grown.{stand_among, only_reserved}
-use Rattle.thread_local_shared_buckets.specs.Lent as shared
+use Rattle.thread_local_shared_buckets.specs.AfterLoan as shared
 use Rattle.thread_local_shared_buckets.specs.TableView.{TableView}
 use Rattle.thread_local.specs.Tables.{ThreadLocalView, view_with, thread_local_view}
 use Rattle.thread_local.proofs.table.ThreadLocal.drain.Goals as goal
