@@ -15,12 +15,12 @@ ghost use Rattle.thread_local_base.specs.Owner.{with_published, cleared_row, she
 use crate::drain::Drain;
 use crate::iter::{IntoEntries, IntoIter};
 use crate::iter_mut::{EntriesMut, IterMut};
-use crate::{BucketPointers, FlagSource, take_first_bucket};
+use crate::loan::Loan;
+use crate::{BucketPointers, Chunk, FlagSource, take_first_bucket};
 use std::alloc::{AllocError, Global};
-use std::marker::Model;
+use std::marker::{Model, PhantomData};
 use thread_local_base::{Thread, bucket_size};
 
-mod lends;
 mod walking;
 
 /// Why a capacity couldn't be reserved.
@@ -253,6 +253,20 @@ impl<T> Buckets<T> {
         EntriesMut {
             loan: self.lend(),
             cursor,
+        }
+    }
+
+    /// Lends the pointers for as long as the buckets are borrowed.
+    fn lend(&mut self) -> Loan<'_, T>
+        ensures* writes_back { sem 𝓛 (LendsValues T.row self.entry result.name) }
+        ensures contents { result.contents ≡ self.old.contents }
+        ensures given { result.given ≡ 0 }
+    {
+        let pointers = &raw mut self.pointers;
+        Loan {
+            pointers: pointers as *const *mut Chunk<T>,
+            values: pointers as *mut T,
+            marker: PhantomData,
         }
     }
 

@@ -1,5 +1,5 @@
-//! How pooled values and buffers are reached. A file of its own, since the clauses import the
-//! `the_row`s that are generated from the file that declares the types.
+//! Stands apart since, as a limit of the toolchain, no clause in a type's own file names its `the_row`.
+//! Here pooled values and buffers are reached.
 ghost use Rattle.std.specs.Prelude.{◌≡◌, []};
 ghost use types.Logic.{sem};
 ghost use denote.Follow.{follows};

@@ -1,6 +1,5 @@
-//! How a `Local` lends its seat, and the two of the seat's calls that stand here once more. A file
-//! of its own, since their clauses import the `the_row`s that are generated from the files that
-//! declare the types.
+//! Stands apart since, as a limit of the toolchain, no clause in a type's own file names its `the_row`.
+//! Here a `Local` lends its seat, and two of the seat's calls stand once more.
 ghost use Rattle.std.specs.Prelude.{◌≡◌, ⊤, true, None, IsOk, IsSome, Result, [], MatchResult};
 ghost use types.Logic.{sem};
 ghost use denote.Follow.{follows, follows_so};

@@ -1,5 +1,5 @@
-//! How a padded value is reached. A file of its own, since the clause imports the `the_row` that is
-//! generated from the file that declares the type.
+//! Stands apart since, as a limit of the toolchain, no clause in a type's own file names its `the_row`.
+//! Here a padded value is reached.
 ghost use Rattle.std.specs.Prelude.{◌≡◌};
 ghost use Rattle.std.specs.Borrow.{Lends, sem};
 ghost use Rattle.thread_local.specs.contracts.padded.Padded.{the_row};

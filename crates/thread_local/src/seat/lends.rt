@@ -1,6 +1,5 @@
-//! The calls of a seat that answer a reference and say what they leave as well. A file of its
-//! own, since their clauses import the `the_row` that is generated from the file that declares the
-//! type.
+//! Stands apart since, as a limit of the toolchain, no clause in a type's own file names its `the_row`.
+//! Here are the calls of a seat that answer a reference and say what they leave as well.
 ghost use Rattle.std.specs.Prelude.{◌≡◌, ⊤, true, None, IsOk, IsSome, Result, [], MatchResult};
 ghost use types.Logic.{sem};
 ghost use denote.Follow.{follows_so};

@@ -1,5 +1,5 @@
-//! How a table lends its buckets to an owner. A file of its own, since the clause imports the
-//! `the_row` that is generated from the file that declares the type.
+//! Stands apart since, as a limit of the toolchain, no clause in a type's own file names its `the_row`.
+//! Here a table lends its buckets to an owner.
 ghost use Rattle.std.specs.Prelude.{◌≡◌, ◌≤◌, ◌-◌, ◌^◌, IsNone};
 ghost use types.Logic.{sem};
 ghost use Rattle.std.specs.Borrow.{follows, follows_so};

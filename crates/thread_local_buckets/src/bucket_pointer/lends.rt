@@ -1,5 +1,5 @@
-//! How a bucket's pointer lends a value. It is apart from the file that declares the pointer, since
-//! its clause names the pointer's `the_row`.
+//! Stands apart since, as a limit of the toolchain, no clause in a type's own file names its `the_row`.
+//! Here a bucket's pointer lends a value.
 ghost use Rattle.std.specs.Prelude.{◌≡◌, ◌<◌, length, Some, IsSome};
 ghost use types.Logic.{sem};
 ghost use Rattle.std.specs.Borrow.{follows};

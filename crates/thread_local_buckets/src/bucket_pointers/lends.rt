@@ -1,5 +1,5 @@
-//! How the pointers lend a value. It is apart from the file that declares the pointers, since its
-//! clause names their `the_row`.
+//! Stands apart since, as a limit of the toolchain, no clause in a type's own file names its `the_row`.
+//! Here the pointers lend a value.
 ghost use Rattle.std.specs.Prelude.{◌≡◌, ◌<◌, length, Some, IsSome};
 ghost use types.Logic.{sem};
 ghost use Rattle.std.specs.Borrow.{follows};

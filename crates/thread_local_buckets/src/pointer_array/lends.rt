@@ -1,5 +1,5 @@
-//! How the array lends one of its pointers. It is apart from the file that declares the array, since
-//! its clause names the array's `the_row`.
+//! Stands apart since, as a limit of the toolchain, no clause in a type's own file names its `the_row`.
+//! Here the array lends one of its pointers.
 ghost use Rattle.std.specs.Prelude.{◌≡◌, ◌<◌, slice_index_or};
 ghost use types.Logic.{sem};
 ghost use Rattle.std.specs.Borrow.{follows};

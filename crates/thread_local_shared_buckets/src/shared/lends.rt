@@ -1,11 +1,11 @@
-//! Shared buckets are lent to an owner through a `&mut`. This is a file of its own, since the
-//! clause names `the_row` of `Shared`.
+//! Stands apart since, as a limit of the toolchain, no clause in a type's own file names its `the_row`.
+//! Here shared buckets are lent to an owner through a `&mut`.
 ghost use Rattle.std.specs.Prelude.{◌≡◌};
 ghost use types.Logic.{sem};
 ghost use Rattle.std.specs.Borrow.{follows};
 ghost use Rattle.thread_local_buckets.specs.contracts.buckets.Buckets.{the_row as owner_row};
 ghost use Rattle.thread_local_shared_buckets.specs.contracts.shared.Shared.{the_row};
-ghost use Rattle.thread_local_shared_buckets.specs.Lent.{view_with, view_begun};
+ghost use Rattle.thread_local_shared_buckets.specs.AfterLoan.{view_with, view_begun};
 
 use super::Shared;
 use std::marker::PhantomData;

@@ -1,5 +1,5 @@
-//! A guard lends its value, as `&` and as `&mut`, and an owner's lock lends it as `&mut`. This is a
-//! file of its own, since the clauses name `the_row` of `LockGuard` and of `Lock`.
+//! Stands apart since, as a limit of the toolchain, no clause in a type's own file names its `the_row`.
+//! Here a guard lends its value, as `&` and as `&mut`, and an owner's lock lends it as `&mut`.
 ghost use Rattle.std.specs.Prelude.{◌≡◌, []};
 ghost use mir.Syntax.{named};
 ghost use types.Logic.{sem};
