@@ -1,12 +1,11 @@
 -- What a call of the `get_or` family leaves that fills the slot.
-use Rattle.std.proofs.Common.{◌≡◌, ◌∙◌, subst, sym, List, Option, Some, None, Ok, Bool, Bor, false, option_map, ap}
+use Rattle.std.proofs.Common.{◌≡◌, ◌∙◌, subst, sym, Option, Some, None, Ok, Bool, Bor, false, option_map, ap}
 use Rattle.std.specs.Prelude.{MatchOption}
 use Rattle.thread_local_base.specs.Answers.{View, Answered, answer_or, view_after_or, view_of}
-use Rattle.thread_local_base.specs.IdMoves.{IdMove}
 use Rattle.thread_local_base.specs.Learnt.{Learnt, Holding}
-use Rattle.thread_local_ids.specs.Views.{TokenView}
+use Rattle.thread_local_ids.specs.TokenViews.{TokenView}
 use Rattle.thread_local_shared_buckets.specs.Room.{IsEmpty}
-use Rattle.thread_local_shared_buckets.specs.Views.{ClaimView}
+use Rattle.thread_local_shared_buckets.specs.ClaimViews.{ClaimView}
 use Rattle.thread_local.specs.Locals.{LocalView, local_view, knows, IsFilled, IsAnswered, Fills}
 use Rattle.thread_local.specs.Tables.{ThreadLocalView}
 

@@ -1,11 +1,11 @@
 -- A table's claim of a held id makes a `Local`: where the id is reserved, the claim has found its
 -- bucket.
-use Rattle.std.proofs.Common.{◌≡◌, ◌≢◌, ◌<◌, ◌-◌, ◌^◌, ◌∙◌, ℕ, subst, sym, arith}
+use Rattle.std.proofs.Common.{◌≡◌, ◌≢◌, ◌<◌, ◌-◌, ◌^◌, ℕ, subst, sym, arith}
 use Rattle.thread_local_base.specs.Place.{bucket_of, id_at}
 use Rattle.thread_local_base.specs.Learnt.{Missing}
 use Rattle.thread_local_base.proofs.PlaceLaws.{id_at-place}
 use Rattle.thread_local_shared_buckets.specs.Known.{HasLooked}
-use Rattle.thread_local_shared_buckets.specs.Views.{ClaimView}
+use Rattle.thread_local_shared_buckets.specs.ClaimViews.{ClaimView}
 use Rattle.thread_local_shared_buckets.specs.TableView.{TableView}
 use Rattle.thread_local.specs.Tables.{ThreadLocalView, thread_local_view}
 use Rattle.thread_local_ids.specs.declared.rights.held.HeldId.{HeldId}

@@ -5,7 +5,7 @@ pub use Rattle.thread_local_base.specs.Place
 pub use Rattle.thread_local_base.specs.Walk
 pub use Rattle.thread_local_ids.specs.Sharings
 pub use Rattle.thread_local_ids.specs.TokenLists
-pub use Rattle.thread_local_ids.specs.Views
+pub use Rattle.thread_local_ids.specs.TokenViews
 pub use Rattle.thread_local_base.specs.Answers
 pub use Rattle.thread_local_base.specs.Learnt
 pub mod Errors

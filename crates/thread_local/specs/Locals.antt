@@ -7,11 +7,11 @@ use base.Stored.{coded_bool}
 use Rattle.std.specs.Coded.{Coded, coded_option, coded_ℕ, coded×, code_by}
 use Rattle.thread_local_base.specs.Answers.{View, GetOr, Answered, Refused, Failed, Says, answer, view_of}
 use Rattle.thread_local_base.specs.Learnt.{Missing}
-use Rattle.thread_local_ids.specs.Views.{TokenView}
+use Rattle.thread_local_ids.specs.TokenViews.{TokenView}
 use Rattle.thread_local_base.specs.IdMoves.{IdMove, Take, Give, moves_coded, noted}
 use mathlib.Core.List.{IsPrefix}
 use Rattle.thread_local_shared_buckets.specs.Known.{HasLooked}
-use Rattle.thread_local_shared_buckets.specs.Views.{ClaimView}
+use Rattle.thread_local_shared_buckets.specs.ClaimViews.{ClaimView}
 use Rattle.thread_local.specs.Tables.{ThreadLocalView}
 use Rattle.thread_local_shared_buckets.specs.Walks.{Owed}
 

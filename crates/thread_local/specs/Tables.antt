@@ -4,7 +4,7 @@ use base.Stored.{coded_bool}
 use Rattle.std.specs.Coded.{Coded, coded_ℕ, coded_option, coded×, code_by}
 use Rattle.thread_local_base.specs.Owned.{Owned}
 use Rattle.thread_local_shared_buckets.specs.TableView.{TableView}
-use Rattle.thread_local_shared_buckets.specs.Lent as buckets
+use Rattle.thread_local_shared_buckets.specs.AfterLoan as buckets
 
 -- the name of the table, the sharing if that has a name, how many of the table's first slots are
 -- reserved, whether each bucket that isn't reserved was made for an id, and for how many ids there

@@ -1,4 +1,4 @@
--- The data fields of a block, and of a retired one. Assumes `Logic`.
+-- The data fields of a block, and of one that is emptied. Assumes `Logic`.
 use Rattle.thread_local_base.proofs.Names.{◌≡◌, ℕ, T, List, [], ◌∷◌, ◌++◌, refl, ap, ◌∙◌, arith, lit<, Ura, tcons}
 use Rattle.thread_local_base.proofs.Names.{tnil, ty_ptr, ty_struct, Val, vstruct, vcons, vnil, of_list, has_ty, WT}
 use Rattle.thread_local_base.proofs.Names.{ent, emp, Logic, sem, RattleType, Is, Ptr, block_ptr, null_ptr, ptr_val}

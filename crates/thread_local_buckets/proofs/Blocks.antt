@@ -14,7 +14,7 @@ use Rattle.std.proofs.GlobalToken.{dealloc_token-Testable}
 use Rattle.thread_local_buckets.specs.Slots.{block_ty, chunks, Fits, AreFlags, flags_at, slot, each, flags, flags_own, back, heap_token}
 use Rattle.thread_local_base.specs.Fact.{fact}
 use Rattle.thread_local_buckets.specs.PointerOwns.{pointer_owns}
-use Rattle.thread_local_buckets.specs.Lent.{flagged, valued, bare, PointsTo}
+use Rattle.thread_local_buckets.specs.LoanOwns.{flagged, valued, bare, PointsTo}
 use Rattle.thread_local_buckets.proofs.Shapes.{has, slot_has}
 use Rattle.thread_local_base.proofs.Signs.{signs}
 

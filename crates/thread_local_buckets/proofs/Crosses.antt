@@ -10,7 +10,7 @@ use denote.Struct.Owning.{shape as fields_shape, fields, to}
 use denote.Struct.Struct.{exits_of}
 use Rattle.thread_local_base.specs.Buckets.{Contents}
 use Rattle.thread_local_buckets.specs.Slots.{each, flags_at, value_offset}
-use Rattle.thread_local_buckets.specs.Lent.{flagged, valued, frames, values_at, loan_owns}
+use Rattle.thread_local_buckets.specs.LoanOwns.{flagged, valued, frames, values_at, loan_owns}
 use Rattle.thread_local_buckets.specs.contracts.loan.Loan as loan
 
 quiet : {D X : Type 0} (f : D → X) (e : Exit X) → Quiet e → Quiet (hidden (under f e))

@@ -7,7 +7,7 @@ use Rattle.thread_local_base.proofs.Names.{frame, each as for_each, assume, use1
 use Rattle.thread_local_base.proofs.Names.{Ptr, null_ptr, block_of, count_of}
 use Rattle.thread_local_buckets.specs.Slots.{each, slot_value}
 use Rattle.thread_local_buckets.proofs.Each.{each_at, Put}
-use Rattle.thread_local_buckets.specs.Lent.{valued, framed, frames, values_at}
+use Rattle.thread_local_buckets.specs.LoanOwns.{valued, framed, frames, values_at}
 use Rattle.thread_local_base.proofs.Signs.{signs}
 
 abbrev pub pointer : List Ptr → ℕ → Ptr

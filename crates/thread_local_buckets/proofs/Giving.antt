@@ -12,7 +12,7 @@ use Rattle.thread_local_base.specs.Buckets.{Contents}
 use Rattle.thread_local_base.specs.Owned.{Owned}
 use Rattle.thread_local_base.specs.Code.{owned_coded}
 use Rattle.thread_local_buckets.specs.Slots.{slot_value, value_offset}
-use Rattle.thread_local_buckets.specs.Lent.{shape, values_at, Values, lent_as, lent_values}
+use Rattle.thread_local_buckets.specs.LoanOwns.{shape, values_at, Values, lent_as, lent_values}
 use Rattle.thread_local_buckets.proofs.Frames.{pointer, in_row, there, value_out, Value}
 use Rattle.thread_local_buckets.proofs.Shapes.{put, put_back, long, row_long, long_put, row_long_put, is_slot, slot-put}
 use Rattle.thread_local_base.proofs.TakingLaws.{shows_none}

@@ -8,7 +8,7 @@ use Rattle.std.specs.Prelude.{nat_lt, ◌⊎◌, ◌^◌}
 use Rattle.thread_local_base.specs.Place.{id_at}
 use Rattle.thread_local_base.specs.Buckets.{Contents, row, IsTable}
 use Rattle.thread_local_base.specs.Rows.{with_slot}
-use Rattle.thread_local_buckets.specs.Lent.{IsLeft}
+use Rattle.thread_local_buckets.specs.LoanOwns.{IsLeft}
 
 long_set : {A : Type 0} (rs : List (List A)) (k b : ℕ) (r : List A)
     → length r ≡ length (get_or rs k [])

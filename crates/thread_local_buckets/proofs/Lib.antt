@@ -1,4 +1,4 @@
-pub mod Lent
+pub mod LentPointer
 pub mod ContentsOf
 pub mod Announcing
 pub mod Passing
@@ -19,7 +19,7 @@ pub mod BlockFields
 pub mod Making
 pub mod Rounding
 pub mod Sent
-pub mod RetiredBlocks
+pub mod EmptyingBlocks
 pub mod AddingSlots
 mod DrainLaws
 mod EntriesLaws
@@ -35,6 +35,6 @@ mod Left
 mod Blocks
 mod Taking
 mod Refills
-mod Opened
-pub mod Lending
+mod PointerCells
+pub mod LoanBegins
 mod Crosses

@@ -14,7 +14,7 @@ use Rattle.std.proofs.lemmas.Bool.{lt-ltb, false≢true}
 use Rattle.std.proofs.Common.{IsSome, Some, None, ℕ, ◌+◌, ◌*◌, add-mul}
 use Rattle.thread_local_buckets.specs.Slots.{stride, value_offset, Fits}
 use Rattle.thread_local_buckets.proofs.Flags.{value_near}
-use Rattle.thread_local_buckets.specs.Lent.{PointsTo}
+use Rattle.thread_local_buckets.specs.LoanOwns.{PointsTo}
 use Rattle.thread_local_buckets.specs.contracts.loan.Loan as loan
 
 abbrev pub loan_val : Ptr → Ptr → Val

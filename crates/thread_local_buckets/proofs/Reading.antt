@@ -14,7 +14,7 @@ use Rattle.thread_local_buckets.specs.Slots.{chunks, AreFlags, each, flags_at, f
 use Rattle.thread_local_buckets.proofs.Each.{Put, each_at}
 use Rattle.thread_local_buckets.proofs.Flags.{chunk_in}
 use Rattle.thread_local_buckets.proofs.Slots.{IsWordOf, word_of}
-use Rattle.thread_local_buckets.specs.Lent.{flagged, IsLeft}
+use Rattle.thread_local_buckets.specs.LoanOwns.{flagged, IsLeft}
 use Rattle.thread_local_base.proofs.Signs.{signs}
 
 -- where no value of a chunk was given, its word says the same of the whole contents as of those

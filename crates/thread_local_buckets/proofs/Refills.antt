@@ -2,7 +2,7 @@
 use Rattle.thread_local_base.proofs.Names.{◌≡◌, List, [], ◌∷◌, length, refl, ap, arith, is_some, Option, Some, None}
 use Rattle.std.proofs.lemmas.Bool.{true≢false, false≢true}
 use Rattle.thread_local_base.specs.Buckets.{Contents}
-use Rattle.thread_local_buckets.specs.Lent.{shape}
+use Rattle.thread_local_buckets.specs.LoanOwns.{shape}
 use Rattle.thread_local_base.specs.Refilled.{refilled_slot, refilled_row, refilled_rows, refilled}
 use Rattle.thread_local_buckets.proofs.Blocks.{first_of, rest_of}
 use Rattle.thread_local_buckets.proofs.Shapes.{has}

@@ -3,7 +3,7 @@ use Rattle.thread_local_base.proofs.Names.{◌≡◌, ℕ, zero, suc, ◌<◌, L
 use Rattle.thread_local_base.proofs.Names.{map, refl, sym, ap, ◌∙◌, subst, Bool, true, false, is_some, Option, Some}
 use Rattle.thread_local_base.proofs.Names.{None}
 use Rattle.std.proofs.lemmas.List.{set-set, set-get_or, get_or-set_same, map-set, length-map}
-use Rattle.thread_local_buckets.specs.Lent.{shape}
+use Rattle.thread_local_buckets.specs.LoanOwns.{shape}
 
 row_shape : {A B : Type 0} (f : A → B) (xss : List (List A)) (k : ℕ) → map f (get_or xss k []) ≡ get_or (map (map f) xss) k []
 row_shape f [] k = refl

@@ -19,7 +19,7 @@ use Rattle.thread_local_buckets.specs.PointerOwns.{pointer_owns}
 use Rattle.thread_local_buckets.specs.declared.bucket_pointer.BucketPointer.{BucketPointer}
 use Rattle.thread_local_buckets.specs.contracts.bucket_pointer.BucketPointer as one_pointer
 use Rattle.thread_local_buckets.proofs.PointerSteps.{FieldsType}
-use Rattle.thread_local_buckets.specs.Lent.{shape, flagged, valued, PointsTo, frames, values_at}
+use Rattle.thread_local_buckets.specs.LoanOwns.{shape, flagged, valued, PointsTo, frames, values_at}
 use Rattle.thread_local_buckets.proofs.Blocks.{rested, pointer_apart, pointer_whole}
 use Rattle.thread_local_base.proofs.Signs.{signs}
 

@@ -5,7 +5,7 @@ pub mod PointerOwns
 pub mod Counted
 pub mod Cursor
 pub mod Slots
-pub mod Retired
+pub mod Emptying
 pub mod Drain
 pub mod Emptied
 pub mod Inserting
@@ -14,4 +14,4 @@ pub mod Entered
 pub mod LendingValues
 pub mod Text
 pub mod Writing
-pub mod Lent
+pub mod LoanOwns

@@ -7,7 +7,7 @@ ghost use Rattle.thread_local_buckets.specs.Slots.{block_owns, chunks, slots_ty,
 
 use crate::bytes::bytes_of_block;
 use crate::chunk::{Chunk, flag_word_at, value_size};
-use crate::retired::RetiredBlock;
+use crate::emptying::EmptyingBlock;
 use std::alloc::{AllocError, Allocator};
 use std::marker::{Model, PhantomData};
 use std::mem::align_of;
@@ -88,7 +88,7 @@ impl<T, A: Allocator> Block<T, A> {
     pub fn release(self, alloc: &A, len: usize)
         requires { (self.heap ≡ alloc.now) × (self.slots ≡ empty_slots len) × (self.left ≡ 0) }
     {
-        RetiredBlock::of(self, len).deallocate(alloc, len, bytes_of_block::<T>(len));
+        EmptyingBlock::of(self, len).deallocate(alloc, len, bytes_of_block::<T>(len));
     }
 }
 

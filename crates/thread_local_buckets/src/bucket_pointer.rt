@@ -7,7 +7,7 @@ ghost use Rattle.thread_local_buckets.specs.Slots.{heap_token, slot_value, empty
 ghost use Rattle.thread_local_buckets.specs.PointerOwns.{pointer_owns};
 
 use crate::bytes::bytes_of_block;
-use crate::{Block, Chunk, RetiredBlock, flag_word_at};
+use crate::{Block, Chunk, EmptyingBlock, flag_word_at};
 use std::alloc::Global;
 use std::marker::{Model, PhantomData};
 use std::ptr::null_mut;
@@ -141,14 +141,14 @@ impl<T: Drop> BucketPointer<T> {
         if !self.stands() {
             return;
         }
-        let mut retired = RetiredBlock::of(self.lift(alloc), 0);
+        let mut emptying = EmptyingBlock::of(self.lift(alloc), 0);
         'slots: for index in 0..len {
             let flag_word = flag_word_at::<T>(len, index / 64);
-            if retired.is_next_published(index, flag_word) {
-                drop(retired.move_next(index));
+            if emptying.is_next_published(index, flag_word) {
+                drop(emptying.move_next(index));
             }
         }
-        retired.deallocate(alloc, len, bytes_of_block::<T>(len));
+        emptying.deallocate(alloc, len, bytes_of_block::<T>(len));
     }
 }
 

@@ -8,7 +8,7 @@ ghost use Rattle.thread_local_base.specs.Rows.{value_in, with_slot};
 ghost use Rattle.thread_local_base.specs.Code.{contents_coded};
 ghost use Rattle.thread_local_base.specs.Bits.{is_set};
 ghost use Rattle.thread_local_buckets.specs.Slots.{flag_word_at};
-ghost use Rattle.thread_local_buckets.specs.Lent.{loan_owns};
+ghost use Rattle.thread_local_buckets.specs.LoanOwns.{loan_owns};
 
 use crate::{Chunk, FlagSource};
 use std::marker::{Model, PhantomData};

@@ -23,7 +23,7 @@ use Rattle.std.proofs.Common.{◌||◌, Option, None, Some, is_some}
 use base.Stored.{Gv}
 use Rattle.thread_local_base.specs.IdMoves.{IdMove, Take, Give, held_after, noted, published_in}
 use Rattle.thread_local_ids.proofs.NoteElements.{publishing, publishing_by, noted_out, noted_back, note_taken, note_given, all_more}
-use Rattle.thread_local_ids.proofs.NoteElements.{note_keyless, all_noted_keyless}
+use Rattle.thread_local_ids.proofs.NoteElements.{all_noted_keyless}
 use Rattle.thread_local_ids.proofs.NoteLaws.{noted_taken, noted_given, beside_notes, held_publishing, out_noted, out_noted_back}
 use Rattle.thread_local_ids.proofs.NoteLaws.{early_publishing, left_stays}
 use Rattle.thread_local_base.specs.SharedWord.{word_invariant}
@@ -31,16 +31,15 @@ use Rattle.thread_local_base.proofs.HeldLaws.{least_free, is_held-without, lengt
 use Rattle.thread_local_base.proofs.IdMoveLaws.{after_take, after_give}
 use Rattle.thread_local_base.proofs.SharedWord.{stepped}
 use Rattle.thread_local_base.proofs.Signs.{signs}
-use Rattle.thread_local_ids.specs.Rights.{is_out, less, right_owns, right_with, right_in, rights_own, history_owns, page_owns, tenure_of, taken_id}
+use Rattle.thread_local_ids.specs.Rights.{is_out, less, right_owns, right_in, rights_own, history_owns, page_owns, tenure_of, taken_id}
 use Rattle.thread_local_ids.specs.Rights.{note_key, note_owns, all_noted, AreNotedOut}
 use Rattle.thread_local_ids.specs.FirstIds.{IsWordOf, IsSameBeyond, IsGivenBeyond, HasFurther, AreOutOf, IsTiedTo, IsReturn, Kept, is_full, word_with}
-use Rattle.thread_local_ids.specs.Returns.{gives as times_given}
 use Rattle.thread_local_ids.specs.FirstIds.{log_key, log_owns, ledger_owns, kept_with, lies_with}
 use Rattle.thread_local_ids.proofs.FirstLaws as laws
 use Rattle.thread_local_ids.proofs.Logs.{O, halved, joined, agree, grown}
 use Rattle.thread_local_ids.proofs.MoveElements.{note_take, note_give, note_publish, page_of, page_is_early, history_once}
-use Rattle.thread_local_ids.proofs.MoveElements.{history_keyless, page_keyless, held_keyless}
-use Rattle.thread_local_ids.proofs.RightElements.{rights_cut, rights_join, right_keyless, rights_keyless}
+use Rattle.thread_local_ids.proofs.MoveElements.{history_keyless}
+use Rattle.thread_local_ids.proofs.RightElements.{rights_cut, rights_join, rights_keyless}
 
 module _ {M : Type 1} {𝓤 : Ura M} (𝓛 : Logic 𝓤) where
   open 𝓛 use {A}
@@ -162,8 +161,8 @@ module _ {M : Type 1} {𝓤 : Ura M} (𝓛 : Logic 𝓤) where
   abbrev with_return : List IdMove → List IdMove → Option Gv → List IdMove
   with_return moves before left = noted (publishing moves (taken_id before) left) (Give (taken_id before))
 
-  abbrev Comes : List IdMove → List IdMove → Option Gv → Type 0
-  Comes moves before left =
+  abbrev MayReturn : List IdMove → List IdMove → Option Gv → Type 0
+  MayReturn moves before left =
       (is_held (held_after moves) (taken_id before) ≡ true) × IsPrefix (noted before Take) moves
       × (published_in (publishing moves (taken_id before) left) (taken_id before) ≡ left)
 
@@ -171,7 +170,7 @@ module _ {M : Type 1} {𝓤 : Ura M} (𝓛 : Logic 𝓤) where
   given_back : (γ : GName) (moves before : List IdMove) (out : List ℕ) (left : Option Gv) → AreOutOf out (held_after moves)
       → taken_id before < 2 ^ 63 - 1
       → ⟦ ledger_owns γ moves ⟧ ∗ ⟦ rights_own γ out ⟧ ∗ ⟦ gone γ before left ⟧
-      ⊢ guard 𝓤 (Comes moves before left)
+      ⊢ guard 𝓤 (MayReturn moves before left)
       (upd 𝓤 (⟦ page_owns γ (with_return moves before left) ⟧ ∗ ⟦ ledger_owns γ (with_return moves before left) ⟧
       ∗ ⟦ rights_own γ (noted_back left (taken_id before) (less out (taken_id before))) ⟧))
   given_back γ moves before out left are low =
@@ -397,7 +396,7 @@ module _ {M : Type 1} {𝓤 : Ura M} (𝓛 : Logic 𝓤) where
       let later : IsPrefix moves more = O.trans moves since more (early_publishing moves id left) (Give id ∷ [], refl) in
       -- [the fact; the log; the history; the rights; what comes back]
       fpick ! (λ tied. drop ! $ move ! (1 ∷ 2 ∷ 3 ∷ []) $
-      use3 𝓛 (given (Comes moves before left) (raw (upd 𝓤 (⟦ page_owns γ more ⟧ ∗ ⟦ ledger_owns γ more ⟧ ∗ ⟦ rights_own γ out' ⟧))))
+      use3 𝓛 (given (MayReturn moves before left) (raw (upd 𝓤 (⟦ page_owns γ more ⟧ ∗ ⟦ ledger_owns γ more ⟧ ∗ ⟦ rights_own γ out' ⟧))))
       (given_back γ moves before out left tied.rights range) $ learn ! (λ so.
       let plain : k ≡ 64 * 2 ^ id = k_is ∙ laws.bit_in_word id first in
       let tied' : IsTiedTo n' more out' log = record {
@@ -454,7 +453,7 @@ module _ {M : Type 1} {𝓤 : Ura M} (𝓛 : Logic 𝓤) where
       (O.trans log moves more (subst (λ (l : List IdMove). IsPrefix l moves) same tied.early) later)) $
       settle 𝓛 Z (‵ (log_owns γ false more) ⊛ ‵ (log_owns γ false more)) $ split ! $
       move ! (3 ∷ 4 ∷ 2 ∷ []) $
-      use3 𝓛 (given (Comes moves before left) (raw (upd 𝓤 (⟦ page_owns γ more ⟧ ∗ ⟦ ledger_owns γ more ⟧ ∗ ⟦ rights_own γ out' ⟧))))
+      use3 𝓛 (given (MayReturn moves before left) (raw (upd 𝓤 (⟦ page_owns γ more ⟧ ∗ ⟦ ledger_owns γ more ⟧ ∗ ⟦ rights_own γ out' ⟧))))
       (given_back γ moves before out left tied.rights range) $ learn ! (λ so.
       let tied' : IsTiedTo n more out' more = record {
         word = subst (IsWordOf n) (sym now) (laws.word_stays n held (without held id) tied.word (laws.low_given held id further)

@@ -2,11 +2,11 @@ mod Calls
 mod Fields
 mod Guards
 mod Handed
-mod Lent
+mod SharedLock
 pub mod Logs
 mod Ordered
 pub mod ReturnLaws
-mod Steps
+mod LockSteps
 mod Begun
 mod BothLent
 mod Facts

@@ -1,7 +1,6 @@
 -- What a right has and shows, in each of its states. Assumes `Logic`.
 use Rattle.std.proofs.Common.{Bool, true, false, Option, List, [], ◌∷◌}
 use seplogic.Ra.Ura.{Ura}
-use base.Logic.{SProp}
 use base.Fml.{GName}
 use base.Shift.{Keyless}
 use base.Stored.{Gv}

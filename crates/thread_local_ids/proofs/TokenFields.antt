@@ -19,7 +19,7 @@ use denote.Struct.Owning.{shape}
 use Rattle.std.specs.contracts.marker.PhantomData as marker
 use Rattle.thread_local_base.proofs.Signs.{signs}
 use Rattle.thread_local_ids.specs.Told.{tells}
-use Rattle.thread_local_ids.specs.Views.{TokenView}
+use Rattle.thread_local_ids.specs.TokenViews.{TokenView}
 use Rattle.thread_local_ids.specs.contracts.tokens.token.Token as Token
 use Rattle.thread_local_ids.specs.contracts.tokens.token.Token.TheInside as Inside
 

@@ -20,7 +20,7 @@ use denote.Shadow.{makes_shadow}
 use denote.Struct.Struct.{Struct}
 use denote.Struct.Owning.{shape}
 use Rattle.thread_local_ids.specs.Told.{tells, told_or_untold}
-use Rattle.thread_local_ids.specs.Views.{TokenView}
+use Rattle.thread_local_ids.specs.TokenViews.{TokenView}
 use Rattle.thread_local_ids.specs.TokenLists.{AllOf, tell_each}
 use Rattle.thread_local_ids.specs.contracts.tokens.told_list.Told as Told
 use Rattle.thread_local_ids.specs.contracts.tokens.told_list.Told.TheInside as Inside

@@ -6,7 +6,7 @@ use Rattle.std.specs.List.{AllPairs, AllWithin}
 use Rattle.std.proofs.lemmas.List.{length-map, get_or-map}
 use Rattle.thread_local_base.specs.Walk.{walk}
 use Rattle.thread_local_base.proofs.EntriesLaws.{are_all}
-use Rattle.thread_local_ids.specs.Views.{TokenView}
+use Rattle.thread_local_ids.specs.TokenViews.{TokenView}
 use Rattle.std.proofs.lemmas.Simd.{map-map}
 
 -- the entry that a token is of

@@ -4,7 +4,7 @@ pub mod Locking
 pub mod Sharings
 pub mod Told
 pub mod Blank
-pub mod Views
+pub mod TokenViews
 pub mod Rights
 pub mod TokenLists
 pub mod FirstIds

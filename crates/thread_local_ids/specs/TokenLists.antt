@@ -4,7 +4,7 @@ use base.Fml.{Fml, ftrue, fsep}
 use denote.RattleType.{RattleType}
 use Rattle.thread_local_base.specs.Place.{id_at}
 use Rattle.thread_local_ids.specs.Told.{tells}
-use Rattle.thread_local_ids.specs.Views.{TokenView}
+use Rattle.thread_local_ids.specs.TokenViews.{TokenView}
 
 -- this holds of each of these tokens that is of the sharing, if the sharing has a name
 abbrev pub AllOf : {V : Type 0} → Option ℕ → (TokenView V → Type 0) → List (TokenView V) → Type 0

@@ -1,1 +1,1 @@
-mod Lent
+mod PoolLends

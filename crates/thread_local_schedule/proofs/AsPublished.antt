@@ -19,7 +19,7 @@ use Rattle.thread_local_schedule.specs.Events.{is_enabled, happens, run}
 use Rattle.thread_local_schedule.specs.Schedule.{publishing, move, move_of, changes_values}
 use Rattle.thread_local_schedule.specs.History.{history_with, history_after_all, history}
 use Rattle.thread_local_schedule.specs.History.{as_published_with, as_published_after_all, is_as_published}
-use Rattle.thread_local_schedule.proofs.Parts.{made_core-fits}
+use Rattle.thread_local_schedule.proofs.InvariantParts.{made_core-fits}
 use Rattle.thread_local_schedule.proofs.CoreLaws.{none_made}
 use Rattle.thread_local_schedule.proofs.Kept.{happens-fits}
 use Rattle.thread_local_schedule.proofs.EventSays.{event_says}

@@ -22,7 +22,7 @@ use Rattle.thread_local_schedule.specs.CoreFits.{CoreFits}
 use Rattle.thread_local_schedule.proofs.Kept.{happens-fits, run-fits}
 use Rattle.thread_local_schedule.proofs.EventSays.{Says, event_says}
 use Rattle.thread_local_schedule.proofs.PutLaws.{put_same}
-use Rattle.thread_local_schedule.proofs.Parts.{made_core-fits, no_locals}
+use Rattle.thread_local_schedule.proofs.InvariantParts.{made_core-fits, no_locals}
 use Rattle.thread_local_schedule.proofs.ClearedLaws.{slot_at-cleared, bucket_stands-cleared}
 use Rattle.thread_local_schedule.proofs.CoreLaws.{none_if}
 use Rattle.thread_local_schedule.proofs.SheetLaws.{settled, untaken}

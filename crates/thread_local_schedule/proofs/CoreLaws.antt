@@ -24,7 +24,7 @@ use Rattle.thread_local_schedule.specs.Fits.{IsLearnt, view_now, with_value_if}
 use Rattle.thread_local_schedule.specs.Core.{Core, shadow, installed_slots, peak, private_slots}
 use Rattle.thread_local_schedule.specs.CoreFits.{CoreFits}
 use Rattle.thread_local_schedule.proofs.TableLaws.{same_function, slot_at-made_table, published_unset}
-use Rattle.thread_local_schedule.proofs.Parts.{own_small}
+use Rattle.thread_local_schedule.proofs.InvariantParts.{own_small}
 
 -- an option is None where no value is possible
 pub none_if : {A : Type 0} (o : Option A) → ((x : A) → o ≡ Some x → ⊥) → o ≡ None

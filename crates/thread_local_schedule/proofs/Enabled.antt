@@ -10,7 +10,7 @@ use Rattle.thread_local_schedule.proofs.CallsLaws.{local_step-goes}
 use Rattle.thread_local_schedule.specs.Core.{Core, none_below, is_alone}
 use Rattle.thread_local_schedule.specs.CoreFits.{CoreFits}
 use Rattle.thread_local_schedule.proofs.PutLaws.{put_same}
-use Rattle.thread_local_schedule.proofs.Parts.{no_locals, no_walks}
+use Rattle.thread_local_schedule.proofs.InvariantParts.{no_locals, no_walks}
 use Rattle.thread_local_base.specs.Held.{is_granted}
 use Rattle.thread_local_schedule.specs.Events.{Event, TakeId, OfLocal, GiveBack, Forget, BeginWalk, Owner, OwnerCall}
 use Rattle.thread_local_schedule.specs.Events.{take_id, with_step, is_idle, without_local, with_id_given, after_owner}

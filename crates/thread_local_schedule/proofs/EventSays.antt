@@ -26,7 +26,7 @@ use Rattle.thread_local_schedule.specs.Schedule.{move_of, is_take, refuses, is_e
 use Rattle.thread_local_schedule.proofs.HeldCounts.{peak_counts, held_count-le}
 use Rattle.thread_local_schedule.specs.CoreFits.{CoreFits}
 use Rattle.thread_local_schedule.proofs.PutLaws.{put_cases, still, put_other}
-use Rattle.thread_local_schedule.proofs.Parts.{kept_value, no_locals}
+use Rattle.thread_local_schedule.proofs.InvariantParts.{kept_value, no_locals}
 use Rattle.thread_local_schedule.proofs.CoreLaws.{published_moves, publishing_allowed}
 use Rattle.thread_local_schedule.proofs.OptionLaws.{if_enabled, if_mapped, if_there, if_then}
 use Rattle.thread_local_base.proofs.HeldLaws as ids

@@ -9,7 +9,7 @@ use Rattle.thread_local_schedule.specs.Table.{published}
 use Rattle.thread_local_schedule.specs.Core.{new_core, shadow}
 use Rattle.thread_local_schedule.specs.Events.{Owner, ClearTable, happens, is_enabled, run}
 use Rattle.thread_local_schedule.specs.Story.{four_publish, after_publishing, after_all}
-use Rattle.thread_local_schedule.proofs.Parts.{made_core-fits}
+use Rattle.thread_local_schedule.proofs.InvariantParts.{made_core-fits}
 use Rattle.thread_local_schedule.proofs.CoreLaws.{none_if}
 use Rattle.thread_local_schedule.proofs.ClearedLaws.{none_cleared}
 use Rattle.thread_local_schedule.proofs.FourLocals.{by_steps, four_held, clears}

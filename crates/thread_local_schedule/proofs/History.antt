@@ -17,7 +17,7 @@ use Rattle.thread_local_schedule.specs.Events.{Event, TakeId, OfLocal, GiveBack,
 use Rattle.thread_local_schedule.specs.Events.{is_enabled, happens, run}
 use Rattle.thread_local_schedule.specs.Schedule.{publishing, move, move_of, is_granted_take, newcomer}
 use Rattle.thread_local_schedule.specs.History.{history_with, history_after_all, history}
-use Rattle.thread_local_schedule.proofs.Parts.{made_core-fits}
+use Rattle.thread_local_schedule.proofs.InvariantParts.{made_core-fits}
 use Rattle.thread_local_schedule.proofs.Kept.{happens-fits}
 use Rattle.thread_local_schedule.proofs.EventSays.{event_says}
 use Rattle.thread_local_schedule.proofs.Clauses.{least_taken}

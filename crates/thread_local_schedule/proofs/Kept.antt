@@ -23,9 +23,9 @@ use Rattle.thread_local_schedule.specs.Events.{step_of, step, happens, run, is_i
 use Rattle.thread_local_schedule.specs.Events.{with_id_given, without_walk, after_owner}
 use Rattle.thread_local_schedule.proofs.HeldCounts.{peak_after}
 use Rattle.thread_local_schedule.specs.CoreFits.{CoreFits}
-use Rattle.thread_local_schedule.proofs.Parts.{locals_put, locals_removed, given-ManagerFits, peak-TableFits}
-use Rattle.thread_local_schedule.proofs.Parts.{held_stays, least_held, fresh-LiveFits, stepped-fits, walks_put}
-use Rattle.thread_local_schedule.proofs.Parts.{came_before, rewritten-fits, drained-fits, cleared-fits}
+use Rattle.thread_local_schedule.proofs.InvariantParts.{locals_put, locals_removed, given-ManagerFits, peak-TableFits}
+use Rattle.thread_local_schedule.proofs.InvariantParts.{held_stays, least_held, fresh-LiveFits, stepped-fits, walks_put}
+use Rattle.thread_local_schedule.proofs.InvariantParts.{came_before, rewritten-fits, drained-fits, cleared-fits}
 use Rattle.thread_local_schedule.proofs.Takes.{granted_some, taken-ManagerFits}
 use Rattle.thread_local_schedule.proofs.OptionLaws.{if_enabled, unwrapped, if_mapped, if_both, if_there, if_then}
 use Rattle.thread_local_base.proofs.HeldLaws as ids

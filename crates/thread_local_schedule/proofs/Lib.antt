@@ -38,6 +38,6 @@ pub mod HeldCounts
 pub mod SheetLaws
 pub mod PutLaws
 pub mod Numbers
-pub mod Parts
+pub mod InvariantParts
 pub mod CoreLaws
 pub mod ShownLaws

@@ -9,7 +9,7 @@ use Rattle.thread_local_schedule.specs.OwnerWalk.{owner_walk}
 use Rattle.thread_local_schedule.specs.Core.{Core, made_core, shadow}
 use Rattle.thread_local_schedule.specs.CoreFits.{CoreFits}
 use Rattle.thread_local_schedule.proofs.OwnerLaws.{owner_walk-walk}
-use Rattle.thread_local_schedule.proofs.Parts.{made_core-fits}
+use Rattle.thread_local_schedule.proofs.InvariantParts.{made_core-fits}
 use Rattle.thread_local_schedule.specs.Events.{Event, happens, run}
 use Rattle.thread_local_schedule.specs.Schedule.{is_exclusive}
 use Rattle.thread_local_schedule.proofs.Kept.{happens-fits, run-fits}

@@ -19,7 +19,7 @@ use Rattle.thread_local_schedule.specs.CoreFits.{CoreFits, ManagerFits}
 use Rattle.thread_local_schedule.proofs.Kept.{happens-fits, run-fits}
 use Rattle.thread_local_schedule.proofs.EventSays.{event_says}
 use Rattle.thread_local_schedule.proofs.HeldCounts.{held_below, least-le-held_count}
-use Rattle.thread_local_schedule.proofs.Parts.{made_core-fits}
+use Rattle.thread_local_schedule.proofs.InvariantParts.{made_core-fits}
 use Rattle.thread_local_schedule.proofs.CoreLaws.{installed_bound, never_missing}
 use Rattle.thread_local_schedule.proofs.SheetLaws.{same_capacity}
 use Rattle.thread_local_schedule.proofs.OptionLaws.{none_enabled, makes_none}

@@ -11,7 +11,7 @@ use Rattle.thread_local_schedule.specs.TableMoves.{TableMove, OfSheet, Drain, mo
 use Rattle.thread_local_schedule.specs.Core.{Core, made_core, shadow, peak}
 use Rattle.thread_local_schedule.specs.CoreFits.{CoreFits}
 use Rattle.thread_local_schedule.proofs.HeldCounts.{held_below}
-use Rattle.thread_local_schedule.proofs.Parts.{made_core-fits}
+use Rattle.thread_local_schedule.proofs.InvariantParts.{made_core-fits}
 use Rattle.thread_local_schedule.proofs.CoreLaws.{published_bound}
 use Rattle.thread_local_schedule.specs.Events.{Event, happens, run}
 use Rattle.thread_local_schedule.specs.Schedule.{move}

@@ -21,7 +21,7 @@ use Rattle.thread_local_schedule.proofs.Kept.{happens-fits, run-fits}
 use Rattle.thread_local_schedule.proofs.EventSays.{event_says}
 use Rattle.thread_local_schedule.specs.Bounds.{TakesBelow, NothingRefused}
 use Rattle.thread_local_schedule.proofs.PeakLaws.{capacity_stays, run_capacity, within_capacity, reserved}
-use Rattle.thread_local_schedule.proofs.Parts.{made_core-fits}
+use Rattle.thread_local_schedule.proofs.InvariantParts.{made_core-fits}
 use Rattle.thread_local_schedule.proofs.CoreLaws.{installed_bound}
 use Rattle.thread_local_schedule.proofs.SheetLaws.{moved_peak, same_peak}
 use Rattle.thread_local_schedule.proofs.OptionLaws.{not_mapped, not_if, none_enabled}

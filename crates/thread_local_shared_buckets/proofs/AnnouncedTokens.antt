@@ -21,7 +21,7 @@ use Rattle.thread_local_base.specs.Fact.{fact}
 use Rattle.thread_local_base.specs.SharedWord.{word_invariant}
 use Rattle.thread_local_base.proofs.SharedWord.{stepped}
 use Rattle.thread_local_base.proofs.Signs.{signs}
-use Rattle.thread_local_ids.specs.Views.{TokenView}
+use Rattle.thread_local_ids.specs.TokenViews.{TokenView}
 use Rattle.thread_local_ids.specs.TokenLists.{NoneIn, tell_each}
 use Rattle.thread_local_shared_buckets.specs.Announcing.{Announcing, BeginsWithFirst, announced, lies_with_word}
 use Rattle.thread_local_shared_buckets.specs.Shared.{BucketView, Turn, StandingBlock, len, first, all_unborn, standing, beside_pointer}

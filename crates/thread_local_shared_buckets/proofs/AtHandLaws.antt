@@ -11,11 +11,11 @@ use Rattle.thread_local_shared_buckets.specs.declared.steps.Own.{Own}
 use Rattle.thread_local_shared_buckets.specs.declared.steps.Walk.{Walk}
 use Rattle.thread_local_shared_buckets.specs.Positions.{resting, next_id, at_bucket, lies_in, OwnIsTold}
 use Rattle.thread_local_shared_buckets.specs.Positions.{IsAhead, IsSharedWalk, IsBehind, Skips}
-use Rattle.thread_local_shared_buckets.specs.AtHand.{IsRowOf, OwnIsAtHand, AreLeft, IsWalk, LooksIn, Comes}
-use Rattle.thread_local_shared_buckets.specs.Steps.{Leads}
+use Rattle.thread_local_shared_buckets.specs.AtHand.{IsRowOf, OwnIsAtHand, AreLeft, IsWalk, LooksIn, HasSkipped}
+use Rattle.thread_local_shared_buckets.specs.WalkSteps.{SilentSteps}
 use Rattle.thread_local_shared_buckets.specs.TableView.{TableView}
 use Rattle.thread_local_ids.specs.TokenLists.{AllOf, NoneIn}
-use Rattle.thread_local_ids.specs.Views.{TokenView}
+use Rattle.thread_local_ids.specs.TokenViews.{TokenView}
 use Rattle.thread_local_shared_buckets.proofs.ToldLaws.{unmarked, skips, moved, skips_nowhere, skips_then}
 use Rattle.thread_local_shared_buckets.proofs.MoveLaws.{leads_further}
 use Rattle.thread_local_shared_buckets.proofs.StepLaws.{leads_nowhere, leads_then}
@@ -57,7 +57,7 @@ unset_before left bucket rest b but small above unset = sym (as_before rest left
 module _ {V : Type 0} where
   -- 2. What a walk keeps while it looks in its bucket and moves on, one after the other.
 
-  pub comes_nowhere : (w : Walk V) → Comes w w
+  pub comes_nowhere : (w : Walk V) → HasSkipped w w
   comes_nowhere w = record {
     buckets = refl;
     own = refl;
@@ -66,18 +66,18 @@ module _ {V : Type 0} where
     skips = skips_nowhere w.buckets.now.sharing w.told w.raw;
   }
 
-  pub comes_by_look : (w to : Walk V) → LooksIn w to → Comes w to
+  pub comes_by_look : (w to : Walk V) → LooksIn w to → HasSkipped w to
   comes_by_look w to look = record {
     buckets = look.buckets;
     own = look.own;
-    leads = subst (λ (r : RawIter). Leads (resting w.raw) (resting r)) (sym look.raw) (leads_nowhere (resting w.raw));
+    leads = subst (λ (r : RawIter). SilentSteps (resting w.raw) (resting r)) (sym look.raw) (leads_nowhere (resting w.raw));
     told = look.told;
     skips =
         subst (λ (r : RawIter). AllOf w.buckets.now.sharing (λ p. Skips w.raw r p.id) w.told) (sym look.raw)
         (skips_nowhere w.buckets.now.sharing w.told w.raw);
   }
 
-  pub comes_then : (w met to : Walk V) → Comes w met → Comes met to → Comes w to
+  pub comes_then : (w met to : Walk V) → HasSkipped w met → HasSkipped met to → HasSkipped w to
   comes_then w met to first after = record {
     buckets = after.buckets ∙ first.buckets;
     own = after.own ∙ first.own;
@@ -123,7 +123,7 @@ module _ {V : Type 0} where
     pub walk : IsWalk to
     pub passed : to.rest ≡ 0
     pub further : w.raw.bucket < to.raw.bucket
-    pub comes : Comes w to
+    pub comes : HasSkipped w to
 
   -- the walk moves on
   abbrev pub further_on : Walk V → ℕ → ℕ → ℕ → Walk V

@@ -7,7 +7,7 @@ use Rattle.thread_local_base.specs.Owner.{cleared_row}
 use Rattle.thread_local_base.specs.Place.{id_at}
 use Rattle.thread_local_base.specs.Rows.{empty_row}
 use Rattle.thread_local_ids.specs.Blank.{IsBlank, AreBlank}
-use Rattle.thread_local_shared_buckets.specs.Lent.{is_blank, blank_below, has_no_value}
+use Rattle.thread_local_shared_buckets.specs.AfterLoan.{is_blank, blank_below, has_no_value}
 
 new_blank : (V : Type 0) (n : ℕ) → is_blank {V = V} (replicate n None) ≡ true
 new_blank V zero = refl

@@ -35,7 +35,7 @@ use Rattle.thread_local_shared_buckets.specs.Shared.{pinned_and_told, if_set}
 use Rattle.thread_local_shared_buckets.proofs.Rested.{opens_by}
 use Rattle.thread_local_shared_buckets.proofs.Inside.{Under, in_invariant}
 use Rattle.thread_local_ids.specs.Told.{tells, untold_in}
-use Rattle.thread_local_ids.specs.Views.{TokenView}
+use Rattle.thread_local_ids.specs.TokenViews.{TokenView}
 use Rattle.thread_local_ids.specs.TokenLists.{AllOf, tell_each}
 use Rattle.thread_local_ids.proofs.TokenListLaws.{slot_agrees}
 use Rattle.thread_local_ids.proofs.ToldElements.{tells_dup}

@@ -11,9 +11,9 @@ use Rattle.std.proofs.lemmas.List.Quantifiers.{all_pairs_push}
 use Rattle.std.proofs.lemmas.List.Sums.{sum_by-cons}
 use denote.Ref.{Bor}
 use Rattle.thread_local_base.specs.Cursor.{cursor_id}
-use Rattle.thread_local_ids.specs.Views.{TokenView}
+use Rattle.thread_local_ids.specs.TokenViews.{TokenView}
 use Rattle.thread_local_ids.specs.TokenLists.{AllOf}
-use Rattle.thread_local_shared_buckets.specs.Walks.{WalkView, Owed, Meets, Goes, HasGiven, fresh_with}
+use Rattle.thread_local_shared_buckets.specs.Walks.{WalkView, Owed, GivesTold, IsNext, HasGiven, fresh_with}
 use Rattle.thread_local_shared_buckets.proofs.ToldLaws.{moved}
 
 suc_same : (i j n : ℕ) → n ≡ suc i → n ≡ suc j → i ≡ j
@@ -22,8 +22,8 @@ suc_same i j n at here = omega arith
 module _ {V : Type 0} where
   -- what a call does about the tokens of a list that is the walk's
   meets : (sharing : Option ℕ) (told : List (TokenView V)) (s t : WalkView V) (x : Option (Bor V)) → s.sharing ≡ sharing → s.told ≡ told
-      → Goes s x t → AllOf sharing (Meets s.cursor x t.cursor) told
-  meets sharing told s t x same is step = moved s.sharing sharing s.told told (Meets s.cursor x t.cursor) same is step.meets
+      → IsNext s x t → AllOf sharing (GivesTold s.cursor x t.cursor) told
+  meets sharing told s t x same is step = moved s.sharing sharing s.told told (GivesTold s.cursor x t.cursor) same is step.meets
 
   -- 1. The values of a walk without ids.
 
@@ -35,16 +35,16 @@ module _ {V : Type 0} where
 
   -- a token that was ahead is among what came until the end
   ahead_given : (sharing : Option ℕ) (told : List (TokenView V)) (items : List (Bor V)) (s t u : WalkView V) → s.sharing ≡ sharing
-      → s.told ≡ told → Yields Goes s items t → Goes t None u
+      → s.told ≡ told → Yields IsNext s items t → IsNext t None u
       → AllOf sharing (λ p. cursor_id s.cursor ≤ p.id → Contains (values items) p.value) told
   ahead_given sharing told [] s t u same is here over = λ named k d near own ahead.
-      let last = subst (λ (w : WalkView V). Goes w None u) (sym here) over in
+      let last = subst (λ (w : WalkView V). IsNext w None u) (sym here) over in
       let behind = meets sharing told s u None same is last named k d near own in
       absurd (omega arith)
   ahead_given sharing told (x ∷ items) s t u same is run over = λ named k d near own ahead.
       let p : TokenView V = slice_index_or told k d in
       let j : WalkView V = run.0 in
-      let step : Goes s (Some x) j = run.1 in
+      let step : IsNext s (Some x) j = run.1 in
       let met = meets sharing told s j (Some x) same is step named k d near own ahead in
       ⊎_elim
       (λ (here : p.id < cursor_id j.cursor). comes_first x.now p.value (values items) (met here).1)
@@ -54,7 +54,7 @@ module _ {V : Type 0} where
       (cases_lt p.id (cursor_id j.cursor))
 
   pub values_given : (sharing : Option ℕ) (own : Option (Owed V)) (shown : Bool) (told : List (TokenView V)) (s t u : WalkView V)
-      (items : List (Bor V)) (given : List V) → s ≡ fresh_with sharing own shown told → Yields Goes s items t → Goes t None u
+      (items : List (Bor V)) (given : List V) → s ≡ fresh_with sharing own shown told → Yields IsNext s items t → IsNext t None u
       → given ≡ values items
       → AllOf sharing (λ p. Contains given p.value) told
   values_given sharing own shown told s t u items given is run over same = λ named k d near own.
@@ -95,7 +95,7 @@ module _ {V : Type 0} where
       (cases_lt p.id from)
 
   pub goes : (sharing : Option ℕ) (told : List (TokenView V)) (walk left : WalkView V) (id : ℕ) (value : Bor V) (given more : List (ℕ × V))
-      → Goes walk (Some value) left → HasGiven sharing told walk given → cursor_id left.cursor ≡ suc id
+      → IsNext walk (Some value) left → HasGiven sharing told walk given → cursor_id left.cursor ≡ suc id
       → more ≡ given ++ (id, value.now) ∷ []
       → HasGiven sharing told left more
   goes sharing told walk left id value given more step kept at is =
@@ -117,7 +117,7 @@ module _ {V : Type 0} where
       })
 
   pub ends : (sharing : Option ℕ) (told : List (TokenView V)) (walk left : WalkView V) (given : List (ℕ × V))
-      → Goes walk None left → HasGiven sharing told walk given
+      → IsNext walk None left → HasGiven sharing told walk given
       → AllOf sharing (λ p. Contains given (p.id, p.value)) told
   ends sharing told walk left given step kept =
       λ named k d near own.
@@ -193,16 +193,16 @@ module _ {V : Type 0} (of : V → ℕ) where
   -- the sum of what came until the end is at least that over the tokens ahead
   pub sums : (sharing : Option ℕ) (told : List (TokenView V)) (items : List (Bor V)) (s t u : WalkView V) → s.sharing ≡ sharing → s.told ≡ told
       → IsSome sharing → All (λ p. p.sharing ≡ sharing) told → AllPairs (λ one other. one.id ≢ other.id) told
-      → Yields Goes s items t → Goes t None u
+      → Yields IsNext s items t → IsNext t None u
       → from_on (cursor_id s.cursor) told ≤ sum_by (λ x. of x.now) items
   sums sharing told [] s t u same is named own apart here over =
-      let last : Goes s None u = subst (λ (w : WalkView V). Goes w None u) (sym here) over in
+      let last : IsNext s None u = subst (λ (w : WalkView V). IsNext w None u) (sym here) over in
       let behind = meets sharing told s u None same is last in
       let none = all_below (cursor_id s.cursor) told (λ k d near. behind named k d near (own k d near)) in
       omega (arith, none)
   sums sharing told (x ∷ items) s t u same is named own apart run over =
       let j : WalkView V = run.0 in
-      let step : Goes s (Some x) j = run.1 in
+      let step : IsNext s (Some x) j = run.1 in
       let all = meets sharing told s j (Some x) same is step in
       let up : cursor_id s.cursor ≤ cursor_id j.cursor = omega (arith, step.gives.ahead, step.gives.passed) in
       let here = one_between (cursor_id s.cursor) (cursor_id j.cursor) (of x.now) told up apart (λ k d near high low.
@@ -212,7 +212,7 @@ module _ {V : Type 0} (of : V → ℕ) where
 
   pub sum_given : (sharing : Option ℕ) (own : Option (Owed V)) (shown : Bool) (told : List (TokenView V)) (s t u : WalkView V)
       (items : List (Bor V)) → s ≡ fresh_with sharing own shown told → IsSome sharing → All (λ p. p.sharing ≡ sharing) told
-      → AllPairs (λ one other. one.id ≢ other.id) told → Yields Goes s items t → Goes t None u
+      → AllPairs (λ one other. one.id ≢ other.id) told → Yields IsNext s items t → IsNext t None u
       → sum_by (λ p. of p.value) told ≤ sum_by (λ item. of item.now) items
   sum_given sharing own shown told s t u items is named alike apart run over =
       let all =

@@ -4,7 +4,7 @@ use Rattle.std.specs.Prelude.{IsSome, MatchOption}
 use Rattle.thread_local_base.specs.Learnt.{Learnt, Unknown, Missing, Standing, Vacant, Holding}
 use Rattle.thread_local_shared_buckets.specs.Known.{HasLooked, found_as, state_of}
 use Rattle.thread_local_shared_buckets.specs.Room.{IsEmpty, IsFilledBy}
-use Rattle.thread_local_shared_buckets.specs.Views.{ClaimView}
+use Rattle.thread_local_shared_buckets.specs.ClaimViews.{ClaimView}
 
 module _ {V : Type 0} where
   held_still : (learnt : Learnt V) → state_of learnt ≡ 2 → (x : V) × (learnt ≡ Holding x)

@@ -25,7 +25,7 @@ use Rattle.thread_local_shared_buckets.proofs.AnnouncingLaws.{shows, begun_annou
 use Rattle.thread_local_shared_buckets.specs.Shared.{BucketView, ids_shown, shown_by, grown}
 use Rattle.thread_local_shared_buckets.specs.TableView.{TableView, bucket_view}
 use Rattle.thread_local_shared_buckets.specs.Grown.{is_among, stand_among_below, stand_among, only_reserved}
-use Rattle.thread_local_shared_buckets.specs.Lent.{adds_no_bucket, view_with}
+use Rattle.thread_local_shared_buckets.specs.AfterLoan.{adds_no_bucket, view_with}
 use Rattle.thread_local_base.proofs.Signs.{signs}
 
 -- ---- which buckets stand

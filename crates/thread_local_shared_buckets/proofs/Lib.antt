@@ -29,7 +29,7 @@ pub mod Agreed
 pub mod Early
 pub mod Installs
 pub mod Learning
-pub mod Lending
+pub mod ClaimedValue
 pub mod Moves
 pub mod Sent
 pub mod ClaimSteps
@@ -37,7 +37,7 @@ pub mod Surrender
 pub mod RoomForTokens
 pub mod RowFields
 pub mod SeenFields
-pub mod Lent
+pub mod TurnBegins
 pub mod PointerValue
 pub mod Inside
 pub mod Loads

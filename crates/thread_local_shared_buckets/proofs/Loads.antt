@@ -22,7 +22,7 @@ use Rattle.thread_local_ids.specs.Rights.{reached_owns}
 use Rattle.thread_local_ids.specs.Told.{untold_in, tells}
 use Rattle.thread_local_ids.proofs.ToldElements.{telling_alike}
 use Rattle.thread_local_ids.proofs.ReachedElements.{reached_twice}
-use Rattle.thread_local_ids.specs.Views.{TokenView}
+use Rattle.thread_local_ids.specs.TokenViews.{TokenView}
 use Rattle.thread_local_ids.specs.TokenLists.{AllOf, tell_each}
 use Rattle.thread_local_ids.proofs.TokenListLaws.{slot_agrees}
 use Rattle.thread_local_shared_buckets.specs.Announcing.{announced}

@@ -5,7 +5,7 @@ use Rattle.thread_local_base.specs.Cursor.{Cursor, cursor_id, at_place, after_lo
 use Rattle.thread_local_base.proofs.CursorLaws.{after_look-fits, at_place-id}
 use Rattle.thread_local_buckets.specs.declared.cursor.RawIter.{RawIter}
 use Rattle.thread_local_shared_buckets.specs.Positions.{resting, loading, past, next_id}
-use Rattle.thread_local_shared_buckets.specs.Steps.{Leads}
+use Rattle.thread_local_shared_buckets.specs.WalkSteps.{SilentSteps}
 use Rattle.thread_local_shared_buckets.proofs.StepLaws.{loading_at, looking_at, at_place-inside, passes_bucket, leads_nowhere}
 use Rattle.thread_local_shared_buckets.proofs.StepLaws.{leads_then, leads_to_slot, looks_past, looks_to_end}
 
@@ -71,45 +71,45 @@ rests_behind raw index =
 -- 2. Steps that give nothing lead from there to a slot or a bucket.
 
 pub leads_in : (raw : RawIter) (index : ℕ) → raw.bucket < 63 → raw.index ≤ index → index < 2 ^ raw.bucket
-    → Leads (resting raw) (looking_at raw.bucket index)
+    → SilentSteps (resting raw) (looking_at raw.bucket index)
 leads_in raw index low ahead inside =
     let n : ℕ = index - raw.index in
-    rests raw (λ c. Leads c (looking_at raw.bucket index))
+    rests raw (λ c. SilentSteps c (looking_at raw.bucket index))
     (λ _. leads_to_slot raw.bucket raw.index index low ahead inside)
     (λ _.
-    subst (λ (c : Cursor). Leads c (looking_at raw.bucket index)) (sym (at_place-inside raw.bucket raw.index (omega arith)))
+    subst (λ (c : Cursor). SilentSteps c (looking_at raw.bucket index)) (sym (at_place-inside raw.bucket raw.index (omega arith)))
     (looks_past raw.bucket raw.index index n (omega arith) inside))
 
 -- to the bucket behind its own
-leads_out : (raw : RawIter) → raw.bucket < 63 → raw.index ≤ 2 ^ raw.bucket → Leads (resting raw) (loading_at (raw.bucket + 1) 0)
+leads_out : (raw : RawIter) → raw.bucket < 63 → raw.index ≤ 2 ^ raw.bucket → SilentSteps (resting raw) (loading_at (raw.bucket + 1) 0)
 leads_out raw low within =
     let next : suc raw.bucket ≡ raw.bucket + 1 = omega arith in
-    rests raw (λ c. Leads c (loading_at (raw.bucket + 1) 0))
+    rests raw (λ c. SilentSteps c (loading_at (raw.bucket + 1) 0))
     (λ _. passes_bucket raw.bucket raw.index low)
     (λ _.
     cond_both {A = Cursor} (eqb raw.index (2 ^ raw.bucket)) (loading_at (suc raw.bucket) 0) (looking_at raw.bucket raw.index)
-    (λ c. Leads c (loading_at (raw.bucket + 1) 0))
+    (λ c. SilentSteps c (loading_at (raw.bucket + 1) 0))
     (λ t.
-    subst (λ (b : ℕ). Leads (loading_at (suc raw.bucket) 0) (loading_at b 0)) next (leads_nowhere (loading_at (suc raw.bucket) 0)))
+    subst (λ (b : ℕ). SilentSteps (loading_at (suc raw.bucket) 0) (loading_at b 0)) next (leads_nowhere (loading_at (suc raw.bucket) 0)))
     (λ f. let apart = eqb-false raw.index (2 ^ raw.bucket) f in looks_to_end raw.bucket raw.index (omega arith)))
 
 -- a walk at the first slot of a bucket passes buckets up to another one
-passes_buckets : (bucket n : ℕ) → bucket + n ≤ 63 → Leads (loading_at bucket 0) (loading_at (bucket + n) 0)
+passes_buckets : (bucket n : ℕ) → bucket + n ≤ 63 → SilentSteps (loading_at bucket 0) (loading_at (bucket + n) 0)
 passes_buckets bucket zero near =
     let same : bucket ≡ bucket + 0 = omega arith in
-    subst (λ (b : ℕ). Leads (loading_at bucket 0) (loading_at b 0)) same (leads_nowhere (loading_at bucket 0))
+    subst (λ (b : ℕ). SilentSteps (loading_at bucket 0) (loading_at b 0)) same (leads_nowhere (loading_at bucket 0))
 passes_buckets bucket (suc n) near =
     let next : bucket + n + 1 ≡ bucket + suc n = omega arith in
     leads_then (loading_at bucket 0) (loading_at (bucket + n) 0) (loading_at (bucket + suc n) 0)
     (passes_buckets bucket n (omega arith))
-    (subst (λ (b : ℕ). Leads (loading_at (bucket + n) 0) (loading_at b 0)) next (passes_bucket (bucket + n) 0 (omega arith)))
+    (subst (λ (b : ℕ). SilentSteps (loading_at (bucket + n) 0) (loading_at b 0)) next (passes_bucket (bucket + n) 0 (omega arith)))
 
 -- to any later bucket
 pub leads_further : (raw : RawIter) (bucket : ℕ) → raw.bucket < 63 → raw.index ≤ 2 ^ raw.bucket → raw.bucket < bucket → bucket ≤ 63
-    → Leads (resting raw) (loading_at bucket 0)
+    → SilentSteps (resting raw) (loading_at bucket 0)
 leads_further raw bucket low within further near =
     let first : ℕ = raw.bucket + 1 in
     let n : ℕ = bucket - first in
     let there : first + n ≡ bucket = omega arith in
     leads_then (resting raw) (loading_at first 0) (loading_at bucket 0) (leads_out raw low within)
-    (subst (λ (b : ℕ). Leads (loading_at first 0) (loading_at b 0)) there (passes_buckets first n (omega arith)))
+    (subst (λ (b : ℕ). SilentSteps (loading_at first 0) (loading_at b 0)) there (passes_buckets first n (omega arith)))

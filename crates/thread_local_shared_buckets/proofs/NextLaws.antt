@@ -5,16 +5,16 @@ use Rattle.std.specs.Iterator.{MakesProgress}
 use denote.Ref.{Bor}
 use denote.RattleType.{RattleType}
 use Rattle.thread_local_base.specs.Cursor.{cursor_id}
-use Rattle.thread_local_shared_buckets.specs.Walks.{WalkView, Goes, GoesWithIds, CanGo, ids_left}
+use Rattle.thread_local_shared_buckets.specs.Walks.{WalkView, IsNext, IsNextWithId, CanGo, ids_left}
 
 module _ {V : Type 0} where
   -- a call that gives an item leaves a walk that may go on, with fewer ids ahead
   pub progress_some : {A : Type 0} (R : RattleType) (inner walk left : WalkView V) (x : Bor V) (y : A) (found : Option (Bor V))
-      (item : Option A) → inner ≡ walk → found ≡ Some x → item ≡ Some y → Goes inner found left → CanGo R walk
+      (item : Option A) → inner ≡ walk → found ≡ Some x → item ≡ Some y → IsNext inner found left → CanGo R walk
       → MakesProgress (CanGo {V = V} R) ids_left walk item left
   progress_some {A} R inner walk left x y found item same is gives goes can =
-      let there : Goes walk found left = subst (λ (w : WalkView V). Goes w found left) same goes in
-      let step : Goes walk (Some x) left = subst (λ (f : Option (Bor V)). Goes walk f left) is there in
+      let there : IsNext walk found left = subst (λ (w : WalkView V). IsNext w found left) same goes in
+      let step : IsNext walk (Some x) left = subst (λ (f : Option (Bor V)). IsNext walk f left) is there in
       let one = step.gives in
       let ahead : cursor_id walk.cursor ≤ cursor_id one.met = one.ahead in
       let in_range : cursor_id one.met < 2 ^ 63 - 1 = one.in_range in
@@ -36,7 +36,7 @@ module _ {V : Type 0} where
       }
 
   pub progress : {A : Type 0} (R : RattleType) (inner walk left : WalkView V) (item : Option (A × Bor V))
-      → inner ≡ walk → Goes inner (option_map (λ entry. entry.1) item) left → CanGo R walk
+      → inner ≡ walk → IsNext inner (option_map (λ entry. entry.1) item) left → CanGo R walk
       → MakesProgress (CanGo {V = V} R) ids_left walk item left
   progress R inner walk left None same goes can = progress_none R walk left None refl
   progress R inner walk left (Some entry) same goes can =
@@ -44,21 +44,21 @@ module _ {V : Type 0} where
 
   -- a value with its id
   pub with_id : (inner walk left : WalkView V) (x : Bor V) (id : ℕ) (found : Option (Bor V)) (item : Option (ℕ × Bor V))
-      → inner ≡ walk → found ≡ Some x → item ≡ Some (id, x) → Goes inner found left → cursor_id left.cursor ≡ id + 1
-      → GoesWithIds walk item left
+      → inner ≡ walk → found ≡ Some x → item ≡ Some (id, x) → IsNext inner found left → cursor_id left.cursor ≡ id + 1
+      → IsNextWithId walk item left
   with_id inner walk left x id found item same is gives goes at =
-      let there : Goes walk found left = subst (λ (w : WalkView V). Goes w found left) same goes in
-      subst (λ (i : Option (ℕ × Bor V)). GoesWithIds walk i left) (sym gives) record {
-        goes = subst (λ (f : Option (Bor V)). Goes walk f left) is there;
+      let there : IsNext walk found left = subst (λ (w : WalkView V). IsNext w found left) same goes in
+      subst (λ (i : Option (ℕ × Bor V)). IsNextWithId walk i left) (sym gives) record {
+        goes = subst (λ (f : Option (Bor V)). IsNext walk f left) is there;
         id = omega (arith, at);
       }
 
   pub without_id : (inner walk left : WalkView V) (found : Option (Bor V)) (item : Option (ℕ × Bor V))
-      → inner ≡ walk → found ≡ None → item ≡ None → Goes inner found left
-      → GoesWithIds walk item left
+      → inner ≡ walk → found ≡ None → item ≡ None → IsNext inner found left
+      → IsNextWithId walk item left
   without_id inner walk left found item same is gives goes =
-      let there : Goes walk found left = subst (λ (w : WalkView V). Goes w found left) same goes in
-      subst (λ (i : Option (ℕ × Bor V)). GoesWithIds walk i left) (sym gives) record {
-        goes = subst (λ (f : Option (Bor V)). Goes walk f left) is there;
+      let there : IsNext walk found left = subst (λ (w : WalkView V). IsNext w found left) same goes in
+      subst (λ (i : Option (ℕ × Bor V)). IsNextWithId walk i left) (sym gives) record {
+        goes = subst (λ (f : Option (Bor V)). IsNext walk f left) is there;
         id = tt;
       }

@@ -9,7 +9,7 @@ use Rattle.std.proofs.lemmas.Bool.{eqb-true, eqb-false, cases_lt}
 use Rattle.thread_local_base.specs.Place.{bucket_of, index_of}
 use Rattle.thread_local_base.proofs.PlaceLaws.{equation, inside, id_at-place}
 use Rattle.thread_local_ids.specs.TokenLists.{NoneIn}
-use Rattle.thread_local_ids.specs.Views.{TokenView}
+use Rattle.thread_local_ids.specs.TokenViews.{TokenView}
 
 -- ---- numbers that differ, all below a bound, are no more than the bound
 -- the numbers without the greatest that may be: where that one was, the last one stands

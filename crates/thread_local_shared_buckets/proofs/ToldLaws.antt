@@ -7,14 +7,14 @@ use Rattle.thread_local_base.specs.Place.{id_at, bucket_of, index_of}
 use Rattle.thread_local_base.specs.Cursor.{cursor_id}
 use Rattle.thread_local_base.specs.Bits.{is_set, IsLowestSet, IsWordBut}
 use Rattle.thread_local_base.proofs.PlaceLaws.{id_at-place, inside}
-use Rattle.thread_local_ids.specs.Views.{TokenView}
+use Rattle.thread_local_ids.specs.TokenViews.{TokenView}
 use Rattle.thread_local_ids.specs.TokenLists.{AllOf, NoneIn}
 use Rattle.thread_local_buckets.specs.declared.cursor.RawIter.{RawIter}
 use Rattle.thread_local_shared_buckets.specs.declared.row.Row.{Row}
 use Rattle.thread_local_shared_buckets.specs.declared.seen.Seen.{Seen}
 use Rattle.thread_local_shared_buckets.specs.declared.steps.Own.{Own}
 use Rattle.thread_local_shared_buckets.specs.declared.steps.Walk.{Walk}
-use Rattle.thread_local_shared_buckets.specs.Walks.{Meets}
+use Rattle.thread_local_shared_buckets.specs.Walks.{GivesTold}
 use Rattle.thread_local_shared_buckets.specs.Positions.{resting, past, next_id, Skips, IsBehind}
 use Rattle.thread_local_shared_buckets.specs.AtHand.{IsRowOf, slot_of, IsMarked, IsWalk}
 use Rattle.thread_local_shared_buckets.proofs.Findings.{Item, Stops, IsToldAt, IsFoundAt, FindsTokens}
@@ -186,7 +186,7 @@ module _ {V : Type 0} where
 
   meet_some : (from met to : RawIter) (x : Item V) (p : TokenView V) → Skips from met p.id → Stops met to p.id
       → cursor_id (resting to) ≡ suc x.0.id → x.0.value ≡ x.1.now → (p.id ≡ x.0.id → p.value ≡ x.0.value)
-      → Meets (resting from) (Some x.1) (resting to) p
+      → GivesTold (resting from) (Some x.1) (resting to) p
   meet_some from met to x p (inl low) stop at value agrees = λ ahead below. let start = resting-id from in absurd (omega arith)
   meet_some from met to x p (inr high) stop at value agrees = λ ahead below.
       let end = resting-id to in
@@ -197,7 +197,7 @@ module _ {V : Type 0} where
   pub meets_some : (sharing : Option ℕ) (tokens : List (TokenView V)) (from met to : RawIter) (x : Item V)
       → AllOf sharing (λ p. Skips from met p.id) tokens → AllOf sharing (λ p. Stops met to p.id) tokens
       → IsToldAt sharing to x → AllOf x.0.sharing (λ p. p.id ≡ x.0.id → p.value ≡ x.0.value) tokens
-      → AllOf sharing (Meets (resting from) (Some x.1) (resting to)) tokens
+      → AllOf sharing (GivesTold (resting from) (Some x.1) (resting to)) tokens
   meets_some sharing tokens from met to x skip stop told agrees =
       let here : AllOf sharing (λ p. p.id ≡ x.0.id → p.value ≡ x.0.value) tokens =
       subst (λ (o : Option ℕ). AllOf o (λ p. p.id ≡ x.0.id → p.value ≡ x.0.value) tokens) told.sharing agrees in
@@ -206,14 +206,14 @@ module _ {V : Type 0} where
       (here named k d near same)
 
   meet_none : (from to : RawIter) (p : TokenView V) → Skips from to p.id → 63 ≤ to.bucket → p.id < 2 ^ 63 - 1
-      → Meets (resting from) None (resting to) p
+      → GivesTold (resting from) None (resting to) p
   meet_none from to p (inl low) far small = let start = resting-id from in omega arith
   meet_none from to p (inr high) far small = let most : 2 ^ 63 ≤ 2 ^ to.bucket = pow_mono far in absurd (omega arith)
 
   -- a call that gave nothing went past the last bucket, and skipped no token's id
   pub meets_none : (sharing : Option ℕ) (tokens : List (TokenView V)) (from to : RawIter)
       → AllOf sharing (λ p. Skips from to p.id) tokens → 63 ≤ to.bucket → All (λ p. p.id < 2 ^ 63 - 1) tokens
-      → AllOf sharing (Meets (resting from) None (resting to)) tokens
+      → AllOf sharing (GivesTold (resting from) None (resting to)) tokens
   meets_none sharing tokens from to skip far small = λ named k d near same.
       meet_none from to (slice_index_or tokens k d) (skip named k d near same) far (small k d near)
 

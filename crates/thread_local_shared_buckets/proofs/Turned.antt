@@ -57,7 +57,7 @@ use Rattle.thread_local_shared_buckets.specs.contracts.parts.SharedPointers as a
 use Rattle.thread_local_shared_buckets.specs.contracts.parts.SharedArray as shared_array
 use Rattle.thread_local_buckets.proofs.buckets.Buckets.TheLaws as buckets'
 use Rattle.thread_local_shared_buckets.specs.contracts.shared.Shared as whole
-use Rattle.thread_local_shared_buckets.specs.Lent.{view_with, has_no_value, begun_in, view_begun}
+use Rattle.thread_local_shared_buckets.specs.AfterLoan.{view_with, has_no_value, begun_in, view_begun}
 use Rattle.thread_local_shared_buckets.specs.Fit.{Fit}
 use Rattle.thread_local_shared_buckets.specs.TableView.{TableView, table_view_of, AreBuckets}
 use Rattle.thread_local_shared_buckets.proofs.Lists.{AreOf, table_are_of, named_are_of, AllFit, fits_long, owned_of}

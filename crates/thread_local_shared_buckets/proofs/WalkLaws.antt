@@ -8,9 +8,9 @@ use Rattle.thread_local_base.specs.Cursor.{Cursor, cursor_id, after_look, Cursor
 use Rattle.thread_local_base.proofs.CursorLaws.{after_look-fits, bounded}
 use Rattle.thread_local_buckets.specs.declared.cursor.RawIter.{RawIter}
 use Rattle.thread_local_shared_buckets.specs.declared.steps.Own.{Own}
-use Rattle.thread_local_shared_buckets.specs.Steps.{Leads}
+use Rattle.thread_local_shared_buckets.specs.WalkSteps.{SilentSteps}
 use Rattle.thread_local_shared_buckets.specs.Walks.{Owed, YieldsOwn, Yields}
-use Rattle.thread_local_ids.specs.Views.{TokenView}
+use Rattle.thread_local_ids.specs.TokenViews.{TokenView}
 use Rattle.thread_local_shared_buckets.specs.Positions.{resting, past, next_id, at_bucket, owed, lies_in, OwnIsTold}
 use Rattle.thread_local_shared_buckets.specs.Positions.{IsAhead, IsSharedWalk}
 use Rattle.thread_local_shared_buckets.proofs.Findings.{Item, IsToldAt}
@@ -58,7 +58,7 @@ module _ {V : Type 0} where
       → Given raw own index v left
   given_at raw own index v left walk low ahead inside own_ahead own_given =
       let met : Cursor = looking_at raw.bucket index in
-      let leads : Leads (resting raw) met = leads_in raw index low ahead inside in
+      let leads : SilentSteps (resting raw) met = leads_in raw index low ahead inside in
       let on = leads_on (resting raw) met leads (fits raw own walk) in
       let found : after_look met true ≡ resting (past raw index) = rests_behind raw index in
       let to_fits : CursorFits (resting (past raw index)) = subst CursorFits found (after_look-fits met true on.fits refl) in
@@ -132,7 +132,7 @@ module _ {V : Type 0} where
 
   -- 3. A whole call.
 
-  pub gives_later : (from met to : Cursor) (own left : Option (Owed V)) (v : V) → Leads from met
+  pub gives_later : (from met to : Cursor) (own left : Option (Owed V)) (v : V) → SilentSteps from met
       → CursorFits from → Yields met own v to left
       → Yields from own v to left
   gives_later from met to own left v leads fits gives =

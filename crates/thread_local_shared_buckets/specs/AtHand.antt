@@ -8,10 +8,10 @@ use Rattle.thread_local_shared_buckets.specs.declared.seen.Seen.{Seen}
 use Rattle.thread_local_shared_buckets.specs.declared.steps.Own.{Own}
 use Rattle.thread_local_shared_buckets.specs.declared.steps.Walk.{Walk}
 use Rattle.thread_local_ids.specs.TokenLists.{AllOf, NoneIn}
-use Rattle.thread_local_ids.specs.Views.{TokenView}
+use Rattle.thread_local_ids.specs.TokenViews.{TokenView}
 use Rattle.thread_local_shared_buckets.specs.Positions.{resting, lies_in, is_at, OwnIsTold, IsSharedWalk}
 use Rattle.thread_local_shared_buckets.specs.Positions.{Skips, IsBehind}
-use Rattle.thread_local_shared_buckets.specs.Steps.{Leads}
+use Rattle.thread_local_shared_buckets.specs.WalkSteps.{SilentSteps}
 
 module _ {V : Type 0} where
   -- 1. What the walk has at hand.
@@ -87,15 +87,15 @@ module _ {V : Type 0} where
     pub behind : to.rest ≡ 0 → AllOf to.buckets.now.sharing (λ p. IsBehind to.raw p.id) to.told
 
   -- steps that give nothing led a walk here
-  pub record Comes (w to : Walk V) : Type 0 where
+  pub record HasSkipped (w to : Walk V) : Type 0 where
     pub buckets : to.buckets.now ≡ w.buckets.now
     pub own : to.own ≡ w.own
-    pub leads : Leads (resting w.raw) (resting to.raw)
+    pub leads : SilentSteps (resting w.raw) (resting to.raw)
     pub told : to.told ≡ w.told
     pub skips : AllOf w.buckets.now.sharing (λ p. Skips w.raw to.raw p.id) w.told
 
   -- the walk has looked on until a flag is at hand, or to the end
   pub record Reaches (w : Walk V) (found : Bool) (to : Walk V) : Type 0 where
     pub walk : IsWalk to
-    pub comes : Comes w to
+    pub comes : HasSkipped w to
     pub by : MatchBool found (0 < to.rest) (63 ≤ to.raw.bucket)

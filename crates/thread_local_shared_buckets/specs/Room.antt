@@ -11,7 +11,7 @@ use Rattle.thread_local_shared_buckets.specs.Announcing.{Announcing, BeginsWithF
 use Rattle.thread_local_shared_buckets.specs.Known.{HasLooked}
 use Rattle.thread_local_shared_buckets.specs.declared.claimed.ClaimedSlot.{ClaimedSlot}
 use Rattle.thread_local_buckets.specs.declared.block.Block.{Block}
-use Rattle.thread_local_shared_buckets.specs.Views.{ClaimView}
+use Rattle.thread_local_shared_buckets.specs.ClaimViews.{ClaimView}
 
 -- the slot is vacant and there is no block, or the bucket of this number is missing and there is an
 -- empty block for it from this heap

@@ -9,9 +9,9 @@ use denote.Ref.{Bor}
 use denote.RattleType.{RattleType}
 use Rattle.thread_local_base.specs.Cursor.{Cursor, fresh_cursor, cursor_id, is_complete, after_look}
 use Rattle.thread_local_base.specs.Judged.{Shareable}
-use Rattle.thread_local_ids.specs.Views.{TokenView, token_view_coded}
+use Rattle.thread_local_ids.specs.TokenViews.{TokenView, token_view_coded}
 use Rattle.thread_local_ids.specs.TokenLists.{AllOf}
-use Rattle.thread_local_shared_buckets.specs.Steps.{Leads}
+use Rattle.thread_local_shared_buckets.specs.WalkSteps.{SilentSteps}
 
 -- an own value that a walk has still to give, and its id
 pub record Owed (V : Type 0) : Type 0 where
@@ -70,7 +70,7 @@ YieldsOwn (Some owed) id v left = ((owed ≡ record { id = id; value = v }) × (
 -- passed, and the look there found it
 pub record Yields {V : Type 0} (from : Cursor) (own : Option (Owed V)) (v : V) (to : Cursor) (left : Option (Owed V)) : Type 0 where
   pub met : Cursor
-  pub leads : Leads from met
+  pub leads : SilentSteps from met
   pub looks : IsTrue met.looks
   pub found : to ≡ after_look met true
   pub ahead : cursor_id from ≤ cursor_id met
@@ -80,7 +80,7 @@ pub record Yields {V : Type 0} (from : Cursor) (own : Option (Owed V)) (v : V) (
 
 -- a call gave nothing: such steps lead past the last bucket, and no own value is left to give
 pub record Ends {V : Type 0} (from : Cursor) (own : Option (Owed V)) (to : Cursor) (left : Option (Owed V)) : Type 0 where
-  pub leads : Leads from to
+  pub leads : SilentSteps from to
   pub complete : IsTrue (is_complete to)
   pub none_owed : own ≡ None
   pub none_left : left ≡ None
@@ -88,23 +88,23 @@ pub record Ends {V : Type 0} (from : Cursor) (own : Option (Owed V)) (to : Curso
 -- what a call does about a token of the walk's sharing: one that gives nothing leaves no token's id
 -- ahead. One that gives a value passes no token's id before the value's, and if that is the token's
 -- id, the value is the token's
-abbrev pub Meets : {V : Type 0} → Cursor → Option (Bor V) → Cursor → TokenView V → Type 0
-Meets from item to p =
+abbrev pub GivesTold : {V : Type 0} → Cursor → Option (Bor V) → Cursor → TokenView V → Type 0
+GivesTold from item to p =
     MatchOption item (p.id < cursor_id from)
     (λ x. cursor_id from ≤ p.id → p.id < cursor_id to → (cursor_id to ≡ suc p.id) × (p.value ≡ x.now))
 
 -- what a call of `next` does
-pub record Goes {V : Type 0} (walk : WalkView V) (item : Option (Bor V)) (left : WalkView V) : Type 0 where
+pub record IsNext {V : Type 0} (walk : WalkView V) (item : Option (Bor V)) (left : WalkView V) : Type 0 where
   pub gives : MatchOption item (Ends walk.cursor walk.own left.cursor left.own)
       (λ x. Yields walk.cursor walk.own x.now left.cursor left.own)
   pub shown : left.shown ≡ walk.shown
   pub sharing : left.sharing ≡ walk.sharing
   pub told : left.told ≡ walk.told
-  pub meets : AllOf walk.sharing (Meets walk.cursor item left.cursor) walk.told
+  pub meets : AllOf walk.sharing (GivesTold walk.cursor item left.cursor) walk.told
 
 -- what a call of `next` does where it gives each value with its id, which is the last one passed
-pub record GoesWithIds {V : Type 0} (walk : WalkView V) (item : Option (ℕ × Bor V)) (left : WalkView V) : Type 0 where
-  pub goes : Goes walk (option_map (λ entry. entry.1) item) left
+pub record IsNextWithId {V : Type 0} (walk : WalkView V) (item : Option (ℕ × Bor V)) (left : WalkView V) : Type 0 where
+  pub goes : IsNext walk (option_map (λ entry. entry.1) item) left
   pub id : IfSome item (λ entry. cursor_id left.cursor ≡ suc entry.0)
 
 -- a token that comes with a value says what the slot of the last id that was passed was published
@@ -115,8 +115,8 @@ pub record IsTokenOf {V : Type 0} (walk left : WalkView V) (entry : TokenView V 
   pub value : entry.0.value ≡ entry.1.now
 
 -- what a call of `next` does where it gives each value with such a token
-pub record GoesWithTokens {V : Type 0} (walk : WalkView V) (item : Option (TokenView V × Bor V)) (left : WalkView V) : Type 0 where
-  pub goes : Goes walk (option_map (λ entry. entry.1) item) left
+pub record IsNextWithToken {V : Type 0} (walk : WalkView V) (item : Option (TokenView V × Bor V)) (left : WalkView V) : Type 0 where
+  pub goes : IsNext walk (option_map (λ entry. entry.1) item) left
   pub told : IfSome item (IsTokenOf walk left)
 
 -- a walk over this sharing, made with these tokens, has given these ids with their values: the ids

@@ -38,7 +38,7 @@ pub struct Claim<'a, T> {
 
 impl<'a, T> Model for Claim<'a, T> {
     ghost use Rattle.thread_local_shared_buckets.specs.Room.{IsClaim};
-    ghost use Rattle.thread_local_shared_buckets.specs.Views.{ClaimView, claim_view_coded};
+    ghost use Rattle.thread_local_shared_buckets.specs.ClaimViews.{ClaimView, claim_view_coded};
 
     ghost Value = { ClaimView T };
 

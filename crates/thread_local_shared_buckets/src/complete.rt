@@ -6,8 +6,8 @@ ghost use Rattle.std.specs.Iterator.{Yields};
 ghost use Rattle.std.specs.List.{AllPairs};
 ghost use denote.Ref.{Bor};
 ghost use Rattle.thread_local_ids.specs.TokenLists.{AllOf};
-ghost use Rattle.thread_local_ids.specs.Views.{TokenView};
-ghost use Rattle.thread_local_shared_buckets.specs.Walks.{WalkView, Owed, fresh_with, HasGiven, Goes, GoesWithIds, GoesWithTokens};
+ghost use Rattle.thread_local_ids.specs.TokenViews.{TokenView};
+ghost use Rattle.thread_local_shared_buckets.specs.Walks.{WalkView, Owed, fresh_with, HasGiven, IsNext, IsNextWithId, IsNextWithToken};
 
 /// An `Iter` that ran to its end gave the value of each token of its list that is of its sharing.
 /// Of tokens of different ids, what was given sums up to at least what they say, whatever number
@@ -17,8 +17,8 @@ pub fn iter_gives_told<V>()
     ensures all { (sharing : Option ℕ) (own : Option (Owed V)) (shown : Bool) (told : List (TokenView V))
         (walk last over : WalkView V) (items : List (Bor V)) (given : List V)
         → walk ≡ fresh_with sharing own shown told
-        → Yields Goes walk items last
-        → Goes last None over
+        → Yields IsNext walk items last
+        → IsNext last None over
         → given ≡ map (λ item. item.now) items
         → AllOf sharing (λ p. Contains given p.value) told }
     ensures sum { (of : V → ℕ) (sharing : Option ℕ) (own : Option (Owed V)) (shown : Bool) (told : List (TokenView V))
@@ -27,8 +27,8 @@ pub fn iter_gives_told<V>()
         → IsSome sharing
         → All (λ p. p.sharing ≡ sharing) told
         → AllPairs (λ one other. one.id ≢ other.id) told
-        → Yields Goes walk items last
-        → Goes last None over
+        → Yields IsNext walk items last
+        → IsNext last None over
         → sum_by (λ p. of p.value) told ≤ sum_by (λ item. of item.now) items }
 {}
 
@@ -42,12 +42,12 @@ pub fn entries_give_told<V>()
         → given ≡ []
         → HasGiven sharing told walk given }
     ensures goes { (sharing : Option ℕ) (told : List (TokenView V)) (walk left : WalkView V) (item : ℕ × Bor V) (given more : List (ℕ × V))
-        → GoesWithIds walk (Some item) left
+        → IsNextWithId walk (Some item) left
         → HasGiven sharing told walk given
         → more ≡ given ++ (item.0, item.1.now) ∷ []
         → HasGiven sharing told left more }
     ensures ends { (sharing : Option ℕ) (told : List (TokenView V)) (walk left : WalkView V) (given : List (ℕ × V))
-        → GoesWithIds walk None left
+        → IsNextWithId walk None left
         → HasGiven sharing told walk given
         → AllOf sharing (λ p. Contains given (p.id, p.value)) told }
 {}
@@ -60,13 +60,13 @@ pub fn tokens_give_told<V>()
         → given ≡ []
         → HasGiven sharing told walk given }
     ensures goes { (sharing : Option ℕ) (told : List (TokenView V)) (walk left : WalkView V) (item : TokenView V × Bor V) (id : ℕ) (given more : List (ℕ × V))
-        → GoesWithTokens walk (Some item) left
+        → IsNextWithToken walk (Some item) left
         → HasGiven sharing told walk given
         → id ≡ item.0.id
         → more ≡ given ++ (id, item.1.now) ∷ []
         → HasGiven sharing told left more }
     ensures ends { (sharing : Option ℕ) (told : List (TokenView V)) (walk left : WalkView V) (given : List (ℕ × V))
-        → GoesWithTokens walk None left
+        → IsNextWithToken walk None left
         → HasGiven sharing told walk given
         → AllOf sharing (λ p. Contains given (p.id, p.value)) told }
 {}

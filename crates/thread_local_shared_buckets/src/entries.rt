@@ -2,7 +2,7 @@
 ghost use Rattle.std.specs.Prelude.{◌≡◌, Some, None, IfSome};
 ghost use Rattle.std.specs.Iterator.{UpTo};
 ghost use Rattle.std.specs.Iterator.SizeHint.{IsWithinCount};
-ghost use Rattle.thread_local_shared_buckets.specs.Walks.{CanGo, GoesWithIds, ids_left};
+ghost use Rattle.thread_local_shared_buckets.specs.Walks.{CanGo, IsNextWithId, ids_left};
 
 use crate::iter::Iter;
 use std::fmt;
@@ -43,7 +43,7 @@ impl<'a, T: Sync> Iterator for Entries<'a, T> {
 
     ghost can_next = { CanGo T.row };
 
-    ghost next_gives = { GoesWithIds };
+    ghost next_gives = { IsNextWithId };
 
     ghost remaining = { ids_left };
 

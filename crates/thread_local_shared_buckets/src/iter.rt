@@ -4,7 +4,7 @@ ghost use Rattle.std.specs.Iterator.{UpTo};
 ghost use Rattle.std.specs.Iterator.SizeHint.{IsWithinCount};
 ghost use Rattle.thread_local_base.specs.Cursor.{cursor_id};
 ghost use Rattle.thread_local_shared_buckets.specs.Positions.{owed, OwnIsTold};
-ghost use Rattle.thread_local_shared_buckets.specs.Walks.{WalkView, fresh, fresh_with, Goes, GoesWithTokens, CanGo, ids_left};
+ghost use Rattle.thread_local_shared_buckets.specs.Walks.{WalkView, fresh, fresh_with, IsNext, IsNextWithToken, CanGo, ids_left};
 
 use crate::announcements::load_announced;
 use crate::shared::Shared;
@@ -113,7 +113,7 @@ impl<'a, T> Iter<'a, T> {
     #[inline(always)]
     pub(crate) fn step(&mut self) -> Option<(Token<T>, &'a T)>
         requires can_go { CanGo T.row self.old }
-        ensures { GoesWithTokens self.old result self.new }
+        ensures { IsNextWithToken self.old result self.new }
     {
         // That threads may share the values, where their type doesn't say so.
         if let Some(shown) = &self.shown {
@@ -198,7 +198,7 @@ impl<'a, T: Sync> Iterator for Iter<'a, T> {
 
     ghost can_next = { CanGo T.row };
 
-    ghost next_gives = { Goes };
+    ghost next_gives = { IsNext };
 
     ghost remaining = { ids_left };
 

@@ -12,7 +12,7 @@ ghost use mathlib.Core.List.{IsPrefix};
 ghost use Rattle.thread_local_ids.specs.TokenLists.{AllOf};
 ghost use Rattle.thread_local_shared_buckets.specs.Grown.{only_reserved};
 ghost use Rattle.thread_local_shared_buckets.specs.TableView.{TableView, table_view_coded, IsBucketOf};
-ghost use Rattle.thread_local_shared_buckets.specs.Parts.{parts_own, parts_share};
+ghost use Rattle.thread_local_shared_buckets.specs.SharedParts.{parts_own, parts_share};
 
 use crate::SharedBucket;
 use crate::announcements::load_announced;

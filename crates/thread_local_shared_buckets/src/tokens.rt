@@ -2,7 +2,7 @@
 ghost use Rattle.std.specs.Prelude.{◌≡◌, Some, None, IfSome};
 ghost use Rattle.std.specs.Iterator.{UpTo};
 ghost use Rattle.std.specs.Iterator.SizeHint.{IsWithinCount};
-ghost use Rattle.thread_local_shared_buckets.specs.Walks.{CanGo, GoesWithTokens, ids_left};
+ghost use Rattle.thread_local_shared_buckets.specs.Walks.{CanGo, IsNextWithToken, ids_left};
 
 use crate::iter::Iter;
 use std::fmt;
@@ -48,7 +48,7 @@ impl<'a, T: Sync> Iterator for Tokens<'a, T> {
 
     ghost can_next = { CanGo T.row };
 
-    ghost next_gives = { GoesWithTokens };
+    ghost next_gives = { IsNextWithToken };
 
     ghost remaining = { ids_left };
 

@@ -1,6 +1,6 @@
 -- What workers hand back of their parts of a sum.
 use Rattle.std.specs.Prelude.{◌≡◌, ◌<◌, ℕ, List, length, slice_index_or, Option, Result, IfOk}
-use Rattle.thread_local.specs.Views.{TokenView}
+use Rattle.thread_local.specs.TokenViews.{TokenView}
 
 -- each worker that has an answer has published the part of its number, and its token says so
 abbrev pub HaveParts : {Kept Refused : Type 0} → Option ℕ → List ℕ → List (Result (Kept × TokenView ℕ) Refused) → Type 0

@@ -12,12 +12,14 @@ ghost use Rattle.thread_local_ids.specs.Rights.{right_in, right_with, seen_by, p
 use crate::rights::page::Page;
 use std::marker::{Model, PhantomData};
 
-/// The right to the least id after some moves, since it was taken then: no two values are the right to
-/// the same id. It shows that the id is held. Where it isn't lent, the id's slot may be claimed with it. It has
-/// the id's note then, which says what the slot was published with in the table's first sharing: nothing yet, or the code of a value.
+/// The right to the id that was taken after some moves of a table, when it was the least: no two values
+/// are the right to one id. It shows that the id is held.
 ///
-/// A step that took no id leaves one that isn't held, and shows which moves it saw. One that is dropped
-/// or forgotten is lost for good, and its id stays out.
+/// Where it isn't lent, the id's slot may be claimed with it. It has the id's note then, which says what
+/// the slot was published with in the table's first sharing: nothing yet, or the code of a value.
+///
+/// A step that took no id leaves one that isn't held, and shows only which moves the step saw. One that is
+/// dropped or forgotten is lost for good, and its id stays out.
 #[derive(Drop)]
 pub struct Right {
     pub(crate) marker: PhantomData<()>,

@@ -20,7 +20,7 @@ pub struct Token<T> {
 
 impl<T> Model for Token<T> {
     ghost use Rattle.std.specs.Prelude.{◌≡◌, ◌-◌, ◌^◌, ◌<◌, Some};
-    ghost use Rattle.thread_local_ids.specs.Views.{TokenView, token_view_coded};
+    ghost use Rattle.thread_local_ids.specs.TokenViews.{TokenView, token_view_coded};
     ghost use Rattle.thread_local_ids.specs.Told.{tells};
     ghost use denote.Sharing.{said};
 

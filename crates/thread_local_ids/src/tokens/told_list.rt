@@ -1,7 +1,7 @@
 //! A list of tokens, for a walk that gives the values of all of them.
 ghost use Rattle.std.specs.Prelude.{◌≡◌, ◌-◌, ◌^◌, ◌<◌, List, [], ◌∷◌, All};
 ghost use base.Stored.{coded_list};
-ghost use Rattle.thread_local_ids.specs.Views.{TokenView, token_view_coded};
+ghost use Rattle.thread_local_ids.specs.TokenViews.{TokenView, token_view_coded};
 ghost use Rattle.thread_local_ids.specs.TokenLists.{AllOf};
 
 use crate::tokens::token::Token;
@@ -19,7 +19,7 @@ pub struct Told<T> {
 impl<T> Model for Told<T> {
     ghost use Rattle.std.specs.Prelude.{◌≡◌, ◌-◌, ◌^◌, ◌<◌, All, List};
     ghost use base.Stored.{coded_list};
-    ghost use Rattle.thread_local_ids.specs.Views.{TokenView, token_view_coded};
+    ghost use Rattle.thread_local_ids.specs.TokenViews.{TokenView, token_view_coded};
     ghost use Rattle.thread_local_ids.specs.TokenLists.{tell_each};
     ghost use denote.Sharing.{said};
 

@@ -1,7 +1,7 @@
 use Rattle.std.proofs.Common.{◌∙◌, sym, ap}
 use Rattle.std.proofs.lemmas.Option.{none-some}
 use Rattle.thread_local_pool.specs.Pooled.{PooledView}
-use Rattle.thread_local_pool.proofs.Lent.{newness, as_found}
+use Rattle.thread_local_pool.proofs.PoolLends.{newness, as_found}
 use Rattle.thread_local_pool.proofs.Pooled.of.Goals as goal
 
 -- The search for these takes a second.

@@ -1,5 +1,5 @@
 use Rattle.std.proofs.Common.{[], ap, refl}
-use Rattle.thread_local_schedule.proofs.Parts.{made_core-fits}
+use Rattle.thread_local_schedule.proofs.InvariantParts.{made_core-fits}
 use Rattle.thread_local_schedule.proofs.CoreLaws.{none_made}
 use Rattle.thread_local_schedule.proofs.TableLaws.{announced-made_table}
 use Rattle.thread_local_schedule.proofs.made.made_cores_fit.Goals as goal

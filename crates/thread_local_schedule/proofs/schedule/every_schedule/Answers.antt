@@ -11,7 +11,7 @@ use Rattle.thread_local_schedule.proofs.History as ids
 use Rattle.thread_local_schedule.proofs.AsPublished as values
 use Rattle.thread_local_schedule.proofs.TableLaws.{at_one_place}
 use Rattle.thread_local_schedule.specs.Core.{made_core}
-use Rattle.thread_local_schedule.proofs.Parts.{made_core-fits}
+use Rattle.thread_local_schedule.proofs.InvariantParts.{made_core-fits}
 use Rattle.thread_local_schedule.proofs.HeldCounts.{held_below}
 use Rattle.thread_local_schedule.proofs.FourLocals as story
 use Rattle.thread_local_schedule.proofs.FourValues as four

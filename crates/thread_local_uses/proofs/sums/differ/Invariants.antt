@@ -1,6 +1,6 @@
 -- Of which tokens it is known that their ids differ.
 use Rattle.std.proofs.Common.{◌≢◌, ◌<◌, ℕ, List, length, slice_index_or}
-use Rattle.thread_local.specs.Views.{TokenView}
+use Rattle.thread_local.specs.TokenViews.{TokenView}
 use Rattle.thread_local_uses.proofs.sums.differ.Given as goal
 
 -- the ids of two tokens differ

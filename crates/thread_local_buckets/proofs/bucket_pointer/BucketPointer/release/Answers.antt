@@ -1,7 +1,7 @@
 use Rattle.std.proofs.Common.{◌≡◌, ◌⊎◌, ◌+◌, ◌/◌, is_some, ◌<◌, ◌≤◌, ℕ, List, [], ◌∷◌, length, Option, true, false, inl, inr, refl, sym, ap, ◌∙◌, subst, arith}
 use Rattle.std.specs.Prelude.{nat_lt}
 use Rattle.std.proofs.lemmas.Bool.{lt-ltb, ltb-true, true≢false}
-use Rattle.thread_local_buckets.specs.Retired.{rest}
+use Rattle.thread_local_buckets.specs.Emptying.{rest}
 use Rattle.thread_local_buckets.specs.Slots.{slot_value, flag_word_at}
 use Rattle.thread_local_buckets.specs.contracts.bucket_pointer.BucketPointer.release.{T-row}
 use Rattle.thread_local_buckets.proofs.bucket_pointer.BucketPointer.release.Goals as goal
@@ -35,11 +35,11 @@ lift-requires g c =
     subst (λ w. 0 < length w.slots) (sym c.stands.ensures.same)
     (ltb-true 0 (length c.args.self.now.slots) (sym c.if-not-stands.ensures.value))
 
-pub of-retired-requires-clause-whole : goal.of-retired-requires-clause-whole
-of-retired-requires-clause-whole g c = c.lift.ensures.block.2
+pub of-emptying-requires-clause-whole : goal.of-emptying-requires-clause-whole
+of-emptying-requires-clause-whole g c = c.lift.ensures.block.2
 
-pub of-retired-requires-clause-empty : goal.of-retired-requires-clause-empty
-of-retired-requires-clause-empty g c = refl
+pub of-emptying-requires-clause-empty : goal.of-emptying-requires-clause-empty
+of-emptying-requires-clause-empty g c = refl
 
 pub slots-init : goal.slots-init
 slots-init g c =
@@ -49,20 +49,20 @@ slots-init g c =
       | inr all ↦ inr all
     ] in
     let all : length slots ≡ c.args.len = all_slots (length slots) c.args.len long c.if-not-stands.ensures.value in
-    let same : c.of-retired.result.slots ≡ slots =
-    c.of-retired.ensures.1 ∙ c.lift.ensures.block.1 ∙ ap (λ w. w.slots) c.stands.ensures.same in
-    let still : length c.of-retired.result.slots ≡ c.args.len = ap length same ∙ all in (
-      c.of-retired.ensures.0 ∙ c.lift.ensures.block.0,
-      c.of-retired.ensures.2,
-      (let z : (n len : ℕ) → n ≡ len → n + 0 ≡ len = λ n len e. omega (arith, e) in z (length c.of-retired.result.slots) c.args.len still),
+    let same : c.of-emptying.result.slots ≡ slots =
+    c.of-emptying.ensures.1 ∙ c.lift.ensures.block.1 ∙ ap (λ w. w.slots) c.stands.ensures.same in
+    let still : length c.of-emptying.result.slots ≡ c.args.len = ap length same ∙ all in (
+      c.of-emptying.ensures.0 ∙ c.lift.ensures.block.0,
+      c.of-emptying.ensures.2,
+      (let z : (n len : ℕ) → n ≡ len → n + 0 ≡ len = λ n len e. omega (arith, e) in z (length c.of-emptying.result.slots) c.args.len still),
     )
 
 pub is_next_published-requires : goal.is_next_published-requires
 is_next_published-requires g c =
     let kept = c.slots.invariant in
-    let n : ℕ = length c.slots.retired.slots in
+    let n : ℕ = length c.slots.emptying.slots in
     let some : 0 < n = omega (arith, kept.2, c.slots-test.true) in
-    let whole : c.args.len ≡ c.slots.retired.gone + n = omega (arith, kept.1, kept.2) in
+    let whole : c.args.len ≡ c.slots.emptying.gone + n = omega (arith, kept.1, kept.2) in
     record {
       next = (sym kept.1, some);
       flag_word = c.flag_word_at-flag_word.ensures ∙ ap (λ (m : ℕ). flag_word_at (T-row g.row.T) m (c.slots.index / 64)) whole;
@@ -83,20 +83,20 @@ move_next-requires g c =
 pub slots-preserved : goal.slots-preserved
 slots-preserved g c =
     let kept = c.slots.invariant in
-    let less = one_less c.slots.retired.slots c.if-is_next_published.retired.slots c.slots.index c.args.len in
+    let less = one_less c.slots.emptying.slots c.if-is_next_published.emptying.slots c.slots.index c.args.len in
     elim c.if-is_next_published.branch [
       | then-is_next_published w ↦
           let looked = w.if-is_next_published.ensures.after in
           let moved = w.move_next.ensures.after in (
-            ap (λ r. r.heap) w.retired-is ∙ moved.0 ∙ looked.0 ∙ kept.0,
-            ap (λ r. r.gone) w.retired-is ∙ moved.2 ∙ ap (λ (n : ℕ). n + 1) (looked.2 ∙ kept.1),
-            less (ap (λ r. r.slots) w.retired-is ∙ moved.1 ∙ ap rest looked.1) kept.2 c.slots-test.true,
+            ap (λ r. r.heap) w.emptying-is ∙ moved.0 ∙ looked.0 ∙ kept.0,
+            ap (λ r. r.gone) w.emptying-is ∙ moved.2 ∙ ap (λ (n : ℕ). n + 1) (looked.2 ∙ kept.1),
+            less (ap (λ r. r.slots) w.emptying-is ∙ moved.1 ∙ ap rest looked.1) kept.2 c.slots-test.true,
           )
       | else-is_next_published w ↦
           let looked = w.if-is_next_published.ensures.after in (
-            ap (λ r. r.heap) w.retired-is ∙ looked.0 ∙ kept.0,
-            ap (λ r. r.gone) w.retired-is ∙ looked.2 ∙ ap (λ (n : ℕ). n + 1) kept.1,
-            less (ap (λ r. r.slots) w.retired-is ∙ looked.1) kept.2 c.slots-test.true,
+            ap (λ r. r.heap) w.emptying-is ∙ looked.0 ∙ kept.0,
+            ap (λ r. r.gone) w.emptying-is ∙ looked.2 ∙ ap (λ (n : ℕ). n + 1) kept.1,
+            less (ap (λ r. r.slots) w.emptying-is ∙ looked.1) kept.2 c.slots-test.true,
           )
     ]
 
@@ -105,8 +105,8 @@ deallocate-requires-clause-left g c =
     let kept = c.slots.invariant in
     let end : (n i len : ℕ) → n + i ≡ len → len ≤ i → i ≡ len = λ n i len all past. omega (arith, all, past) in (
       kept.0,
-      none_left c.slots.retired.slots c.slots.index c.args.len kept.2 c.slots-test.false,
-      kept.1 ∙ end (length c.slots.retired.slots) c.slots.index c.args.len kept.2 c.slots-test.false,
+      none_left c.slots.emptying.slots c.slots.index c.args.len kept.2 c.slots-test.false,
+      kept.1 ∙ end (length c.slots.emptying.slots) c.slots.index c.args.len kept.2 c.slots-test.false,
     )
 
 pub deallocate-requires-clause-size : goal.deallocate-requires-clause-size

@@ -25,11 +25,11 @@ use Rattle.thread_local_base.specs.Buckets.{Contents, IsTable}
 use Rattle.thread_local_base.specs.Owned.{Owned}
 use Rattle.thread_local_buckets.specs.contracts.bucket_pointers.BucketPointers as all_pointers
 use Rattle.thread_local_buckets.proofs.bucket_pointers.BucketPointers.TheLaws as pointers_laws
-use Rattle.thread_local_buckets.specs.Lent.{loan_owns}
+use Rattle.thread_local_buckets.specs.LoanOwns.{loan_owns}
 use Rattle.thread_local_base.specs.Refilled.{refilled}
 use Rattle.thread_local_buckets.specs.contracts.loan.Loan as loan
 use Rattle.thread_local_buckets.proofs.LoanFields.{FieldsType, loan_val, made}
-use Rattle.thread_local_buckets.proofs.Lending.{lends}
+use Rattle.thread_local_buckets.proofs.LoanBegins.{lends}
 use Rattle.thread_local_buckets.specs.LendingValues.{owned_refilled}
 use Rattle.thread_local_buckets.specs.contracts.buckets.Buckets as buckets
 use Rattle.thread_local_buckets.specs.contracts.buckets.Buckets.TheInside as inside

@@ -19,7 +19,7 @@ use Rattle.thread_local_base.proofs.Names.{Goes-dropped, Goes-ref, proved, leave
 use contract.Monad.{fact}
 use Rattle.std.proofs.alloc.Shapes.{after}
 use Rattle.thread_local_base.specs.Buckets.{row}
-use Rattle.thread_local_buckets.specs.Lent.{Lending, Known, lending, framed, frames, PointsTo}
+use Rattle.thread_local_buckets.specs.LoanOwns.{Lending, Known, lending, framed, frames, PointsTo}
 use Rattle.thread_local_buckets.specs.contracts.loan.Loan as loan
 use Rattle.thread_local_buckets.specs.contracts.loan.Loan.enter.{ended, clauses, Key.name as #self}
 use Rattle.thread_local_buckets.proofs.LoanFields.{FieldsType, told, made, loan_val, leads_in}

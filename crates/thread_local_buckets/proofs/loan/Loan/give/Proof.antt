@@ -23,7 +23,7 @@ use Rattle.thread_local_base.specs.Place.{id_at}
 use Rattle.thread_local_base.specs.Rows.{value_in, with_slot}
 use Rattle.thread_local_buckets.specs.Slots.{stride, value_offset}
 use Rattle.thread_local_buckets.proofs.Flags.{uncapped}
-use Rattle.thread_local_buckets.specs.Lent.{Lending, Known, lending, Values, lent_values, shape}
+use Rattle.thread_local_buckets.specs.LoanOwns.{Lending, Known, lending, Values, lent_values, shape}
 use Rattle.thread_local_buckets.specs.contracts.loan.Loan as loan
 use Rattle.thread_local_buckets.specs.contracts.loan.Loan.give.{ended, clauses}
 use Rattle.thread_local_buckets.specs.contracts.loan.Loan.give.Key.{name as #self}

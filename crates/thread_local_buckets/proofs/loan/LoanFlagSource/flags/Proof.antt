@@ -22,7 +22,7 @@ use Rattle.thread_local_buckets.specs.Slots.{value_words, flag_word_at, flags_at
 use Rattle.thread_local_buckets.proofs.Flags.{chunk_in}
 use Rattle.thread_local_buckets.proofs.Slots.{IsWordOf, IsWordNear, word_is_near}
 use Rattle.thread_local_base.proofs.RowLaws.{row_whole}
-use Rattle.thread_local_buckets.specs.Lent.{Lending, Known, lending, framed, frames, flagged, PointsTo}
+use Rattle.thread_local_buckets.specs.LoanOwns.{Lending, Known, lending, framed, frames, flagged, PointsTo}
 use Rattle.thread_local_buckets.specs.contracts.loan.Loan as loan
 use Rattle.thread_local_buckets.specs.contracts.loan.LoanFlagSource.flags.{ended, clauses, Key.name as #self}
 use Rattle.thread_local_buckets.proofs.LoanFields.{FieldsType, told, loan_val, leads_in}

@@ -17,7 +17,7 @@ use denote.RawPtr.{ptr_val}
 use Rattle.std.specs.Prelude.{not, nat_lt}
 use Rattle.std.proofs.alloc.Shapes.{after}
 use Rattle.thread_local_base.specs.Buckets.{row, IsTable, stands}
-use Rattle.thread_local_buckets.specs.Lent.{Lending, Known, lending, framed, frames, PointsTo}
+use Rattle.thread_local_buckets.specs.LoanOwns.{Lending, Known, lending, framed, frames, PointsTo}
 use Rattle.thread_local_buckets.specs.contracts.loan.Loan as loan
 use Rattle.thread_local_buckets.specs.contracts.loan.LoanFlagSource.stands.{ended, clauses, Key.name as #self}
 use Rattle.std.proofs.Common.{true, false, length}

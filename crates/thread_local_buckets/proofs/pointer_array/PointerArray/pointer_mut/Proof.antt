@@ -31,7 +31,7 @@ use Rattle.thread_local_buckets.proofs.bucket_pointer.BucketPointer.TheLaws as p
 use Rattle.thread_local_buckets.specs.Pointers.{null_pointer, with_pointer}
 use Rattle.thread_local_buckets.specs.contracts.pointer_array.PointerArray as array
 use Rattle.thread_local_buckets.specs.contracts.pointer_array.PointerArray.pointer_mut.{ended, clauses, Key.name as #self}
-use Rattle.thread_local_buckets.proofs.Lent.{Rest, out, back}
+use Rattle.thread_local_buckets.proofs.LentPointer.{Rest, out, back}
 use Rattle.thread_local_buckets.proofs.pointer_array.PointerArray.pointer_mut.Statement.{statement}
 use Rattle.thread_local_buckets.proofs.pointer_array.PointerArray.pointer_mut.Code as code
 use Rattle.thread_local_base.proofs.Walking.{knows}

@@ -8,7 +8,7 @@ use Rattle.thread_local_base.proofs.Names.{pass_all, free_all, look_at, sets, ag
 use Rattle.thread_local_base.proofs.Names.{u64, RefOf, shr_vals, shr_Tells, Stays, stay_dropped, alive}
 use Rattle.thread_local_base.proofs.Names.{walk_of, Goes-dropped, proved, leaves}
 use Rattle.thread_local_base.proofs.Walking.{knows}
-use Rattle.std.proofs.Common.{false, max}
+use Rattle.std.proofs.Common.{max}
 use base.Logic.{ex}
 use types.Logic.{sem}
 use types.Kit.{some}

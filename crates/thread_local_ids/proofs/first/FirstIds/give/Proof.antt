@@ -2,7 +2,7 @@
 use Rattle.thread_local_base.proofs.Names.{◌≡◌, ℕ, ◌+◌, ◌*◌, ◌^◌, ◌<◌, [], ◌∷◌, refl, lit<, w64, named, Val}
 use Rattle.thread_local_base.proofs.Names.{vint, vptr, SProp, via, Lft, Share, Fml}
 use Rattle.thread_local_base.proofs.Names.{ftrue, fsep, flft, ‵, raw, ◌⊛◌, mean, at_ret, ◌$◌, ◌∵◌}
-use Rattle.thread_local_base.proofs.Names.{ !, qed, by, move, keep, drop, split, join, fsplit, fsplit3, fjoin, fpick, pick}
+use Rattle.thread_local_base.proofs.Names.{ !, qed, by, move, keep, drop, split, join, fsplit, fjoin, fpick, pick}
 use Rattle.thread_local_base.proofs.Names.{use0, use3, await, rewrite, stop, fld, addr, lit, no_more}
 use Rattle.thread_local_base.proofs.Names.{and_then, first, blocks, exec, Calls-last, returns, enter, alloc_all}
 use Rattle.thread_local_base.proofs.Names.{pass_all, free_all, look_at, get, through, sets, agg, lands_last, env, tables}

@@ -1,6 +1,6 @@
 use Rattle.std.proofs.Common.{◌∙◌, ap}
 use Rattle.thread_local_shared_buckets.specs.Known.{state_of}
-use Rattle.thread_local_shared_buckets.specs.Views.{ClaimView}
+use Rattle.thread_local_shared_buckets.specs.ClaimViews.{ClaimView}
 use Rattle.thread_local_shared_buckets.proofs.Fills.{filled_already}
 use Rattle.thread_local_shared_buckets.proofs.claim.Claim.fill.Goals as goal
 

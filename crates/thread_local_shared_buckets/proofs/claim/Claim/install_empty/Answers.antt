@@ -6,7 +6,7 @@ use Rattle.thread_local_base.specs.Place.{bucket_of}
 use Rattle.thread_local_buckets.specs.Slots.{empty_slots, slot_value}
 use Rattle.thread_local_shared_buckets.specs.declared.claimed.ClaimedSlot.{ClaimedSlot}
 use Rattle.thread_local_shared_buckets.specs.Known.{HasLooked, found_as, state_of}
-use Rattle.thread_local_shared_buckets.specs.Views.{ClaimView}
+use Rattle.thread_local_shared_buckets.specs.ClaimViews.{ClaimView}
 use Rattle.thread_local_shared_buckets.proofs.ClaimLaws.{goes_on, seen_on}
 use Rattle.thread_local_shared_buckets.proofs.Fills.{vacant_then}
 use Rattle.thread_local_shared_buckets.proofs.BlockLaws.{none_again, none_where}

@@ -2,7 +2,7 @@
 use Rattle.std.proofs.Common.{◌∙◌, ℕ, ap, sym}
 use denote.Param.{param}
 use Rattle.thread_local_base.specs.Place.{index_of}
-use Rattle.thread_local_shared_buckets.specs.Views.{ClaimView}
+use Rattle.thread_local_shared_buckets.specs.ClaimViews.{ClaimView}
 use Rattle.thread_local_shared_buckets.proofs.ClaimLaws.{goes_on, seen_on}
 use Rattle.thread_local_shared_buckets.proofs.IdLaws.{word_there}
 use Rattle.thread_local_shared_buckets.proofs.claim.Claim.room.Goals as goal

@@ -1,7 +1,7 @@
 use Rattle.std.proofs.Common.{◌≢◌, ◌∙◌, ap}
 use Rattle.thread_local_shared_buckets.specs.Known.{state_of}
 use Rattle.thread_local_shared_buckets.specs.Room.{IsEmpty}
-use Rattle.thread_local_shared_buckets.specs.Views.{ClaimView}
+use Rattle.thread_local_shared_buckets.specs.ClaimViews.{ClaimView}
 use Rattle.thread_local_shared_buckets.proofs.Fills.{filled_already, filled_by, empty_else}
 use Rattle.thread_local_shared_buckets.proofs.claim.Claim.try_fill.Goals as goal
 use Rattle.thread_local_shared_buckets.proofs.claim.Claim.try_fill.Goals.{After-state}

@@ -16,7 +16,7 @@ use Rattle.thread_local_shared_buckets.specs.contracts.shared_bucket.SharedBucke
 use Rattle.thread_local_shared_buckets.specs.contracts.claimed.ClaimedSlot as C
 use Rattle.thread_local_ids.specs.Rights.{note_owns}
 use Rattle.thread_local_shared_buckets.specs.Claims.{claim_fields}
-use Rattle.thread_local_shared_buckets.proofs.Lending.{claim_laws, lends_noted}
+use Rattle.thread_local_shared_buckets.proofs.ClaimedValue.{claim_laws, lends_noted}
 use Rattle.thread_local_shared_buckets.proofs.claimed.ClaimedSlot.TheLaw.Statement.{statement}
 
 pub shares : (a : NamedLft) (T : RattleType) (L : Laws T) → statement a T L

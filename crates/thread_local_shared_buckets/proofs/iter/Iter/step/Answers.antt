@@ -6,15 +6,15 @@ use Rattle.std.proofs.lemmas.Bool.{ne_eqb}
 use Rattle.thread_local_base.specs.Cursor.{Cursor, is_complete}
 use Rattle.thread_local_buckets.specs.declared.cursor.RawIter.{RawIter}
 use Rattle.thread_local_ids.specs.TokenLists.{AllOf}
-use Rattle.thread_local_ids.specs.Views.{TokenView}
+use Rattle.thread_local_ids.specs.TokenViews.{TokenView}
 use Rattle.thread_local_shared_buckets.specs.TableView.{TableView}
 use Rattle.thread_local_shared_buckets.specs.declared.iter.Iter.TheInside.{Inside}
 use Rattle.thread_local_shared_buckets.specs.declared.seen.Seen.{Seen}
 use Rattle.thread_local_shared_buckets.specs.declared.steps.Own.{Own}
 use Rattle.thread_local_shared_buckets.specs.declared.steps.Walk.{Walk}
-use Rattle.thread_local_shared_buckets.specs.AtHand.{IsWalk, Comes, HasSeen, slot_of}
+use Rattle.thread_local_shared_buckets.specs.AtHand.{IsWalk, HasSkipped, HasSeen, slot_of}
 use Rattle.thread_local_shared_buckets.specs.Positions.{resting, owed, is_at, IsAhead, IsSharedWalk}
-use Rattle.thread_local_shared_buckets.specs.Walks.{WalkView, Goes}
+use Rattle.thread_local_shared_buckets.specs.Walks.{WalkView, IsNext}
 use Rattle.thread_local_shared_buckets.proofs.Findings.{Item, IsGivenBy, IsToldAt, Stops, YieldsFrom}
 use Rattle.thread_local_shared_buckets.proofs.AtHandLaws.{comes_nowhere}
 use Rattle.thread_local_shared_buckets.proofs.MoveLaws.{resting-first}
@@ -45,11 +45,11 @@ module _ {V : Type 0} where
   Agrees x tokens = AllOf x.0.sharing (λ p. p.id ≡ x.0.id → p.value ≡ x.0.value) tokens
 
   -- the walk came to a flag, and gave its value
-  given : (w met to : Walk V) (x : Item V) (shown left : Bool) → left ≡ shown → IsWalk w → Comes w met
+  given : (w met to : Walk V) (x : Item V) (shown left : Bool) → left ≡ shown → IsWalk w → HasSkipped w met
       → to.buckets.now ≡ met.buckets.now → YieldsFrom met.raw met.own x.1.now to.raw to.own
       → IsToldAt met.buckets.now.sharing to.raw x → to.told ≡ met.told
       → AllOf met.buckets.now.sharing (λ p. Stops met.raw to.raw p.id) met.told → Agrees x to.told
-      → Goes (seen w shown) (Some x.1) (seen to left)
+      → IsNext (seen w shown) (Some x.1) (seen to left)
   given w met to x shown left same walk comes buckets gives told kept stops agrees =
       let named : met.buckets.now.sharing ≡ w.buckets.now.sharing = ap (λ (t : TableView). t.sharing) comes.buckets in
       record {
@@ -78,8 +78,8 @@ module _ {V : Type 0} where
       (subst (λ (b : ℕ). IsTrue (is_complete (record { bucket = b; index = raw.index; looks = false }))) (sym last) refl)
 
   -- the walk looked on and found no flag
-  ended : (w to : Walk V) (shown : Bool) → Comes w to → IsWalk to → 63 ≤ to.raw.bucket → All (λ p. p.id < 2 ^ 63 - 1) to.told
-      → Goes (seen w shown) None (seen to shown)
+  ended : (w to : Walk V) (shown : Bool) → HasSkipped w to → IsWalk to → 63 ≤ to.raw.bucket → All (λ p. p.id < 2 ^ 63 - 1) to.told
+      → IsNext (seen w shown) None (seen to shown)
   ended w to shown comes walk far small =
       let none : to.own ≡ None = none_ahead to.raw to.own walk.walk.own_ahead far in
       record {
@@ -101,7 +101,7 @@ module _ {V : Type 0} where
   record HasCome (from met : Inside V) : Type 0 where
     pub walk : IsWalk met.walk
     pub some : 0 < met.walk.rest
-    pub comes : Comes from.walk met.walk
+    pub comes : HasSkipped from.walk met.walk
     pub shown : met.shown ≡ from.shown
 
   -- the walk gave the value of that flag
@@ -154,7 +154,7 @@ returns-then-not-reach g c =
     subst (λ (b : Bool). MatchBool b (0 < c.reach.new.self.rest) (63 ≤ c.reach.new.self.raw.bucket)) c.if-not-reach.true reached.by in
     record {
       goes =
-          subst (λ (view : WalkView _). Goes view None (seen c.reach.new.self shown)) c.self.view_is
+          subst (λ (view : WalkView _). IsNext view None (seen c.reach.new.self shown)) c.self.view_is
           (ended from.walk c.reach.new.self shown reached.comes reached.walk far (subst (λ (ts : List (TokenView _)). All (λ p. p.id < 2 ^ 63 - 1) ts) c.told.view_is c.told.invariant));
       told = tt;
     }
@@ -332,7 +332,7 @@ returns g c =
     let told = gives.passed.told in
     record {
       goes =
-          subst (λ (view : WalkView _). Goes view (Some found.1) (seen to.walk (is_some to.shown))) c.self.view_is
+          subst (λ (view : WalkView _). IsNext view (Some found.1) (seen to.walk (is_some to.shown))) c.self.view_is
           (given from.walk met.walk to.walk found (is_some from.shown) (is_some to.shown) (ap is_some (gives.shown ∙ come.shown))
           c.self.invariant come.comes gives.buckets gives.passed.gives gives.passed.told gives.told gives.stops
           c.agrees.ensures);

@@ -2,7 +2,7 @@
 use Rattle.std.proofs.Common.{◌≡◌, ℕ, true, Some, ap, sym, ◌∙◌, lit<}
 use Rattle.thread_local_base.specs.Place.{id_at, bucket_of, index_of}
 use Rattle.thread_local_base.proofs.PlaceLaws.{id_at-place}
-use Rattle.thread_local_ids.specs.Views.{TokenView}
+use Rattle.thread_local_ids.specs.TokenViews.{TokenView}
 use Rattle.thread_local_shared_buckets.specs.Walks.{WalkView, fresh_with}
 use Rattle.thread_local_shared_buckets.proofs.iter.Iter.with_own.Goals as goal
 

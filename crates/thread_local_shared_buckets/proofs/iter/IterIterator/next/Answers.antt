@@ -2,7 +2,7 @@
 use Rattle.std.proofs.Common.{Option, option_map, refl, ap, sym, ◌∙◌, subst}
 use denote.Ref.{Bor}
 use denote.Param.{param}
-use Rattle.thread_local_shared_buckets.specs.Walks.{Goes}
+use Rattle.thread_local_shared_buckets.specs.Walks.{IsNext}
 use Rattle.thread_local_shared_buckets.proofs.NextLaws.{progress_some, progress_none}
 use Rattle.thread_local_shared_buckets.proofs.iter.IterIterator.next.Goals as goal
 use Rattle.thread_local_shared_buckets.proofs.iter.IterIterator.next.Goals.{in-Some, in-None}
@@ -10,10 +10,10 @@ use Rattle.thread_local_shared_buckets.proofs.iter.IterIterator.next.Goals.{in-S
 pub returns-clause-steps : goal.returns-clause-steps
 returns-clause-steps g c = elim c.match-step.branch [
   | in-Some w ↦
-      subst (λ (i : Option (Bor _)). Goes c.args.self.now i c.step.new.self)
+      subst (λ (i : Option (Bor _)). IsNext c.args.self.now i c.step.new.self)
       (ap (option_map (λ entry. entry.1)) w.in-Some.is ∙ sym w.result-is) c.step.ensures.goes
   | in-None w ↦
-      subst (λ (i : Option (Bor _)). Goes c.args.self.now i c.step.new.self)
+      subst (λ (i : Option (Bor _)). IsNext c.args.self.now i c.step.new.self)
       (ap (option_map (λ entry. entry.1)) w.in-None.is ∙ sym w.result-is) c.step.ensures.goes
 ]
 

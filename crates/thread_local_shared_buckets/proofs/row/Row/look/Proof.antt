@@ -29,7 +29,7 @@ use Rattle.std.proofs.raw_atomic.Calls.{found, finds, loads, seq_cst}
 use Rattle.std.specs.Sync.RawAtomic.{asks, always}
 use Rattle.thread_local_base.specs.Bits.{is_set, is_set_in}
 use Rattle.thread_local_base.specs.Place.{id_at}
-use Rattle.thread_local_ids.specs.Views.{TokenView}
+use Rattle.thread_local_ids.specs.TokenViews.{TokenView}
 use Rattle.thread_local_ids.specs.TokenLists.{AllOf, tell_each}
 use Rattle.thread_local_ids.specs.contracts.tokens.told_list.Told as Told
 use Rattle.thread_local_ids.proofs.TokenListLaws.{told_shown}

@@ -1,6 +1,6 @@
 -- `reached` copies what the row shows, and takes the later of two pages.
-use Rattle.thread_local_base.proofs.Names.{◌≡◌, ℕ, [], ◌∷◌, refl, a_type, named, Val, vptr, inst_fn, Lft, Fml, fsep, flft, ftrue, ‵, raw}
-use Rattle.thread_local_base.proofs.Names.{◌⊛◌, some, given, learn, pick, ◌$◌, ◌∵◌, !, qed, by, move, keep, drop, split, split3, join, fsplit}
+use Rattle.thread_local_base.proofs.Names.{◌≡◌, ℕ, [], ◌∷◌, refl, a_type, named, Val, vptr, inst_fn, Lft, ‵, raw}
+use Rattle.thread_local_base.proofs.Names.{◌⊛◌, some, given, learn, pick, ◌$◌, ◌∵◌, !, qed, by, move, keep, drop, split, join, fsplit}
 use Rattle.thread_local_base.proofs.Names.{fsplit3, fjoin, fpick, fpack, rewrite, use0, use1, use2, no_more, and_then, returns, enter}
 use Rattle.thread_local_base.proofs.Names.{alloc_all, pass_all, free_all, look_at, get, sets, agg, yes, RattleType, owns, types_at, plain}
 use Rattle.thread_local_base.proofs.Names.{param, layouts, nothing, heard, fact, RefOf, shr_vals, shr_Tells, Stays, stay_dropped, walk_of}

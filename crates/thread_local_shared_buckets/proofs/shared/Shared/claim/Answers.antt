@@ -72,8 +72,12 @@ returns g c =
     let found = c.find.ensures in
     let same = c.notes.ensures.same in
     record {
-      same_slot = (ap (λ (s : Slot). s.table) same ∙ table, ap (λ (s : Slot). s.sharing) same ∙ sharing, refl,
-          ap (λ (r : Right). r.before) c.hold-slot.ensures.right);
+      same_slot = (
+        ap (λ (s : Slot). s.table) same ∙ table,
+        ap (λ (s : Slot). s.sharing) same ∙ sharing,
+        refl,
+        ap (λ (r : Right). r.before) c.hold-slot.ensures.right,
+      );
       found = subst (λ (l : Learnt _). Finds l c.notes.new.self.learnt) c.hold-slot.ensures.unknown
           (subst (λ (s : Slot). Finds c.hold-slot.result.0.learnt s.learnt) (sym same) found.found);
       learnt = subst (λ (s : Slot). HasLooked s.learnt) (sym same) found.looked;
@@ -106,8 +110,10 @@ invariant_of-result g c =
       subst (λ (s : Option ℕ × ℕ). Belongs s.0 s.1) (λ i. (sym sharing i, sym table i)) c.requires.sharing,
       ap (λ (s : Slot). s.word) same ∙ slot.2 ∙ ap (λ (d : BucketView). d.word) here,
       c.behind-self.invariant.1,
-      (ap (λ (r : Right). r.table) right ∙ c.requires.table ∙ sym table,
+      (
+        ap (λ (r : Right). r.table) right ∙ c.requires.table ∙ sym table,
         c.args.held.least ∙ sym (ap (λ (r : Right). taken_id r.before) right),
-        ap (λ (r : Right). r.held) right ∙ c.args.held.held.0),
+        ap (λ (r : Right). r.held) right ∙ c.args.held.held.0,
+      ),
       ap (λ (r : Right). r.lent) right,
     )

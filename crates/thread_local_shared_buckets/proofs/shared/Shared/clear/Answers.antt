@@ -1,5 +1,5 @@
 use Rattle.std.proofs.Common.{Bool, ap}
-use Rattle.thread_local_shared_buckets.specs.Lent.{begun_in}
+use Rattle.thread_local_shared_buckets.specs.AfterLoan.{begun_in}
 use Rattle.thread_local_shared_buckets.proofs.BlankRows.{cleared_has_none}
 use Rattle.thread_local_shared_buckets.proofs.GrownLaws.{only_reserved_stand}
 use Rattle.thread_local_shared_buckets.proofs.shared.Shared.clear.Goals as goal

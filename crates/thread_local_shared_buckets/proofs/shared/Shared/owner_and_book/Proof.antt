@@ -28,7 +28,7 @@ use Rattle.std.proofs.raw_atomic.Walks.{proved, leaves}
 use Rattle.std.proofs.alloc.Shapes.{after}
 use Rattle.thread_local_buckets.specs.contracts.buckets.Buckets as buckets
 use Rattle.thread_local_shared_buckets.specs.TableView.{TableView}
-use Rattle.thread_local_shared_buckets.specs.Lent.{view_with}
+use Rattle.thread_local_shared_buckets.specs.AfterLoan.{view_with}
 use Rattle.thread_local_shared_buckets.specs.contracts.shared.Shared as shared
 use Rattle.thread_local_shared_buckets.specs.contracts.shared.Shared.owner_and_book.{ended, clauses, Key.name as #self}
 use Rattle.thread_local_shared_buckets.proofs.Turned.{IsLent, AllGrown, lies_told, lies_shared}

@@ -10,7 +10,7 @@ use mathlib.Core.List.{IsPrefix}
 use Rattle.thread_local_base.specs.IdMoves.{held_after}
 use Rattle.thread_local_ids.proofs.Logs.{O}
 use Rattle.thread_local_ids.specs.TokenLists.{NoneIn}
-use Rattle.thread_local_ids.specs.Views.{TokenView}
+use Rattle.thread_local_ids.specs.TokenViews.{TokenView}
 use Rattle.thread_local_shared_buckets.specs.Shared.{BucketView, ids_shown, shown_by}
 use Rattle.thread_local_shared_buckets.specs.TableView.{TableView}
 use Rattle.thread_local_shared_buckets.proofs.CountedSlots.{Counted, begins, more, missed, allowed, counted_below, all_counted}

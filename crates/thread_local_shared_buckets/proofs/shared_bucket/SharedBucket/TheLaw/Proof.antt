@@ -13,7 +13,7 @@ use Rattle.std.proofs.cell.BorrowLemmas.{by_one}
 use Rattle.thread_local_base.specs.Judged.{Judged}
 use Rattle.thread_local_base.specs.Fact.{fact}
 use Rattle.thread_local_shared_buckets.specs.Shared.{Turn, bucket_invariant, kept, bucket_shares}
-use Rattle.thread_local_shared_buckets.proofs.Lent.{P, lends_by}
+use Rattle.thread_local_shared_buckets.proofs.TurnBegins.{P, lends_by}
 use Rattle.thread_local_shared_buckets.proofs.shared_bucket.SharedBucket.TheLaw.Statement.{statement}
 
 pub shares : (T : RattleType) (L : Laws T) → statement T L

@@ -13,7 +13,7 @@ use Rattle.thread_local_base.proofs.Names.{nothing, param, layouts, RefOf, u64, 
 use Rattle.thread_local_base.proofs.Names.{stay_dropped, walk_of, Goes-dropped, proved, leaves, fm, after}
 use Rattle.std.proofs.lemmas.Option.{none-some}
 use Rattle.std.proofs.Common.{IfSome, IsSome, List, arith}
-use Rattle.thread_local_ids.specs.Views.{TokenView}
+use Rattle.thread_local_ids.specs.TokenViews.{TokenView}
 use Rattle.thread_local_ids.specs.TokenLists.{NoneIn, tell_each}
 use Rattle.thread_local_ids.specs.contracts.tokens.told_list.Told as Told
 use Rattle.thread_local_ids.proofs.TokenListLaws.{told_shown}

@@ -1,5 +1,5 @@
 -- The search for these takes seconds.
-use Rattle.thread_local_ids.specs.Views.{TokenView}
+use Rattle.thread_local_ids.specs.TokenViews.{TokenView}
 use Rattle.thread_local_ids.specs.TokenLists.{NoneIn}
 use Rattle.thread_local_shared_buckets.specs.AtHand.{IsRowOf, IsWalk, LooksIn}
 use Rattle.thread_local_shared_buckets.specs.Shared.{BucketView}

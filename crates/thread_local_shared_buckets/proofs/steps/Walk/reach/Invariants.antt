@@ -2,12 +2,12 @@
 use Rattle.std.proofs.Common.{◌≡◌, ◌<◌, ◌-◌, false}
 use Rattle.thread_local_ids.specs.TokenLists.{AllOf}
 use Rattle.thread_local_shared_buckets.specs.Positions.{lies_in, IsBehind}
-use Rattle.thread_local_shared_buckets.specs.AtHand.{IsWalk, Comes}
+use Rattle.thread_local_shared_buckets.specs.AtHand.{IsWalk, HasSkipped}
 use Rattle.thread_local_shared_buckets.proofs.steps.Walk.reach.Given as goal
 
 abbrev pub invariant-loop-self : goal.invariant-loop-self
 invariant-loop-self g l = record {
-  comes : Comes l.initial.self l.self;
+  comes : HasSkipped l.initial.self l.self;
   walk : IsWalk l.self;
   in_table : l.self.raw.bucket < 63;
   elsewhere : l.self.rest ≡ 0 → lies_in l.self.own l.self.raw.bucket ≡ false;

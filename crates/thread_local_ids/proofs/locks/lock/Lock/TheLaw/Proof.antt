@@ -16,7 +16,7 @@ use Rattle.std.proofs.cell.BorrowLemmas.{by_one}
 use Rattle.thread_local_ids.specs.Locking.{Fitting, LockTurn, lock_invariant, lock_kept, lock_shares}
 use Rattle.thread_local_ids.specs.declared.locks.lock.Fits.{Ghosts}
 use Rattle.thread_local_ids.specs.contracts.locks.lock.Lock as C
-use Rattle.thread_local_ids.proofs.Lent.{P, cut}
+use Rattle.thread_local_ids.proofs.SharedLock.{P, cut}
 use Rattle.thread_local_ids.proofs.locks.lock.Lock.TheLaw.Statement.{statement}
 
 pub shares : (T : RattleType) (g : Ghosts T.Denot) (L : Laws T) → statement T g L

@@ -15,7 +15,7 @@ use Rattle.thread_local_ids.specs.Guarded.{lock_of}
 use Rattle.thread_local_ids.specs.Locking.{LockView, offset}
 use Rattle.thread_local_ids.specs.contracts.locks.lock.Lock as lock
 use Rattle.thread_local_ids.specs.contracts.locks.lock.Lock.get_mut.{ended, clauses, Key.name as #self}
-use Rattle.thread_local_ids.proofs.Lent.{Back, parts_out, parts_in}
+use Rattle.thread_local_ids.proofs.SharedLock.{Back, parts_out, parts_in}
 use Rattle.thread_local_ids.proofs.locks.lock.Lock.get_mut.Statement.{statement}
 use Rattle.thread_local_ids.proofs.locks.lock.Lock.get_mut.Code as code
 

@@ -13,7 +13,7 @@ use Rattle.std.proofs.raw_atomic.Calls.{loads, seq_cst}
 use Rattle.thread_local_ids.specs.Locking.{Fitting}
 use Rattle.thread_local_ids.specs.contracts.locks.lock.Lock as lock
 use Rattle.thread_local_ids.specs.contracts.locks.lock.Lock.seen.{ended, clauses, Key.name as #self}
-use Rattle.thread_local_ids.proofs.Steps.{looked}
+use Rattle.thread_local_ids.proofs.LockSteps.{looked}
 use Rattle.thread_local_ids.proofs.locks.lock.Lock.seen.Statement.{statement}
 use Rattle.thread_local_ids.proofs.locks.lock.Lock.seen.Code as code
 use Rattle.thread_local_base.proofs.Walking.{lends_token, returns_token}

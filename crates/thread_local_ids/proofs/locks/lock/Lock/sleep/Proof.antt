@@ -17,7 +17,7 @@ use Rattle.std.proofs.Math.Nat.{suc-ne-zero}
 use Rattle.thread_local_ids.specs.Locking.{Fitting, lock_invariant}
 use Rattle.thread_local_ids.specs.contracts.locks.lock.Lock as lock
 use Rattle.thread_local_ids.specs.contracts.locks.lock.Lock.sleep.{ended, clauses, Key.name as #self}
-use Rattle.thread_local_ids.proofs.Steps.{gained, exchanged, looked}
+use Rattle.thread_local_ids.proofs.LockSteps.{gained, exchanged, looked}
 use Rattle.thread_local_ids.proofs.Calls.{exchanges, lent, parks}
 use Rattle.thread_local_ids.proofs.locks.lock.Lock.sleep.Statement.{statement}
 use Rattle.thread_local_ids.proofs.locks.lock.Lock.sleep.Code as code

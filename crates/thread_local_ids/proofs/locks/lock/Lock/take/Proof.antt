@@ -25,7 +25,7 @@ use Rattle.thread_local_ids.specs.contracts.locks.lock.Lock as lock
 use Rattle.thread_local_ids.specs.contracts.locks.lock.LockGuard as guard
 use Rattle.thread_local_ids.specs.contracts.locks.lock.Lock.take.{ended, clauses, Key.name as #self}
 use Rattle.thread_local_ids.proofs.Calls.{exchanges}
-use Rattle.thread_local_ids.proofs.Steps.{gained, exchanged}
+use Rattle.thread_local_ids.proofs.LockSteps.{gained, exchanged}
 use Rattle.thread_local_ids.proofs.Fields.{guard_of, FieldsType, made}
 use Rattle.thread_local_ids.proofs.locks.lock.Lock.take.Statement.{statement}
 use Rattle.thread_local_ids.proofs.locks.lock.Lock.take.Code as code

@@ -26,7 +26,7 @@ use Rattle.thread_local_ids.specs.contracts.locks.lock.LockGuard as guard
 use Rattle.thread_local_ids.specs.contracts.locks.lock.wake_if as waker
 use Rattle.thread_local_ids.proofs.locks.lock.wake_if.Met as waker_met
 use Rattle.thread_local_ids.specs.contracts.locks.lock.LockGuard.drop.{ended, clauses, Key.name as #self}
-use Rattle.thread_local_ids.proofs.Steps.{released}
+use Rattle.thread_local_ids.proofs.LockSteps.{released}
 use Rattle.thread_local_ids.proofs.Fields.{guard_of, typed, told}
 use Rattle.thread_local_ids.proofs.Guards.{placed}
 use Rattle.thread_local_ids.proofs.locks.lock.LockGuard.drop.Statement.{statement}

@@ -8,7 +8,7 @@ use Rattle.thread_local_base.proofs.Names.{types_at, nothing, param, layouts, sh
 use Rattle.thread_local_base.proofs.Names.{shr_Tells, Stays, walk_of, proved, leaves}
 use Rattle.thread_local_base.proofs.Names.{alive, unhide, Fml}
 use Rattle.thread_local_ids.specs.Told.{tells}
-use Rattle.thread_local_ids.specs.Views.{TokenView}
+use Rattle.thread_local_ids.specs.TokenViews.{TokenView}
 use Rattle.thread_local_ids.specs.TokenLists.{AllOf, tell_each}
 use Rattle.thread_local_ids.specs.contracts.tokens.token.Token as Token
 use Rattle.thread_local_ids.specs.contracts.tokens.told_list.Told as Told

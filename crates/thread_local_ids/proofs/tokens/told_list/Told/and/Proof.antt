@@ -10,7 +10,7 @@ use Rattle.thread_local_base.proofs.Names.{alive, unhide, given, learn}
 use Rattle.std.specs.Prelude.{◌-◌, ◌^◌, ◌<◌, All}
 use Rattle.std.proofs.lemmas.List.Elements.{All-cons}
 use Rattle.thread_local_ids.specs.TokenLists.{tell_each}
-use Rattle.thread_local_ids.specs.Views.{TokenView}
+use Rattle.thread_local_ids.specs.TokenViews.{TokenView}
 use Rattle.thread_local_ids.specs.contracts.tokens.token.Token as Token
 use Rattle.thread_local_ids.specs.contracts.tokens.told_list.Told as Told
 use Rattle.thread_local_ids.proofs.Made.{token_val}
