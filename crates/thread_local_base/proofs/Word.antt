@@ -1,12 +1,12 @@
 -- One 64-bit word: testing, setting and clearing a bit, finding the lowest set or unset one, keeping
--- or clearing the highest, and counting the set ones.
+-- or clearing the highest, and counting the set ones. What is left of the others then.
 use Rattle.std.proofs.Common.{◌≡◌, ◌≢◌, ℕ, zero, suc, ◌+◌, ◌-◌, ◌*◌, ◌/◌, ◌%◌, ◌^◌, ◌<◌, ◌≤◌, Bool, true, false, cond}
 use Rattle.std.proofs.Common.{eqb, min, max, length, get_or, bit_and, bit_or, bit_xor, not, count_ones, zero-mul, refl, ap, sym}
-use Rattle.std.proofs.Common.{subst, ◌∙◌, arith, ⊎_elim}
+use Rattle.std.proofs.Common.{subst, ◌∙◌, arith, ⊎_elim, ◌⊎◌, inl, inr}
 use Rattle.std.specs.Int.{w64, bit_not, bit_at, trailing_ones, trailing_zeros}
 use Rattle.std.specs.Int.Bits.{or_add_and, xor_add_and}
 use Rattle.std.specs.List.{count_by}
-use Rattle.std.proofs.lemmas.Bool.{eq-eqb, ne_eqb, cases_eq, cases_lt}
+use Rattle.std.proofs.lemmas.Bool.{cond_both, eqb-true, eqb-false, eq-eqb, ne_eqb, cases_eq, cases_lt}
 use Rattle.std.proofs.lemmas.List.{map-id}
 use Rattle.std.proofs.lemmas.List.FromFn.{length-map-range_with_len, get_or-map-range_with_len}
 use Rattle.std.proofs.Math.Nat.{div-le_self, two-pow-succ}
@@ -275,3 +275,62 @@ without_highest word bit size low high same =
     let one : word / 2 ^ bit ≡ 1 = omega (arith, le-div 1 word (2 ^ bit) some (omega arith), div_below word (2 ^ bit) 2 some high) in
     let kept : bit_and word (2 ^ bit) ≡ 2 ^ bit = and_pow word bit ∙ ap (λ quotient. quotient % 2 * 2 ^ bit) one ∙ omega arith in
     rw same (omega (arith, xor_add_and word (2 ^ bit), kept))
+
+-- What is known of a bit once another one is cleared, or set.
+-- no bit of 0 is set
+pub never_set : {X : Type 0} (word bit : ℕ) → word ≡ 0 → is_set word bit ≡ true → X
+never_set word bit none set =
+    let never : true ≡ false = sym set ∙ ap (λ (n : ℕ). is_set n bit) none ∙ is_set-zero bit in
+    cc
+
+-- a bit that is set once one is cleared: it is another one, and was set
+pub still_set : (rest word low bit : ℕ) → IsWordBut rest word low false → bit < 64 → is_set rest bit ≡ true
+    → (low ≢ bit) × (is_set word bit ≡ true)
+still_set rest word low bit but small set =
+    let e : cond (eqb low bit) false (is_set word bit) ≡ true = sym (but bit small) ∙ set in
+    cond_both {A = Bool} (eqb low bit) false (is_set word bit)
+    (λ (u : Bool). u ≡ true → (low ≢ bit) × (is_set word bit ≡ true))
+    (λ t unset. let never : false ≡ true = unset in cc) (λ f here. (eqb-false low bit f, here)) e
+
+-- once the lowest is cleared, it is higher, too
+pub record IsLater (word low bit : ℕ) : Type 0 where
+  pub set : is_set word bit ≡ true
+  pub higher : low < bit
+
+pub later : (rest word low bit : ℕ) → IsLowestSet word low → IsWordBut rest word low false → bit < 64 → is_set rest bit ≡ true
+    → IsLater word low bit
+later rest word low bit lowest but small set =
+    let both = still_set rest word low bit but small set in
+    record {
+      set = both.1;
+      higher =
+          ⊎_elim (λ (below : bit < low). let never : true ≡ false = sym both.1 ∙ lowest.lower bit below in cc)
+          (λ (above : low ≤ bit). let apart = both.0 in omega arith) (cases_lt bit low);
+    }
+
+-- any bit but the one that was cleared is as it was
+pub as_before : (rest word low bit : ℕ) → IsWordBut rest word low false → bit < 64 → low ≢ bit → is_set rest bit ≡ is_set word bit
+as_before rest word low bit but small apart =
+    but bit small ∙ ap (λ (u : Bool). cond u false (is_set word bit)) (ne_eqb low bit apart)
+
+-- a bit that was set, and isn't the lowest, is set still
+pub stays_set : (rest word low bit : ℕ) → IsWordBut rest word low false → bit < 64 → low ≢ bit → is_set word bit ≡ true
+    → is_set rest bit ≡ true
+stays_set rest word low bit but small apart set = as_before rest word low bit but small apart ∙ set
+
+-- where one bit is set in addition, that bit is set, and any other was set before
+pub added_set : (word old bit : ℕ) → IsWordBut word old bit true → bit < 64 → is_set word bit ≡ true
+added_set word old bit but small =
+    but bit small ∙ ap (λ (u : Bool). cond u true (is_set old bit)) (eq-eqb bit bit refl)
+
+pub was_set : (word old one bit : ℕ) → IsWordBut word old one true → bit < 64 → is_set word bit ≡ true
+    → (one ≡ bit) ⊎ (is_set old bit ≡ true)
+was_set word old one bit but small set =
+    let e : cond (eqb one bit) true (is_set old bit) ≡ true = sym (but bit small) ∙ set in
+    cond_both {A = Bool} (eqb one bit) true (is_set old bit) (λ (u : Bool). u ≡ true → (one ≡ bit) ⊎ (is_set old bit ≡ true))
+    (λ t _. inl (eqb-true one bit t)) (λ f here. inr here) e
+
+-- where one bit is set in addition, every bit that was set is
+pub keeps_bit : (word old one bit : ℕ) → IsWordBut word old one true → bit < 64 → is_set old bit ≡ true → is_set word bit ≡ true
+keeps_bit word old one bit but small set =
+    but bit small ∙ cond_both {A = Bool} (eqb one bit) true (is_set old bit) (λ (u : Bool). u ≡ true) (λ t. refl) (λ f. set)

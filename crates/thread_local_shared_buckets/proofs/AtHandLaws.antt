@@ -20,7 +20,8 @@ use Rattle.thread_local_shared_buckets.proofs.ToldLaws.{unmarked, skips, moved, 
 use Rattle.thread_local_shared_buckets.proofs.MoveLaws.{leads_further}
 use Rattle.thread_local_shared_buckets.proofs.StepLaws.{leads_nowhere, leads_then}
 use Rattle.thread_local_shared_buckets.proofs.WalkLaws.{own_after_buckets}
-use Rattle.thread_local_shared_buckets.proofs.BitLaws.{none_set, added_set, keeps_bit, still_set, as_before, by_test}
+use Rattle.thread_local_shared_buckets.proofs.OwnFlagLaws.{by_test}
+use Rattle.thread_local_base.proofs.Word.{never_set, added_set, keeps_bit, still_set, as_before}
 
 -- 1. The word of the buckets that are left.
 
@@ -165,7 +166,7 @@ module _ {V : Type 0} where
           told = walk.told;
           seen_to = omega arith;
           row = tt;
-          at_hand = λ bit small set. none_set w.rest bit none set;
+          at_hand = λ bit small set. never_set w.rest bit none set;
           kept = none_kept (further_on w bucket size rest) w.own refl;
           marked = unmarked (further_on w bucket size rest) refl;
           left = left_later w.buckets.now.sharing w.told w.own w.raw.bucket w.left bucket rest walk.left further takes;
@@ -237,7 +238,7 @@ module _ {V : Type 0} where
     row =
         subst (λ (r : Option (Row V)). IfSome r (IsRowOf w.buckets.now.sharing w.raw.bucket))
         (sym no_row) tt;
-    at_hand = λ bit small set. none_set w.rest bit none set;
+    at_hand = λ bit small set. never_set w.rest bit none set;
     kept = none_kept w w.own unseen;
     marked = unmarked w unseen;
     left =

@@ -12,7 +12,7 @@ pub mod AnnouncedTokens
 pub mod StepLaws
 pub mod MoveLaws
 pub mod WalkLaws
-pub mod BitLaws
+pub mod OwnFlagLaws
 mod BlockLaws
 mod BlankRows
 pub mod Findings

@@ -16,7 +16,8 @@ use Rattle.thread_local_ids.specs.TokenLists.{AllOf, NoneIn}
 use Rattle.thread_local_shared_buckets.specs.Positions.{IsBehind}
 use Rattle.thread_local_shared_buckets.proofs.Findings.{own_index, LiesOutside, IsRead, IsOwnAlone, LooksAt, HasLookedOn, IsFoundAt, FindsTokens}
 use Rattle.thread_local_shared_buckets.proofs.ToldLaws.{found_all, marked_on, all_behind}
-use Rattle.thread_local_shared_buckets.proofs.BitLaws.{added_set, both_if, both_so, none_set, was_set}
+use Rattle.thread_local_shared_buckets.proofs.OwnFlagLaws.{both_if, both_so}
+use Rattle.thread_local_base.proofs.Word.{added_set, never_set, was_set}
 use Rattle.thread_local_shared_buckets.proofs.OwnLaws.{at_index, at_own_index, elsewhere, index_of_own}
 
 module _ {V : Type 0} where
@@ -41,7 +42,7 @@ module _ {V : Type 0} where
         at_hand = λ bit small set.
             let here : i % 64 ≡ bit =
             ⊎_elim (λ (one : i % 64 ≡ bit). one)
-            (λ old. none_set 0 bit refl old) (was_set rest 0 (i % 64) bit but small set) in
+            (λ old. never_set 0 bit refl old) (was_set rest 0 (i % 64) bit but small set) in
             let at : i ≡ slot_of to bit = omega arith in
             record {
               in_table = (let low = own.thread.in_table in omega arith);
@@ -113,7 +114,7 @@ module _ {V : Type 0} where
       let from : w.chunks ≤ i / 64 =
       ⊎_elim
       (λ (before : i < w.chunks * 64).
-      none_set w.rest (i - (w.chunks - 1) * 64) none (kept here before).1)
+      never_set w.rest (i - (w.chunks - 1) * 64) none (kept here before).1)
       (λ (behind : w.chunks * 64 ≤ i). omega arith) (cases_lt i (w.chunks * 64)) in
       let last : i / 64 ≡ c =
       ⊎_elim
@@ -181,7 +182,7 @@ module _ {V : Type 0} where
     told = walk.told;
     seen_to = walk.seen_to;
     row = of;
-    at_hand = λ bit small set. none_set w.rest bit none set;
+    at_hand = λ bit small set. never_set w.rest bit none set;
     kept = walk.kept;
     marked = walk.marked;
     left = walk.left;
@@ -245,7 +246,7 @@ module _ {V : Type 0} where
       (marked_on w row (None, chunks, flags) walk none finds))
       (λ zero.
       let small : i % 64 < 64 = omega arith in
-      none_set flags (i % 64) zero (added_set flags 0 (i % 64) alone.1 small))
+      never_set flags (i % 64) zero (added_set flags 0 (i % 64) alone.1 small))
       (λ zero. all_behind w chunks flags walk none finds)
 
   looked_by : (w : Walk V) (row : Option (Row V)) (seen : Option (Seen V)) (chunks flags : ℕ) → IsWalk w → w.rest ≡ 0

@@ -5,7 +5,7 @@ use Rattle.std.proofs.lemmas.Bool.{eqb-true, eq-eqb, ne_eqb}
 use Rattle.thread_local_shared_buckets.specs.declared.steps.Own.{Own}
 use Rattle.thread_local_shared_buckets.specs.Positions.{lies_in, is_at}
 use Rattle.thread_local_shared_buckets.proofs.Findings.{own_index}
-use Rattle.thread_local_shared_buckets.proofs.BitLaws.{both_so, by_test}
+use Rattle.thread_local_shared_buckets.proofs.OwnFlagLaws.{both_so, by_test}
 
 module _ {V : Type 0} where
   pub index_of_own : (own : Own V) (bucket : ℕ) → own.thread.bucket ≡ bucket → own_index (Some own) bucket ≡ Some own.thread.index

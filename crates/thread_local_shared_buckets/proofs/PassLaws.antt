@@ -17,7 +17,8 @@ use Rattle.thread_local_shared_buckets.proofs.Findings.{Item, IsToldAt, IsGivenB
 use Rattle.thread_local_shared_buckets.proofs.MoveLaws.{resting-id}
 use Rattle.thread_local_shared_buckets.proofs.WalkLaws.{few, IsBefore, given_found, Gave, gave_own}
 use Rattle.thread_local_shared_buckets.proofs.ToldLaws.{marked_later}
-use Rattle.thread_local_shared_buckets.proofs.BitLaws.{both_if, both_so, by_test, later, stays_set}
+use Rattle.thread_local_shared_buckets.proofs.OwnFlagLaws.{both_if, both_so, by_test}
+use Rattle.thread_local_base.proofs.Word.{later, stays_set}
 
 module _ {V : Type 0} where
   told_seen : (sharing : Option ℕ) (raw : RawIter) (chunks bit : ℕ) (x : Item V) (seen : Option (Seen V))

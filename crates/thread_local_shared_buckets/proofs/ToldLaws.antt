@@ -18,7 +18,7 @@ use Rattle.thread_local_shared_buckets.specs.Walks.{GivesTold}
 use Rattle.thread_local_shared_buckets.specs.Positions.{resting, past, next_id, Skips, IsBehind}
 use Rattle.thread_local_shared_buckets.specs.AtHand.{IsRowOf, slot_of, IsMarked, IsWalk}
 use Rattle.thread_local_shared_buckets.proofs.Findings.{Item, Stops, IsToldAt, IsFoundAt, FindsTokens}
-use Rattle.thread_local_shared_buckets.proofs.BitLaws.{none_set, stays_set}
+use Rattle.thread_local_base.proofs.Word.{never_set, stays_set}
 use Rattle.thread_local_shared_buckets.proofs.MoveLaws.{resting-id}
 use Rattle.thread_local_shared_buckets.proofs.WalkLaws.{later_bucket}
 
@@ -90,7 +90,7 @@ module _ {V : Type 0} where
   mark_at w row x id none marked found i low at ahead seen =
       ⊎_elim
       (λ (before : i < w.chunks * 64).
-      none_set w.rest (i - (w.chunks - 1) * 64) none (marked i low at ahead before).1)
+      never_set w.rest (i - (w.chunks - 1) * 64) none (marked i low at ahead before).1)
       (λ (later : w.chunks * 64 ≤ i). found_mark x.0 x.1 i _ (found i low at later) seen)
       (cases_lt i (w.chunks * 64))
 
@@ -108,7 +108,7 @@ module _ {V : Type 0} where
       (λ (ahead : w.raw.index ≤ i).
       ⊎_elim
       (λ (before : i < w.chunks * 64).
-      none_set w.rest (i - (w.chunks - 1) * 64) none (marked i low at ahead before).1)
+      never_set w.rest (i - (w.chunks - 1) * 64) none (marked i low at ahead before).1)
       (λ (later : w.chunks * 64 ≤ i). absurd (found i low at later))
       (cases_lt i (w.chunks * 64)))
       (cases_lt i w.raw.index)
@@ -248,7 +248,7 @@ module _ {V : Type 0} where
       let base : chunk * 64 ≤ i = before named k d near same i low at later in
       ⊎_elim
       (λ (below : i < chunk * 64 + 64).
-      none_set word (i - chunk * 64) zero
+      never_set word (i - chunk * 64) zero
       (set_in_word r tokens chunk flags word (slice_index_or tokens k d).id i (tells named k d near same) keeps base below low at))
       (λ (past : chunk * 64 + 64 ≤ i). omega arith)
       (cases_lt i (chunk * 64 + 64))

@@ -5,7 +5,7 @@ use Rattle.thread_local_base.proofs.Word.{set_bit}
 use Rattle.thread_local_ids.specs.TokenLists.{NoneIn}
 use Rattle.thread_local_shared_buckets.specs.TableView.{TableView}
 use Rattle.thread_local_shared_buckets.specs.declared.steps.Own.{Own}
-use Rattle.thread_local_shared_buckets.proofs.BitLaws.{none_set}
+use Rattle.thread_local_base.proofs.Word.{never_set}
 use Rattle.thread_local_shared_buckets.proofs.AtHandLaws.{HasAll, begins, begins_left, has_own, has_announced}
 use Rattle.thread_local_shared_buckets.proofs.iter.Iter.begun.Goals as goal
 use Rattle.thread_local_shared_buckets.proofs.iter.Iter.begun.Goals.{in-Some, in-None}
@@ -16,7 +16,7 @@ has_all : {V : Type 0} (own : Own V) (word : ℕ) → is_set word 0 ≡ true →
 has_all own word first none_past = has_own own word _ first none_past (set_bit word own.thread.bucket (omega (arith, own.thread.in_table)))
 
 some : (word : ℕ) → is_set word 0 ≡ true → 0 < word
-some word first = ⊎_elim (λ (none : word ≡ 0). none_set word 0 none first) (λ apart. omega arith) (cases_eq word 0)
+some word first = ⊎_elim (λ (none : word ≡ 0). never_set word 0 none first) (λ apart. omega arith) (cases_eq word 0)
 
 pub take_first-requires : goal.take_first-requires
 take_first-requires g c =

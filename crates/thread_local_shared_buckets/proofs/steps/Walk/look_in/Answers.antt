@@ -15,8 +15,8 @@ use Rattle.std.proofs.Common.{subst, sym, ap, refl, arith, bit_or, get_or, w64, 
 use denote.Param.{param}
 use Rattle.thread_local_buckets.specs.Slots.{flag_word_at}
 use Rattle.thread_local_shared_buckets.proofs.Lists.{listed_bucket}
-use Rattle.thread_local_shared_buckets.proofs.BitLaws.{none_in_chunk, none_further, keeps_set, Counts, counts_here, counts_there}
-use Rattle.thread_local_shared_buckets.proofs.BitLaws.{alone_own, alone_none}
+use Rattle.thread_local_shared_buckets.proofs.OwnFlagLaws.{none_in_chunk, none_further, keeps_set, Counts, counts_here, counts_there}
+use Rattle.thread_local_shared_buckets.proofs.OwnFlagLaws.{alone_own, alone_none}
 use Rattle.thread_local_shared_buckets.proofs.LookLaws.{looked_on, read_at}
 use Rattle.thread_local_shared_buckets.proofs.OwnLaws.{index_of_own, index_outside}
 use Rattle.thread_local_shared_buckets.proofs.ToldLaws.{NoneBefore, none_next, found_at, none_found, none_there}

@@ -1,12 +1,12 @@
--- Tests, bits and chunks.
+-- The flag of the own slot among the flags of a chunk, and tests of two numbers.
 use Rattle.thread_local_shared_buckets.proofs.Findings.{LiesOutside, MarksOwn, IsOwnAlone}
-use Rattle.std.proofs.Common.{◌≡◌, ◌≢◌, ℕ, ◌+◌, ◌/◌, ◌%◌, ◌<◌, ◌≤◌, ◌⊎◌, Bool, true, false, cond, eqb}
-use Rattle.std.proofs.Common.{◌*◌, ◌^◌, bit_or, refl, ap, sym, ◌∙◌, subst, arith, ⊎_elim, inl, inr}
+use Rattle.std.proofs.Common.{◌≡◌, ◌≢◌, ℕ, ◌+◌, ◌/◌, ◌%◌, ◌<◌, ◌≤◌, Bool, true, false, cond, eqb}
+use Rattle.std.proofs.Common.{◌*◌, ◌^◌, bit_or, refl, ap, sym, ◌∙◌, subst, arith, ⊎_elim}
 use Rattle.std.proofs.Common.{Option, None, Some, IfSome}
 use Rattle.std.specs.Int.Bits.{or_zero_l, or_zero_r}
-use Rattle.std.proofs.lemmas.Bool.{cond_both, eqb-true, eqb-false, eq-eqb, ne_eqb, cases_lt, cases_eq}
-use Rattle.thread_local_base.specs.Bits.{is_set, IsLowestSet, IsWordBut}
-use Rattle.thread_local_base.proofs.Word.{is_set-zero, set_bit}
+use Rattle.std.proofs.lemmas.Bool.{cond_both, eqb-true, eq-eqb, cases_lt, cases_eq}
+use Rattle.thread_local_base.specs.Bits.{is_set, IsWordBut}
+use Rattle.thread_local_base.proofs.Word.{set_bit, never_set, added_set, keeps_bit}
 
 pub both_so : (a b c d : ℕ) → a ≡ b → c ≡ d → cond (eqb a b) (eqb c d) false ≡ true
 both_so a b c d e f = ap (λ (u : Bool). cond u (eqb c d) false) (eq-eqb a b e) ∙ eq-eqb c d f
@@ -15,58 +15,6 @@ pub both_if : (a b c d : ℕ) → cond (eqb a b) (eqb c d) false ≡ true → (a
 both_if a b c d =
     cond_both {A = Bool} (eqb a b) (eqb c d) false (λ (u : Bool). u ≡ true → (a ≡ b) × (c ≡ d))
     (λ t set. (eqb-true a b t, eqb-true c d set)) (λ f set. let never : false ≡ true = set in cc)
-
-pub none_set : {X : Type 0} (word bit : ℕ) → word ≡ 0 → is_set word bit ≡ true → X
-none_set word bit none set =
-    let never : true ≡ false = sym set ∙ ap (λ (n : ℕ). is_set n bit) none ∙ is_set-zero bit in
-    cc
-
--- a bit that is set once one is cleared: it is another one, and was set
-pub still_set : (rest word low bit : ℕ) → IsWordBut rest word low false → bit < 64 → is_set rest bit ≡ true
-    → (low ≢ bit) × (is_set word bit ≡ true)
-still_set rest word low bit but small set =
-    let e : cond (eqb low bit) false (is_set word bit) ≡ true = sym (but bit small) ∙ set in
-    cond_both {A = Bool} (eqb low bit) false (is_set word bit)
-    (λ (u : Bool). u ≡ true → (low ≢ bit) × (is_set word bit ≡ true))
-    (λ t unset. let never : false ≡ true = unset in cc) (λ f here. (eqb-false low bit f, here)) e
-
--- once the lowest is cleared, it is higher, too
-pub record IsLater (word low bit : ℕ) : Type 0 where
-  pub set : is_set word bit ≡ true
-  pub higher : low < bit
-
-pub later : (rest word low bit : ℕ) → IsLowestSet word low → IsWordBut rest word low false → bit < 64 → is_set rest bit ≡ true
-    → IsLater word low bit
-later rest word low bit lowest but small set =
-    let both = still_set rest word low bit but small set in
-    record {
-      set = both.1;
-      higher =
-          ⊎_elim (λ (below : bit < low). let never : true ≡ false = sym both.1 ∙ lowest.lower bit below in cc)
-          (λ (above : low ≤ bit). let apart = both.0 in omega arith) (cases_lt bit low);
-    }
-
--- any bit but the one that was cleared is as it was
-pub as_before : (rest word low bit : ℕ) → IsWordBut rest word low false → bit < 64 → low ≢ bit → is_set rest bit ≡ is_set word bit
-as_before rest word low bit but small apart =
-    but bit small ∙ ap (λ (u : Bool). cond u false (is_set word bit)) (ne_eqb low bit apart)
-
--- a bit that was set, and isn't the lowest, is set still
-pub stays_set : (rest word low bit : ℕ) → IsWordBut rest word low false → bit < 64 → low ≢ bit → is_set word bit ≡ true
-    → is_set rest bit ≡ true
-stays_set rest word low bit but small apart set = as_before rest word low bit but small apart ∙ set
-
--- where one bit is set in addition, that bit is set, and any other was set before
-pub added_set : (word old bit : ℕ) → IsWordBut word old bit true → bit < 64 → is_set word bit ≡ true
-added_set word old bit but small =
-    but bit small ∙ ap (λ (u : Bool). cond u true (is_set old bit)) (eq-eqb bit bit refl)
-
-pub was_set : (word old one bit : ℕ) → IsWordBut word old one true → bit < 64 → is_set word bit ≡ true
-    → (one ≡ bit) ⊎ (is_set old bit ≡ true)
-was_set word old one bit but small set =
-    let e : cond (eqb one bit) true (is_set old bit) ≡ true = sym (but bit small) ∙ set in
-    cond_both {A = Bool} (eqb one bit) true (is_set old bit) (λ (u : Bool). u ≡ true → (one ≡ bit) ⊎ (is_set old bit ≡ true))
-    (λ t _. inl (eqb-true one bit t)) (λ f here. inr here) e
 
 pub by_test : {X : Type 0} (u : Bool) → (u ≡ true → X) → (u ≡ false → X) → X
 by_test true t f = t refl
@@ -87,12 +35,7 @@ pub none_in_chunk : (own : Option ℕ) (chunk flags word : ℕ)
 none_in_chunk None chunk flags word adds none = tt
 none_in_chunk (Some index) chunk flags word adds none = λ at.
     let small : index % 64 < 64 = omega arith in
-    none_set word (index % 64) none (added_set word flags (index % 64) (adds at) small)
-
--- where one bit is set in addition, every bit that was set is
-pub keeps_bit : (word old one bit : ℕ) → IsWordBut word old one true → bit < 64 → is_set old bit ≡ true → is_set word bit ≡ true
-keeps_bit word old one bit but small set =
-    but bit small ∙ cond_both {A = Bool} (eqb one bit) true (is_set old bit) (λ (u : Bool). u ≡ true) (λ t. refl) (λ f. set)
+    never_set word (index % 64) none (added_set word flags (index % 64) (adds at) small)
 
 -- a chunk's flags with that of the own slot have every flag that the chunk has
 pub keeps_set : (own : Option ℕ) (chunk flags word bit : ℕ)
@@ -145,4 +88,4 @@ alone_none None from chunk flag rest marks none nothing = (refl, nothing)
 alone_none (Some index) from chunk flag rest marks none nothing =
     let small : index % 64 < 64 = omega arith in
     let but : IsWordBut flag 0 (index % 64) true = subst (λ (n : ℕ). IsWordBut n 0 (index % 64) true) (sym marks.1) (alone_set index) in
-    none_set flag (index % 64) none (added_set flag 0 (index % 64) but small)
+    never_set flag (index % 64) none (added_set flag 0 (index % 64) but small)
