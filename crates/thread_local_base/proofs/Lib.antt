@@ -27,5 +27,6 @@ pub mod SharedWord
 pub mod Signs
 pub mod Walking
 mod Words
+mod Returned
 mod Views
 pub mod Alike

@@ -1,8 +1,8 @@
 //! The manager of a table's ids: it gives out the least id that isn't held, and takes ids back.
-ghost use Rattle.std.specs.Prelude.{◌≡◌, ◌+◌, ◌-◌, ◌*◌, ◌^◌, ◌<◌, ◌≤◌, min, [], length, IsTrue, IsOk, OnErr, IfOk};
+ghost use Rattle.std.specs.Prelude.{◌≡◌, ◌+◌, ◌-◌, ◌*◌, ◌^◌, ◌<◌, ◌≤◌, min, [], length, IsTrue, IsOk, OnErr, OnOk, IfOk};
 ghost use Rattle.std.specs.Prelude.{alloc_error};
 ghost use Rattle.thread_local_base.specs.Bits.{IsNextUnset};
-ghost use Rattle.thread_local_base.specs.Held.{is_held, Takes, Gives, NeedsMemory, IsExhausted};
+ghost use Rattle.thread_local_base.specs.Held.{is_held, least, Takes, Gives, NeedsMemory, IsExhausted};
 
 use std::alloc::{AllocError, Global};
 use std::marker::Model;
@@ -32,24 +32,21 @@ pub enum LocalError {
 /// and there is no `with_room`, `is_held`, `peak` or `clear`.
 #[derive(Drop)]
 pub struct ThreadIdManager {
-    // A bit for each id, 64 to a word, the lowest first. It is set where the id is held.
-    words: Vec<u64>,
-    // No bit from the peak on is set.
-    peak: usize,
-    // Every bit of the words before this one is set.
-    full: usize,
+    bits: IdBits,
+    // The id that was given back last, whose bit is still set, or `IDS` where there is none.
+    returned: usize,
 }
 
 impl Model for ThreadIdManager {
-    ghost use Rattle.thread_local_base.specs.Held.{Manager};
+    ghost use Rattle.thread_local_base.specs.Held.{Manager, given_to};
 
     ghost Value = { Manager };
 
-    ghost use Rattle.thread_local_base.specs.Words.{manager_of, IsManager};
+    ghost use Rattle.thread_local_base.specs.Words.{HasReturned};
 
-    ghost view = { λ m. manager_of m.words.items m.peak };
+    ghost view = { λ m. given_to m.bits m.returned };
 
-    ghost invariant = { λ m. IsManager m.words.items m.peak m.full };
+    ghost invariant = { λ m. HasReturned m.bits m.returned };
 }
 
 impl ThreadIdManager {
@@ -59,9 +56,12 @@ impl ThreadIdManager {
         ensures room { result.room ≡ 0 }
     {
         ThreadIdManager {
-            words: Vec::new(alloc),
-            peak: 0,
-            full: 0,
+            bits: IdBits {
+                words: Vec::new(alloc),
+                peak: 0,
+                lowest: 0,
+            },
+            returned: IDS,
         }
     }
 
@@ -77,9 +77,12 @@ impl ThreadIdManager {
         let mut words = Vec::new(alloc);
         words.resize(ids.min(IDS).div_ceil(64), 0)?;
         Ok(ThreadIdManager {
-            words,
-            peak: 0,
-            full: 0,
+            bits: IdBits {
+                words,
+                peak: 0,
+                lowest: 0,
+            },
+            returned: IDS,
         })
     }
 
@@ -87,23 +90,28 @@ impl ThreadIdManager {
     /// held and there is no room for one more.
     ///
     /// `Memory` means out of memory. `Exhausted` means that all 2^63 - 1 ids are held.
+    #[inline(always)]
     pub fn alloc(&mut self) -> Result<usize, LocalError>
         ensures ok { IfOk result (λ id. Takes self.old self.new id) }
         ensures memory { result ≡ Err (LocalError.Memory alloc_error) → NeedsMemory self.old }
         ensures exhausted { result ≡ Err LocalError.Exhausted → IsExhausted self.old }
         ensures err { OnErr result (self.new ≡ self.old) }
     {
-        let id = next_unset(&self.words, self.full);
+        let id = self.returned;
+        if id < self.bits.lowest() {
+            self.returned = IDS;
+            return Ok(id);
+        }
+        if id != IDS {
+            self.returned = IDS;
+            self.bits.free(id);
+        }
+        let id = self.bits.lowest();
         // The last word has a bit past the last id.
         if id >= IDS {
             return Err(LocalError::Exhausted);
         }
-        if id / 64 == self.words.len() {
-            self.words.push(0)?;
-        }
-        self.words[id / 64] ^= 1 << (id % 64);
-        self.peak = self.peak.max(id + 1);
-        self.full = id / 64;
+        self.bits.set_lowest()?;
         Ok(id)
     }
 
@@ -113,23 +121,27 @@ impl ThreadIdManager {
         ensures peak_in_room { length self.now.held ≤ self.now.room }
         ensures room_in_range { self.now.room ≤ 2 ^ 63 - 1 }
     {
-        id / 64 < self.words.len() && (self.words[id / 64] >> (id % 64)) & 1 == 1
+        self.returned != id && self.bits.is_held(id)
     }
 
     /// The peak: the most ids held at one moment since the manager was new or cleared.
     pub fn peak(&self) -> usize
         ensures { result ≡ length self.now.held }
     {
-        self.peak
+        self.bits.peak()
     }
 
     /// Takes back an id, which the caller shows to be held.
+    #[inline(always)]
     pub fn free(&mut self, id: usize)
         requires { IsTrue (is_held self.old.held id) }
         ensures { Gives self.old self.new id }
     {
-        self.words[id / 64] ^= 1 << (id % 64);
-        self.full = self.full.min(id / 64);
+        let before = self.returned;
+        self.returned = id;
+        if before != IDS {
+            self.bits.free(before);
+        }
     }
 
     /// Takes every id back. The peak starts again from 0, and the room stays.
@@ -137,16 +149,98 @@ impl ThreadIdManager {
         ensures held { self.new.held ≡ [] }
         ensures room { self.new.room ≡ self.old.room }
     {
+        self.returned = IDS;
+        self.bits.clear();
+    }
+}
+
+/// A bit for each id. Contracts see the ids whose bit is set as held.
+#[derive(Drop)]
+struct IdBits {
+    // 64 bits to a word, the lowest first.
+    words: Vec<u64>,
+    // No bit from the peak on is set.
+    peak: usize,
+    // The lowest bit that isn't set.
+    lowest: usize,
+}
+
+impl Model for IdBits {
+    ghost use Rattle.thread_local_base.specs.Held.{Manager};
+
+    ghost Value = { Manager };
+
+    ghost use Rattle.thread_local_base.specs.Words.{manager_of, IsManager};
+
+    ghost view = { λ m. manager_of m.words.items m.peak };
+
+    ghost invariant = { λ m. IsManager m.words.items m.peak m.lowest };
+}
+
+impl IdBits {
+    /// The lowest bit that isn't set.
+    fn lowest(&self) -> usize
+        ensures { result ≡ least self.now.held }
+    {
+        self.lowest
+    }
+
+    /// The most bits that were set at one moment.
+    fn peak(&self) -> usize
+        ensures { result ≡ length self.now.held }
+    {
+        self.peak
+    }
+
+    /// Sets the lowest bit that isn't set, for which it asks for memory where there is no room.
+    #[inline(never)]
+    fn set_lowest(&mut self) -> Result<(), AllocError>
+        requires { least self.old.held < 2 ^ 63 - 1 }
+        ensures ok { OnOk result (Takes self.old self.new (least self.old.held)) }
+        ensures memory { result ≡ Err alloc_error → NeedsMemory self.old }
+        ensures err { OnErr result (self.new ≡ self.old) }
+    {
+        let id = self.lowest;
+        if id / 64 == self.words.len() {
+            self.words.push(0)?;
+        }
+        self.words[id / 64] ^= 1 << (id % 64);
+        self.peak = self.peak.max(id + 1);
+        self.lowest = next_unset(&self.words, id / 64);
+        Ok(())
+    }
+
+    /// Whether a bit is set. `id` may be any number.
+    fn is_held(&self, id: usize) -> bool
+        ensures { result ≡ is_held self.now.held id }
+    {
+        id / 64 < self.words.len() && (self.words[id / 64] >> (id % 64)) & 1 == 1
+    }
+
+    /// Clears a bit that is set.
+    #[inline(never)]
+    fn free(&mut self, id: usize)
+        requires { IsTrue (is_held self.old.held id) }
+        ensures { Gives self.old self.new id }
+    {
+        self.words[id / 64] ^= 1 << (id % 64);
+        self.lowest = self.lowest.min(id);
+    }
+
+    /// Clears every bit.
+    fn clear(&mut self)
+        ensures held { self.new.held ≡ [] }
+        ensures room { self.new.room ≡ self.old.room }
+    {
         self.words.fill(0);
         self.peak = 0;
-        self.full = 0;
+        self.lowest = 0;
     }
 }
 
 /// The lowest bit that isn't set, from word `from` on. Past the last word no bit is set.
 fn next_unset(words: &[u64], from: usize) -> usize
-    requires within { from ≤ length words.now }
-    requires few { length words.now ≤ 2 ^ 57 }
+    requires { (from ≤ length words.now) × (length words.now ≤ 2 ^ 57) }
     ensures { IsNextUnset words.now (from * 64) result }
 {
     for at in from..words.len() {

@@ -1,6 +1,6 @@
 use Rattle.std.proofs.lemmas.List.{length-set}
 use Rattle.thread_local_base.proofs.Words.{bit_turned, has_word, freed, gives_it}
-use Rattle.thread_local_base.proofs.manager.ThreadIdManager.free.Goals as goal
+use Rattle.thread_local_base.proofs.manager.IdBits.free.Goals as goal
 
 pub invariant_of-self : goal.invariant_of-self
 invariant_of-self c =

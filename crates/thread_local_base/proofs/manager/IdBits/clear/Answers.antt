@@ -1,5 +1,5 @@
 use Rattle.thread_local_base.proofs.Words.{of_zeros}
-use Rattle.thread_local_base.proofs.manager.ThreadIdManager.clear.Goals as goal
+use Rattle.thread_local_base.proofs.manager.IdBits.clear.Goals as goal
 
 pub invariant_of-self : goal.invariant_of-self
 invariant_of-self c =

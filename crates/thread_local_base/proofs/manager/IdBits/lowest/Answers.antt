@@ -1,0 +1,5 @@
+use Rattle.thread_local_base.proofs.Words.{seen_least}
+use Rattle.thread_local_base.proofs.manager.IdBits.lowest.Goals as goal
+
+pub returns : goal.returns
+returns c = rw (← c.self.view_is) (seen_least c.self.inside.words.items c.self.inside.peak c.self.inside.lowest c.self.invariant)
