@@ -80,12 +80,12 @@ module _ {M : Type 1} {𝓤 : Ura M} (𝓛 : Logic 𝓤) (R : RattleType) where
         let e : ℕ = value_offset R (count_of s.at) i in
         let η : GName = name_at s.names i in
         let bit : ℕ = i % 64 in
-        let S : Option R.Denot → Fml = stays R t b s.block_life d k e η in
+        let S : Option R.Denot → Fml = stays R t b s.block_life d.sharing k e η in
         let D : Option R.Denot → Who → Fml = lies_with_slot R t b s.block_life d.sharing d.table k e η in
         let Flags : ℕ → Fml = inside.Flags 𝓛 R (placed d t wb wo s i k e b l at_k refl refl) in
         let Slot : _ → Fml = inside.Slot 𝓛 R (placed d t wb wo s i k e b l at_k refl refl) in
         let Back : (n : ℕ) → Next n bit → SProp 𝓤 = inside.Back 𝓛 R (placed d t wb wo s i k e b l at_k refl refl) ⟦ I ⟧ in
-        let Empty : Fml = moves.Holds 𝓛 R t b s.block_life d k e η None in
+        let Empty : Fml = moves.Holds 𝓛 R t b s.block_life d.sharing d.table k e η None in
         qed 𝓛 (some (λ (n : ℕ).
         given (n < 2 ^ 64) (‵ (Flags n) ⊛ ‵ (Slot (is_set n bit)) ⊛ raw (all 𝓤 (Back n))))
         ∷ (‵ Pass ⊛ ‵ Told) ∷ []) ∵
@@ -95,7 +95,7 @@ module _ {M : Type 1} {𝓤 : Ura M} (𝓛 : Logic 𝓤) (R : RattleType) where
         -- [the pass; what is told; what stands; who has it; the loan; the word; the way back]
         move ! (2 ∷ 3 ∷ 0 ∷ []) $
         use3 𝓛 (given (z.0 ≡ None) (‵ (S z.0) ⊛ ‵ (D z.0 slots.claimed) ⊛ ‵ Empty))
-        (moves.early_claims 𝓛 R t b s.block_life d k e η z.0 z.1) $
+        (moves.early_claims 𝓛 R t b s.block_life d.sharing d.table k e η z.0 z.1) $
         learn ! (λ none. split ! $
         rewrite ! 0 (λ (v : Option R.Denot). ‵ (S v)) none refl $ fsplit ! $ keep ! (1 ∷ 3 ∷ []) $ by ! (empty Gone)))))
 
@@ -127,7 +127,7 @@ module _ {M : Type 1} {𝓤 : Ura M} (𝓛 : Logic 𝓤) (R : RattleType) where
           qed 𝓛 (‵ (S v) ∷ ‵ (D v w) ∷ (‵ (Holds None) ⊛ ‵ Told) ∷ []) ∵ move ! (2 ∷ []) $ split ! $
           move ! (2 ∷ 3 ∷ 0 ∷ []) $
           use3 𝓛 (given (v ≡ None) (‵ (S v) ⊛ ‵ (D v slots.claimed) ⊛ ‵ (Holds None)))
-          (moves.known 𝓛 R t b s.block_life d k e (name_at s.names i) v None w) $
+          (moves.known 𝓛 R t b s.block_life d.sharing d.table k e (name_at s.names i) v None w) $
           learn ! (λ none. split ! $
           rewrite ! 0 (λ (u : Option R.Denot). ‵ (S u)) none refl $ fsplit ! $ keep ! (1 ∷ 3 ∷ []) $ by ! (empty (ex 𝓤 F))))
 

@@ -1,50 +1,44 @@
 -- A load of the word of announced buckets finds the bucket of each token that a list has. Assumes
 -- `Logic`.
-use Rattle.std.proofs.Common.{◌≡◌, ℕ, zero, suc, ◌+◌, ◌<◌, ◌≤◌, Bool, true, false, List, [], ◌∷◌, length, refl, subst, arith, Option, None, Some}
-use Rattle.std.proofs.lemmas.Option.{none-some}
+use Rattle.std.proofs.Common.{◌≡◌, ℕ, zero, suc, ◌+◌, ◌<◌, ◌≤◌, Bool, true, false, List, [], ◌∷◌, length, refl, subst, arith}
 use seplogic.Ra.Ura.{Ura}
-use base.Logic.{SProp, guard, upd, upd_i, apply∗}
+use base.Logic.{SProp, guard, upd, upd_i}
 use base.Fml.{Lft, Share, Fml, ftrue, fsep, fex, flft, fbor}
 use prog.Model.{Model}
 use contract.Running.{Running}
 use types.Logic.{Logic}
-use types.Kit.{‵, raw, ◌⊛◌, given, later, assume, pick, learn, check, suffices, ◌$◌, ◌∵◌, !, qed, move}
+use types.Kit.{‵, ◌⊛◌, given, later, pick, learn, check, suffices, ◌$◌, ◌∵◌, !, qed, move}
 use types.Kit.{keep, drop, split, split3, fsplit, fsplit3, fjoin, fjoin3, fpick, fpack, rewrite, await, updating, now, use1, use2, use3, done}
 use denote.RattleType.{RattleType}
-use denote.RawPtr.{Ptr, block_ptr, null_ptr, block_of, count_of}
+use denote.RawPtr.{Ptr, block_ptr, null_ptr}
 use denote.Memory.{shared_of, each_shared}
 use denote.Steps.{nothing}
 use Rattle.std.specs.Sync.RawAtomic.{asks, always}
 use Rattle.std.specs.Sync.RawAtomic.Pointer.{cell}
 use Rattle.thread_local_base.proofs.Walking.{lends_token, returns_token}
-use Rattle.thread_local_base.specs.Bits.{is_set, is_set_in}
+use Rattle.thread_local_base.specs.Bits.{is_set}
 use Rattle.thread_local_base.specs.Fact.{fact}
 use Rattle.thread_local_base.specs.SharedWord.{word_invariant}
 use Rattle.thread_local_base.proofs.SharedWord.{stepped}
 use Rattle.thread_local_base.proofs.Signs.{signs}
 use Rattle.thread_local_ids.specs.TokenViews.{TokenView}
-use Rattle.thread_local_ids.specs.Told.{untold_in}
-use Rattle.thread_local_ids.specs.TokenLists.{AllOf, NoneIn, tell_each}
-use Rattle.thread_local_ids.proofs.TokenListLaws.{slot_agrees}
-use Rattle.thread_local_buckets.specs.Slots.{each, value_offset}
+use Rattle.thread_local_ids.specs.TokenLists.{NoneIn, tell_each}
 use Rattle.thread_local_shared_buckets.specs.Announcing.{Announcing, BeginsWithFirst, announced, lies_with_word}
-use Rattle.thread_local_shared_buckets.specs.Shared.{BucketView, Turn, StandingBlock, Who, len, first, all_unborn, standing, beside_pointer}
-use Rattle.thread_local_shared_buckets.specs.Shared.{bucket_invariant, shared_slot_as, shared_slot, numbered_slot}
+use Rattle.thread_local_shared_buckets.specs.Shared.{BucketView, Turn, StandingBlock, len, first, all_unborn, standing, beside_pointer}
+use Rattle.thread_local_shared_buckets.specs.Shared.{bucket_invariant, grown}
 use Rattle.thread_local_shared_buckets.specs.TableView.{TableView, bucket_view}
 use Rattle.thread_local_shared_buckets.specs.contracts.shared_bucket.SharedBucket as shared_bucket
-use Rattle.thread_local_shared_buckets.proofs.AnnouncingLaws.{shows, StaySet, stay_set, none_past, announced_twice}
-use Rattle.thread_local_shared_buckets.proofs.Inside.{quietly, Under, block_in}
-use Rattle.thread_local_shared_buckets.proofs.ChunkLooks.{all_from}
+use Rattle.thread_local_shared_buckets.proofs.AnnouncingLaws.{shows, first_set, none_past}
+use Rattle.thread_local_shared_buckets.proofs.Inside.{quietly}
 use Rattle.thread_local_shared_buckets.proofs.Lists.{AreOf}
-use Rattle.thread_local_shared_buckets.proofs.Loads.{NoneThere, unborn_unlisted}
+use Rattle.thread_local_shared_buckets.proofs.Loads.{NoneThere, unborn_unlisted, grown_twice}
 
 module _ {M : Type 1} {𝓤 : Ura M} (𝓛 : Logic 𝓤) (R : RattleType) (tokens : List (TokenView R.Denot)) where
   open 𝓛 use {H, A}
-  open signs 𝓛 use {⟦◌⟧, ◌⊢◌, ◌∗◌, ◌-∗◌}
+  open signs 𝓛 use {⟦◌⟧, ◌⊢◌, ◌∗◌}
 
   infix 26 ◌⊢◌
   infixr 35 ◌∗◌
-  infixr 30 ◌-∗◌
   abbrev Telling : Fml
   Telling = tell_each R tokens
 
@@ -71,126 +65,6 @@ module _ {M : Type 1} {𝓤 : Ura M} (𝓛 : Logic 𝓤) (R : RattleType) (token
     none_in : NoneThere 𝓛 R d t tokens → NoneIn d.sharing d.bucket tokens
     none_in absent name k x low same i near at = absent i near name k x low same (omega (arith, at))
 
-    -- no token is of this id
-    abbrev NoToken : ℕ → Type 0
-    NoToken k = AllOf d.sharing (λ p. p.id ≡ k → ⊥) tokens
-
-    -- the bucket is announced, or no token is of these n ids from k on
-    abbrev sure_of : ℕ → ℕ → Bool → Fml
-    sure_of n k true = announced d.word d.bucket
-    sure_of n k false = fact ((j : ℕ) → j < n → NoToken (j + k))
-
-    -- a slot tells which, by whether it holds a value
-    module _ (b ν k e : ℕ) (η : ℕ) (set : Bool) where
-      abbrev As : Option R.Denot × Who → Fml
-      As = shared_slot_as R t b ν d set k e η
-
-      one_none : NoToken k → (j : ℕ) → j < 1 → NoToken (j + k)
-      one_none none j near = let at : k ≡ j + k = omega (arith, near) in subst NoToken at none
-
-      as_sure : (v : Option R.Denot) (w : Who)
-          → ⟦ As (v, w) ⟧ ∗ ⟦ Telling ⟧ ⊢ ⟦ As (v, w) ⟧ ∗ ⟦ Telling ⟧ ∗ ⟦ fex Bool (sure_of 1 k) ⟧
-      as_sure None w =
-          let Untold : Fml = untold_in d.sharing k in
-          let Says : Type 0 = AllOf d.sharing (λ p. p.id ≡ k → ◌≡◌ {A = Option R.Denot} None (Some p.value)) tokens in
-          qed 𝓛 (‵ (As (None, w)) ∷ ‵ Telling ∷ []) ∵ fsplit3 ! $ fpick ! (λ unset. drop ! $
-          -- [what stays; who has it; what the tokens tell]
-          fsplit ! $ move ! (1 ∷ 3 ∷ []) $
-          use2 𝓛 (given Says (‵ Untold ⊛ ‵ Telling)) (slot_agrees 𝓛 R d.sharing k None tokens) $ learn ! (λ says. split ! $
-          nothing ! $ fpack ! ((j : ℕ) → j < 1 → NoToken (j + k)) (λ _. ftrue)
-          (one_none (λ named i x low same at. none-some _ (says named i x low same at))) $
-          fpack ! Bool (sure_of 1 k) false $
-          -- [it is sure; untold; what the tokens tell; the right; who has it]
-          move ! (3 ∷ 1 ∷ []) $ fjoin ! $ move ! (0 ∷ 3 ∷ []) $ nothing ! $ fpack ! (set ≡ false) (λ _. ftrue) unset $ fjoin3 ! $
-          move ! (0 ∷ 2 ∷ 1 ∷ []) $ done !))
-      as_sure (Some x) w =
-          let Known : Fml = announced d.word d.bucket in
-          qed 𝓛 (‵ (As (Some x, w)) ∷ ‵ Telling ∷ []) ∵ fsplit3 ! $ fpick ! (λ is. drop ! $ fsplit3 ! $ fsplit ! $ move ! (1 ∷ []) $
-          use1 𝓛 (‵ Known ⊛ ‵ Known) (announced_twice 𝓛 d.word d.bucket) $ split ! $ fpack ! Bool (sure_of 1 k) true $
-          -- [it is sure; it is announced; the right; what is published; opened; who has it; what the tokens tell]
-          move ! (2 ∷ 1 ∷ []) $ fjoin ! $ move ! (0 ∷ 2 ∷ 3 ∷ []) $ fjoin3 ! $ move ! (0 ∷ 2 ∷ []) $
-          nothing ! $ fpack ! (set ≡ true) (λ _. ftrue) is $ fjoin3 ! $ move ! (0 ∷ 2 ∷ 1 ∷ []) $ done !)
-
-      slot_sure : ⟦ shared_slot R t b ν d set k e η ⟧ ∗ ⟦ Telling ⟧
-          ⊢ ⟦ shared_slot R t b ν d set k e η ⟧ ∗ ⟦ Telling ⟧ ∗ ⟦ fex Bool (sure_of 1 k) ⟧
-      slot_sure =
-          qed 𝓛 (‵ (shared_slot R t b ν d set k e η) ∷ ‵ Telling ∷ []) ∵ fsplit ! $ move ! (1 ∷ []) $ fpick ! (λ z.
-          move ! (0 ∷ 2 ∷ []) $
-          use2 𝓛 (‵ (As z) ⊛ ‵ Telling ⊛ ‵ (fex Bool (sure_of 1 k))) (as_sure z.0 z.1) $ split3 ! $
-          fpack ! (Option R.Denot × Who) As z $ move ! (3 ∷ 0 ∷ []) $ fjoin ! $ done !)
-
-    -- what is sure of the first id, and of the others
-    both_sure : (n k k' : ℕ) → k' ≡ suc k → (one others : Bool)
-        → ⟦ sure_of 1 k one ⟧ ∗ ⟦ sure_of n k' others ⟧ ⊢ ⟦ fex Bool (sure_of (suc n) k) ⟧
-    both_sure n k k' at true others =
-        qed 𝓛 (‵ (announced d.word d.bucket) ∷ ‵ (sure_of n k' others) ∷ []) ∵ keep ! (0 ∷ []) $
-        fpack ! Bool (sure_of (suc n) k) true $ done !
-    both_sure n k k' at false true =
-        qed 𝓛 (‵ (sure_of 1 k false) ∷ ‵ (announced d.word d.bucket) ∷ []) ∵ keep ! (1 ∷ []) $
-        fpack ! Bool (sure_of (suc n) k) true $ done !
-    both_sure n k k' at false false =
-        qed 𝓛 (‵ (sure_of 1 k false) ∷ ‵ (sure_of n k' false) ∷ []) ∵ fpick ! (λ one. drop ! $ fpick ! (λ others. drop ! $ nothing ! $
-        fpack ! ((j : ℕ) → j < suc n → NoToken (j + k)) (λ _. ftrue)
-        (all_from NoToken n k (let at : 0 + k ≡ k = omega arith in subst NoToken at (one 0 (omega arith))) (subst (λ (m : ℕ). (j : ℕ) → j < n → NoToken (j + m)) at others)) $
-        fpack ! Bool (sure_of (suc n) k) false $ done !))
-
-    module _ (s : StandingBlock) where
-      abbrev Slots : List ℕ → List ℕ → ℕ → Fml
-      Slots ns = each (numbered_slot R t (block_of s.at) s.block_life d (first R d) (count_of s.at) ns)
-
-      slots_sure : (ns names : List ℕ) (i : ℕ)
-          → ⟦ Slots ns names i ⟧ ∗ ⟦ Telling ⟧
-          ⊢ ⟦ Slots ns names i ⟧ ∗ ⟦ Telling ⟧ ∗ ⟦ fex Bool (sure_of (length names) (i + first R d)) ⟧
-      slots_sure ns [] i =
-          qed 𝓛 (‵ ftrue ∷ ‵ Telling ∷ []) ∵ nothing ! $
-          fpack ! ((j : ℕ) → j < 0 → NoToken (j + (i + first R d))) (λ _. ftrue) (λ j near. absurd (omega (arith, near))) $
-          fpack ! Bool (sure_of 0 (i + first R d)) false $ move ! (1 ∷ 2 ∷ 0 ∷ []) $ done !
-      slots_sure ns (η ∷ names) i =
-          let k : ℕ = i + first R d in
-          let One : Fml = numbered_slot R t (block_of s.at) s.block_life d (first R d) (count_of s.at) ns η i in
-          qed 𝓛 (‵ (Slots ns (η ∷ names) i) ∷ ‵ Telling ∷ []) ∵ fsplit ! $ move ! (0 ∷ 2 ∷ []) $
-          use2 𝓛 (‵ One ⊛ ‵ Telling ⊛ ‵ (fex Bool (sure_of 1 k)))
-          (slot_sure (block_of s.at) s.block_life k (value_offset R (count_of s.at) i) η (is_set_in ns i)) $ split3 ! $
-          -- [the slot; what the tokens tell; what is sure of it; the other slots]
-          move ! (3 ∷ 1 ∷ []) $
-          use2 𝓛 (‵ (Slots ns names (suc i)) ⊛ ‵ Telling ⊛ ‵ (fex Bool (sure_of (length names) (suc i + first R d))))
-          (slots_sure ns names (suc i)) $ split3 ! $
-          -- [the other slots; what the tokens tell; what is sure of them; the slot; what is sure of it]
-          move ! (3 ∷ 0 ∷ []) $ fjoin ! $ move ! (3 ∷ []) $ fpick ! (λ one. move ! (3 ∷ []) $ fpick ! (λ others. move ! (1 ∷ 0 ∷ []) $
-          use2 𝓛 (‵ (fex Bool (sure_of (suc (length names)) k))) (both_sure (length names) k (suc i + first R d) (omega arith) one others) $
-          move ! (1 ∷ 2 ∷ 0 ∷ []) $ done !))
-
-    -- what a block tells is said beside it
-    abbrev Out : SProp 𝓤 → SProp 𝓤
-    Out P = ⟦ Telling ⟧ -∗ (P ∗ ⟦ Telling ⟧ ∗ ⟦ sure d ⟧)
-
-    lifted : (P Q X : SProp 𝓤) → P ∗ X ⊢ Q → Out P ∗ X ⊢ Out Q
-    lifted P Q X law =
-        qed 𝓛 (raw (Out P) ∷ raw X ∷ []) ∵ assume ! (‵ Telling) $
-        use2 𝓛 (raw P ⊛ ‵ Telling ⊛ ‵ (sure d)) (apply∗ 𝓤 ⟦ Telling ⟧ (P ∗ ⟦ Telling ⟧ ∗ ⟦ sure d ⟧)) $ split3 ! $
-        move ! (0 ∷ 3 ∷ []) $ use2 𝓛 (raw Q) law $ done !
-
-    sure_all : (n : ℕ) → n ≡ len R d → (is : Bool) → ⟦ sure_of n (0 + first R d) is ⟧ ⊢ ⟦ sure d ⟧
-    sure_all n long true = qed 𝓛 (‵ (announced d.word d.bucket) ∷ []) ∵ fpack ! Bool (sure_by d) true $ done !
-    sure_all n long false =
-        qed 𝓛 (‵ (sure_of n (0 + first R d) false) ∷ []) ∵ fpick ! (λ none. drop ! $ nothing ! $
-        fpack ! (NoneIn d.sharing d.bucket tokens) (λ _. ftrue) (none_in (λ i near.
-        let at : i + (0 + first R d) ≡ i + first R d = omega arith in
-        subst NoToken at (none i (omega (arith, near, long))))) $
-        fpack ! Bool (sure_by d) false $ done !)
-
-    in_row : (s : StandingBlock) (ns : List ℕ) → length s.names ≡ len R d
-        → ⟦ Under 𝓛 R d t 0 0 s (block_of s.at) refl ns ⟧ ⊢ Out ⟦ fex (List ℕ) (Under 𝓛 R d t 0 0 s (block_of s.at) refl) ⟧
-    in_row s ns long =
-        qed 𝓛 (‵ (Under 𝓛 R d t 0 0 s (block_of s.at) refl ns) ∷ []) ∵ assume ! (‵ Telling) $ move ! (1 ∷ []) $ fsplit3 ! $
-        -- [that they are words of flags; the words; the slots; what the tokens tell]
-        move ! (2 ∷ 3 ∷ []) $
-        use2 𝓛 (‵ (Slots s ns s.names 0) ⊛ ‵ Telling ⊛ ‵ (fex Bool (sure_of (length s.names) (0 + first R d)))) (slots_sure s ns s.names 0) $
-        split3 ! $ move ! (2 ∷ []) $ fpick ! (λ is. use1 𝓛 (‵ (sure d)) (sure_all (length s.names) long is) $
-        -- [it is sure; the slots; what the tokens tell; that they are words of flags; the words]
-        move ! (3 ∷ 4 ∷ 1 ∷ []) $ fjoin3 ! $ fpack ! (List ℕ) (Under 𝓛 R d t 0 0 s (block_of s.at) refl) ns $
-        move ! (0 ∷ 2 ∷ 1 ∷ []) $ done !)
-
     -- the pointer tells which
     sees_at : (p : Ptr) → ⟦ beside_pointer R d t p ⟧ ∗ ⟦ Telling ⟧
         ⊢ ⟦ beside_pointer R d t p ⟧ ∗ ⟦ Telling ⟧ ∗ ⟦ sure d ⟧
@@ -203,14 +77,15 @@ module _ {M : Type 1} {𝓤 : Ura M} (𝓛 : Logic 𝓤) (R : RattleType) (token
         -- [it is sure; the slots; what the tokens tell; which block stands]
         move ! (3 ∷ 1 ∷ []) $ nothing ! $ fpack ! (d.reserved ≡ false) (λ _. ftrue) free $ fjoin3 ! $
         move ! (0 ∷ 2 ∷ 1 ∷ []) $ done !))
-    sees_at (block_ptr x y) =
-        let p : Ptr = block_ptr x y in
-        qed 𝓛 (‵ (beside_pointer R d t p) ∷ ‵ Telling ∷ []) ∵ fpick ! (λ z.
-        use1 𝓛 (raw (Out ⟦ standing R d t p z ⟧)) (block_in 𝓛 R d t 0 0 z.0 (block_of z.0.at) refl Out lifted (in_row z.0) p z.1) $
-        move ! (1 ∷ 0 ∷ []) $
-        use2 𝓛 (‵ (standing R d t p z) ⊛ ‵ Telling ⊛ ‵ (sure d))
-        (apply∗ 𝓤 ⟦ Telling ⟧ (⟦ standing R d t p z ⟧ ∗ ⟦ Telling ⟧ ∗ ⟦ sure d ⟧)) $ split3 ! $
-        fpack ! (StandingBlock × Share) (standing R d t p) z $ done !)
+    sees_at (block_ptr b o) =
+        let p : Ptr = block_ptr b o in
+        qed 𝓛 (‵ (beside_pointer R d t p) ∷ ‵ Telling ∷ []) ∵ fpick ! (λ z. fsplit ! $ move ! (1 ∷ []) $ fsplit ! $ fsplit3 ! $
+        -- [what the name says now, and for good; what the block shows; the rest; a fact; what the tokens tell]
+        move ! (2 ∷ []) $ use1 𝓛 (‵ (grown d) ⊛ ‵ (grown d)) (grown_twice 𝓛 d) $ split ! $ fsplit ! $ drop ! $
+        fpack ! Bool (sure_by d) true $
+        -- [it is sure; what the block shows; what the name says now, and for good; the rest; a fact; what the tokens tell]
+        move ! (2 ∷ 3 ∷ 1 ∷ []) $ fjoin3 ! $ move ! (0 ∷ 2 ∷ []) $ fjoin ! $ move ! (2 ∷ 0 ∷ []) $ fjoin ! $
+        fpack ! (StandingBlock × Share) (standing R d t p) z $ move ! (0 ∷ 2 ∷ 1 ∷ []) $ done !)
 
     sees : (b o : ℕ) → ⟦ bucket_invariant R d t b o ⟧ ∗ ⟦ Telling ⟧
         ⊢ upd 𝓤 (⟦ bucket_invariant R d t b o ⟧ ∗ ⟦ Telling ⟧ ∗ ⟦ sure d ⟧)
@@ -310,10 +185,11 @@ module _ {M : Type 1} {𝓤 : Ura M} (𝓛 : Logic 𝓤) (R : RattleType) (token
         qed 𝓛 (‵ (lies_with_word m n) ∷ ‵ (all_sure ds) ∷ []) ∵
         use2 𝓛 (given (NoneUnset s m n (length ds) 0) (‵ (lies_with_word m n))) (all_found s m n 0 ds are (omega (arith, long))) $
         learn ! (λ none.
-        use1 𝓛 (given (StaySet 𝓛 m n 7) (‵ (lies_with_word m n))) (stay_set 𝓛 m n 7 (omega arith)) $ learn ! (λ seven.
+        use1 𝓛 (given ((bit : ℕ) → bit < 7 → is_set n bit ≡ true) (‵ (lies_with_word m n))) (first_set 𝓛 m n 7 (omega arith) begins) $
+        learn ! (λ seven.
         use1 𝓛 (given (is_set n 63 ≡ false) (‵ (lies_with_word m n))) (none_past 𝓛 m n) $ learn ! (λ past.
         check ! (record {
-          first = seven 0 (omega arith) (begins 0 (omega arith));
+          first = seven 0 (omega arith);
           none_past = past;
           told = λ bucket low.
               let at : bucket + 0 ≡ bucket = omega arith in

@@ -1,11 +1,8 @@
 -- What lies with the word of announced buckets: it changes as buckets are announced, and shows of a
 -- bucket that was that its bit is set still. Assumes `Logic`.
-use Rattle.std.proofs.Common.{◌≡◌, ◌≢◌, ℕ, zero, suc, ◌+◌, ◌*◌, ◌%◌, ◌^◌, ◌<◌, ◌≤◌, Bool, true, false, [], ◌∷◌, refl, sym, subst, ◌∙◌}
-use Rattle.std.proofs.Common.{arith, ⊎_elim, None, Some, bit_or, bit_and, eqb, ap, ◌/◌, not}
-use lib.Dec.{T}
-use Rattle.std.proofs.lemmas.Bool.{cases_lt, ne_eqb, eq-eqb, eqb-false, false≢true}
-use Rattle.std.proofs.lemmas.Nat.Bits.{bit_at-lt, shr_and_one}
-use Rattle.std.specs.Int.{bit_at}
+use Rattle.std.proofs.Common.{◌≡◌, ◌≢◌, ℕ, zero, suc, ◌+◌, ◌*◌, ◌%◌, ◌^◌, ◌<◌, Bool, true, false, [], ◌∷◌, refl, sym, subst, ◌∙◌}
+use Rattle.std.proofs.Common.{arith, ⊎_elim, None, Some, bit_or}
+use Rattle.std.proofs.lemmas.Bool.{cases_lt, ne_eqb, eq-eqb}
 use Rattle.std.specs.Prelude.{◌==◌, if◌then◌else◌}
 use Rattle.std.specs.Coded.{coded_option}
 use seplogic.Ra.Ura.{Ura}
@@ -23,7 +20,7 @@ use Rattle.thread_local_base.specs.Fact.{fact}
 use Rattle.thread_local_base.specs.SharedWord.{word_invariant}
 use Rattle.thread_local_base.proofs.SharedWord.{stepped}
 use Rattle.thread_local_base.proofs.Signs.{signs}
-use Rattle.thread_local_base.proofs.Word.{set_bit, same_bit as unchanged}
+use Rattle.thread_local_base.proofs.Word.{set_bit}
 use Rattle.thread_local_ids.specs.Told.{untold_in}
 use Rattle.thread_local_ids.specs.Sharings.{later_of}
 use Rattle.thread_local_ids.proofs.ToldElements.{told_dup, tells_it, never_told, source, source_new, all_drawn, New}
@@ -36,17 +33,6 @@ same_bit bit old = rw (eq-eqb bit bit refl) refl
 
 other_bit : (bit i : ℕ) → bit ≢ i → (old : Bool) → (if bit == i then true else old) ≡ old
 other_bit bit i apart old = rw (ne_eqb bit i apart) refl
-
--- a bit is set where the code finds that it isn't 0
-if_not : (b : Bool) → T (not b) → b ≡ false
-if_not true h = absurd h
-if_not false h = refl
-
-pub set_if : (word bit : ℕ) → T (not (eqb (bit_and (word / 2 ^ bit) 1) 0)) → is_set word bit ≡ true
-set_if word bit nonzero =
-    let apart = eqb-false (bit_and (word / 2 ^ bit) 1) 0 (if_not _ nonzero) in
-    let one : bit_at word bit ≡ 1 = omega (arith, shr_and_one word bit, bit_at-lt word bit, apart) in
-    ap (λ b. eqb b 1) one
 
 -- the rights to tell of the buckets below a number that they are announced
 abbrev pub bits_untold : GName → ℕ → Fml
@@ -194,28 +180,16 @@ module _ {M : Type 1} {𝓤 : Ura M} (𝓛 : Logic 𝓤) where
         use2 𝓛 (given (is_set n bit ≡ true) (‵ (lies_with_word m n))) (shows n bit low) $ learn ! (λ is.
         check ! is $ done !)
 
-    -- the bits below a number stay set that were set when the sharing began
-    abbrev pub StaySet : ℕ → ℕ → Type 0
-    StaySet n count = (bit : ℕ) → bit < count → is_set m.begun bit ≡ true → is_set n bit ≡ true
-
-    one_stays : (n bit : ℕ) → bit < 63 → (was : Bool) → is_set m.begun bit ≡ was
-        → ⟦ lies_with_word m n ⟧ ⊢ guard 𝓤 (is_set m.begun bit ≡ true → is_set n bit ≡ true) ⟦ lies_with_word m n ⟧
-    one_stays n bit low true was =
+    pub first_set : (n count : ℕ) → count < 63 → ((bit : ℕ) → bit < count → is_set m.begun bit ≡ true)
+        → ⟦ lies_with_word m n ⟧ ⊢ guard 𝓤 ((bit : ℕ) → bit < count → is_set n bit ≡ true) ⟦ lies_with_word m n ⟧
+    first_set n zero low was = qed 𝓛 (‵ (lies_with_word m n) ∷ []) ∵ check ! (λ bit near. absurd (omega (arith, near))) $ done !
+    first_set n (suc c) low was =
         qed 𝓛 (‵ (lies_with_word m n) ∷ []) ∵
-        use1 𝓛 (given (is_set n bit ≡ true) (‵ (lies_with_word m n))) (begun_set n bit low was) $ learn ! (λ is. check ! (λ _. is) $ done !)
-    one_stays n bit low false was =
-        qed 𝓛 (‵ (lies_with_word m n) ∷ []) ∵ check ! (λ is. absurd (false≢true (sym was ∙ is))) $ done !
-
-    pub stay_set : (n count : ℕ) → count ≤ 63 → ⟦ lies_with_word m n ⟧ ⊢ guard 𝓤 (StaySet n count) ⟦ lies_with_word m n ⟧
-    stay_set n zero low = qed 𝓛 (‵ (lies_with_word m n) ∷ []) ∵ check ! (λ bit near. absurd (omega (arith, near))) $ done !
-    stay_set n (suc c) low =
-        qed 𝓛 (‵ (lies_with_word m n) ∷ []) ∵
-        use1 𝓛 (given (StaySet n c) (‵ (lies_with_word m n))) (stay_set n c (omega (arith, low))) $ learn ! (λ below.
-        use1 𝓛 (given (is_set m.begun c ≡ true → is_set n c ≡ true) (‵ (lies_with_word m n)))
-        (one_stays n c (omega (arith, low)) (is_set m.begun c) refl) $
+        use1 𝓛 (given ((bit : ℕ) → bit < c → is_set n bit ≡ true) (‵ (lies_with_word m n)))
+        (first_set n c (omega (arith, low)) (λ bit near. was bit (omega (arith, near)))) $ learn ! (λ below.
+        use1 𝓛 (given (is_set n c ≡ true) (‵ (lies_with_word m n))) (begun_set n c (omega (arith, low)) (was c (omega arith))) $
         learn ! (λ last. check ! (λ bit near. ⊎_elim (λ (under : bit < c). below bit under)
-        (λ above. let here : c ≡ bit = omega (arith, near, above) in
-        subst (λ (k : ℕ). is_set m.begun k ≡ true → is_set n k ≡ true) here last) (cases_lt bit c)) $
+        (λ above. let here : c ≡ bit = omega (arith, near, above) in subst (λ (k : ℕ). is_set n k ≡ true) here last) (cases_lt bit c)) $
         done !))
 
     pub none_past : (n : ℕ) → ⟦ lies_with_word m n ⟧ ⊢ guard 𝓤 (is_set n 63 ≡ false) ⟦ lies_with_word m n ⟧
@@ -275,29 +249,9 @@ module _ {M : Type 1} {𝓤 : Ura M} (𝓛 : Logic 𝓤) where
       use1 𝓛 (‵ (lies_with_bits (record { name = γ; begun = n }) n 63)) (bits_begin γ n 63) $
       nothing ! $ fpack ! (is_set n 63 ≡ false) (λ _. ftrue) none $ fjoin ! $ done !
 
-  -- what a load of the word sees of a bucket, by whether its bit is set
-  abbrev pub seen_of : Announcing → ℕ → Bool → Fml
-  seen_of m bit true = announced m bit
-  seen_of m bit false = ftrue
-
-  glimpsed : (m : Announcing) (n bit : ℕ) → bit < 63 → (set : Bool) → is_set n bit ≡ set
-      → ⟦ lies_with_word m n ⟧ ⊢ upd 𝓤 (⟦ lies_with_word m n ⟧ ∗ ⟦ seen_of m bit set ⟧)
-  glimpsed m n bit low true is = raised m n n bit low (unchanged n bit true is)
-  glimpsed m n bit low false is =
-      qed 𝓛 (‵ (lies_with_word m n) ∷ []) ∵ suffices ! _ (upd_i 𝓤 (⟦ lies_with_word m n ⟧ ∗ ⟦ ftrue ⟧)) $ nothing ! $
-      move ! (1 ∷ 0 ∷ []) $ done !
-
   module _ (m : Announcing) (b o : ℕ) (κ : Lft) (q : Share) where
     abbrev I : Fml
     I = word_invariant (lies_with_word m) b (o + 0)
-
-    -- the atomic load that sees a bucket's bit
-    pub sees : (bit : ℕ) → bit < 63
-        → A.inv (fbor κ I) ∗ (A.lft κ q ∗ ⟦ ftrue ⟧)
-        ⊢ asks 𝓛 (block_ptr b (o + 0)) (λ n. n) always (λ n. fsep (flft κ q) (seen_of m bit (is_set n bit)))
-    sees bit low =
-        stepped 𝓛 (lies_with_word m) b (o + 0) κ q (λ n. n) (λ n. seen_of m bit (is_set n bit)) ftrue (λ n.
-        qed 𝓛 (‵ (lies_with_word m n) ∷ ‵ ftrue ∷ []) ∵ keep ! (0 ∷ []) $ by ! (glimpsed m n bit low (is_set n bit) refl))
 
     -- the atomic step that sets the bit of a bucket
     pub sets : (bit mask : ℕ) → bit < 63 → mask ≡ 1 * 2 ^ bit % 2 ^ 64

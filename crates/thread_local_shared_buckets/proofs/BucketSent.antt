@@ -18,20 +18,12 @@ use Rattle.thread_local_shared_buckets.specs.Shared.{BucketView, Turn, StandingB
 use Rattle.thread_local_shared_buckets.specs.Shared.{tracked_value, pinned_and_told, by, holds, stays, lies_with_slot, shared_slot}
 use Rattle.thread_local_shared_buckets.specs.Shared.{numbered_slot, slots_side, all_unborn, rests, slots_rest, block_rests}
 use Rattle.thread_local_shared_buckets.specs.Shared.{block_stands, beside_pointer, kept, loaded, row_owns, at_rest, len}
-use Rattle.thread_local_shared_buckets.specs.Shared.{first, shown_by, grown, announced_unless, announced_for, if_set, seen_value, seen_slot, seen_owns}
+use Rattle.thread_local_shared_buckets.specs.Shared.{first, shown_by, grown, if_set, seen_value, seen_slot, seen_owns}
 use Rattle.thread_local_shared_buckets.proofs.AnnouncingSent.{announced_keyless}
 use Rattle.thread_local_buckets.proofs.Sent.{token_keyless, each_keyless, place_keyless, back_keyless}
 
-unless_keyless : (d : BucketView) (reserved : Bool) → Keyless (announced_unless d reserved)
-unless_keyless d true = tt
-unless_keyless d false = announced_keyless d.word d.bucket
-
-for_keyless : {V : Type 0} (d : BucketView) (v : Option V) → Keyless (announced_for d v)
-for_keyless d None = tt
-for_keyless d (Some x) = announced_keyless d.word d.bucket
-
 pub grown_keyless : (d : BucketView) → Keyless (grown d)
-grown_keyless d = (reached_keyless d.table (shown_by d), unless_keyless d d.reserved)
+grown_keyless d = (reached_keyless d.table (shown_by d), announced_keyless d.word d.bucket)
 
 module _ (R : RattleType) (s : IsSend R) where
   words_keyless : (n b o : ℕ) (ns : List ℕ) → Keyless (each (flags_at R n b o) ns 0)
@@ -53,29 +45,25 @@ module _ (R : RattleType) (s : IsSend R) where
       holds_keyless k e η None = (right_keyless t.vacant k, (tt, value_keyless b e η))
       holds_keyless k e η (Some x) = (right_keyless t.filled k, (published_keyless k η x, by_keyless e η x))
 
+      pub stays_keyless : (k e : ℕ) (η : GName) (v : Option R.Denot) → Keyless (stays R t b ν sharing k e η v)
+      stays_keyless k e η None = (right_keyless t.filled k, untold_keyless sharing k)
+      stays_keyless k e η (Some x) = (right_keyless t.vacant k, (published_keyless k η x, λ j. j x b e (ν ∷ t.life)))
+
       pub lies_with_slot_keyless : (table k e : ℕ) (η : GName) (v : Option R.Denot) (w : Who) → Keyless (lies_with_slot R t b ν sharing table k e η v w)
       lies_with_slot_keyless table k e η v free = (right_keyless t.pass k, holds_keyless k e η v)
       lies_with_slot_keyless table k e η v claimed = (right_keyless table k, right_keyless t.pass k)
       lies_with_slot_keyless table k e η v early = (right_keyless table k, holds_keyless k e η None)
 
-    module _ (d : BucketView) where
-      pub stays_keyless : (k e : ℕ) (η : GName) (v : Option R.Denot) → Keyless (stays R t b ν d k e η v)
-      stays_keyless k e η None = (right_keyless t.filled k, untold_keyless d.sharing k)
-      stays_keyless k e η (Some x) = (
-        (right_keyless t.vacant k, announced_keyless d.word d.bucket),
-        (published_keyless d.sharing k η x, λ j. j x b e (ν ∷ t.life)),
-      )
-
-      slot_keyless : (set : Bool) (k e : ℕ) (η : GName) → Keyless (shared_slot R t b ν d set k e η)
-      slot_keyless set k e η = (
+      slot_keyless : (table : ℕ) (set : Bool) (k e : ℕ) (η : GName) → Keyless (shared_slot R t b ν sharing table set k e η)
+      slot_keyless table set k e η = (
         value_keyless b e η,
-        λ z. ((λ _. tt), (stays_keyless k e η z.0, lies_with_slot_keyless d.sharing d.table k e η z.0 z.1)),
+        λ z. ((λ _. tt), (stays_keyless k e η z.0, lies_with_slot_keyless table k e η z.0 z.1)),
       )
 
-      slots_keyless : (k o : ℕ) (names ns : List ℕ) → Keyless (each (numbered_slot R t b ν d k o ns) names 0)
-      slots_keyless k o names ns =
-          each_keyless (numbered_slot R t b ν d k o ns)
-          (λ η i. slot_keyless (is_set_in ns i) (i + k) (value_offset R o i) η) names 0
+      slots_keyless : (table k o : ℕ) (names ns : List ℕ) → Keyless (each (numbered_slot R t b ν sharing table k o ns) names 0)
+      slots_keyless table k o names ns =
+          each_keyless (numbered_slot R t b ν sharing table k o ns)
+          (λ η i. slot_keyless table (is_set_in ns i) (i + k) (value_offset R o i) η) names 0
 
   slots_side_keyless : (w : Bool) (table pass k : ℕ) → Keyless (slots_side R w table pass k)
   slots_side_keyless true table pass k = right_keyless table k
@@ -97,7 +85,7 @@ module _ (R : RattleType) (s : IsSend R) where
       let o : ℕ = count_of p in (
         (λ ns. (
           (λ _. tt),
-          (words_keyless (len R d) b o ns, slots_keyless t b z.block_life d (first R d) o z.names ns),
+          (words_keyless (len R d) b o ns, slots_keyless t b z.block_life d.sharing d.table (first R d) o z.names ns),
         )),
         back_keyless R s b o (len R d),
       )
@@ -123,22 +111,16 @@ module _ (R : RattleType) (s : IsSend R) where
   rests_keyless true b e None = λ z. (tt, value_keyless b e z.1)
   rests_keyless true b e (Some x) = λ z. (tt, (tt, value_keyless b e z.1))
 
-  slots_rest_keyless : (d : BucketView) (k n i b o : ℕ) (ns : List ℕ) → Keyless (slots_rest R d k n i b o ns)
-  slots_rest_keyless d k zero i b o ns = tt
-  slots_rest_keyless d k (suc n) i b o ns = (
-    (λ z. (
-      (λ _. tt),
-      (
-        (told_or_untold_keyless R d.sharing (i + k) z.0, for_keyless d z.0),
-        rests_keyless z.1 b (value_offset R o i) z.0,
-      ),
-    )),
-    slots_rest_keyless d k n (suc i) b o ns,
+  slots_rest_keyless : (sharing : Option GName) (k n i b o : ℕ) (ns : List ℕ) → Keyless (slots_rest R sharing k n i b o ns)
+  slots_rest_keyless sharing k zero i b o ns = tt
+  slots_rest_keyless sharing k (suc n) i b o ns = (
+    (λ z. ((λ _. tt), (told_or_untold_keyless R sharing (i + k) z.0, rests_keyless z.1 b (value_offset R o i) z.0))),
+    slots_rest_keyless sharing k n (suc i) b o ns,
   )
 
-  block_rests_keyless : (d : BucketView) (k n b o : ℕ) → Keyless (block_rests R d k n b o)
-  block_rests_keyless d k n b o = (
-    (λ ns. ((λ _. tt), (words_keyless n b o ns, slots_rest_keyless d k n 0 b o ns))),
+  block_rests_keyless : (sharing : Option GName) (k n b o : ℕ) → Keyless (block_rests R sharing k n b o)
+  block_rests_keyless sharing k n b o = (
+    (λ ns. ((λ _. tt), (words_keyless n b o ns, slots_rest_keyless sharing k n 0 b o ns))),
     back_keyless R s b o n,
   )
 
@@ -147,7 +129,7 @@ module _ (R : RattleType) (s : IsSend R) where
   at_rest_keyless d (block_ptr b o) = (
     (λ _. tt),
     (
-      block_rests_keyless d (first R d) (len R d) b o,
+      block_rests_keyless d.sharing (first R d) (len R d) b o,
       (token_keyless (block_ty R (len R d)) (block_ptr b o), grown_keyless d),
     ),
   )

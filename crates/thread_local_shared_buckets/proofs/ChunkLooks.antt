@@ -144,10 +144,10 @@ module _ {M : Type 1} {𝓤 : Ura M} (𝓛 : Logic 𝓤) where
     Value k e η x = fsep (pinned_and_told R d.sharing k η x) (opened R t b s.block_life e x)
 
     abbrev SlotAs : Bool → ℕ → ℕ → GName → Option R.Denot × Who → Fml
-    SlotAs = shared_slot_as R t b s.block_life d
+    SlotAs = shared_slot_as R t b s.block_life d.sharing d.table
 
     abbrev Slot : Bool → ℕ → ℕ → GName → Fml
-    Slot = shared_slot R t b s.block_life d
+    Slot = shared_slot R t b s.block_life d.sharing d.table
 
     -- 1. One slot.
 
@@ -256,7 +256,7 @@ module _ {M : Type 1} {𝓤 : Ura M} (𝓛 : Logic 𝓤) where
     in_row ns long =
         let n : ℕ = slice_index ns c in
         let Fs : ℕ → ℕ → Fml = flags_at R (len R d) b o in
-        let Numbered : GName → ℕ → Fml = numbered_slot R t b s.block_life d (first R d) o ns in
+        let Numbered : GName → ℕ → Fml = numbered_slot R t b s.block_life d.sharing d.table (first R d) o ns in
         let Row : Fml = each Numbered s.names 0 in
         let At : ℕ → Type 0 = λ i. AllOf d.sharing (λ p. p.id ≡ i + first R d → is_set_in ns i ≡ true) tokens in
         qed 𝓛 (‵ (Slots ns) ∷ []) ∵ assume ! (‵ Telling) $ move ! (1 ∷ []) $ fsplit3 ! $ fpick ! (λ are. drop ! $

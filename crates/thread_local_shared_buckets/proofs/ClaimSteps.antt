@@ -70,7 +70,7 @@ module _ {M : Type 1} {𝓤 : Ura M} (𝓛 : Logic 𝓤) (R : RattleType) (slot 
       general.moved 𝓛 R slot q ⟦ Holds u ⟧ ⟦ Right ⟧ (λ v w.
       qed 𝓛 (‵ (Stays v) ∷ ‵ (Had v w) ∷ ‵ (Holds u) ∷ []) ∵
       use3 𝓛 (given (v ≡ u) (‵ (Stays v) ⊛ ‵ (Had v free) ⊛ ‵ Right))
-      (moves.releases 𝓛 R t b s.block_life d k e η v u w) $
+      (moves.releases 𝓛 R t b s.block_life d.sharing d.table k e η v u w) $
       learn ! (λ same. show ! (Left v ⟦ Right ⟧) free $ split3 ! $ done !))
 
   -- a claim with the pass finds its slot empty
@@ -82,7 +82,7 @@ module _ {M : Type 1} {𝓤 : Ura M} (𝓛 : Logic 𝓤) (R : RattleType) (slot 
       ⟦ Holds None ⟧ (λ v w.
       qed 𝓛 (‵ (Stays v) ∷ ‵ (Had v w) ∷ ‵ (right_owns t.pass k) ∷ []) ∵
       use3 𝓛 (given (v ≡ None) (‵ (Stays v) ⊛ ‵ (Had v claimed) ⊛ ‵ (Holds None)))
-      (moves.early_claims 𝓛 R t b s.block_life d k e η v w) $
+      (moves.early_claims 𝓛 R t b s.block_life d.sharing d.table k e η v w) $
       learn ! (λ none. show ! (Left v ⟦ Holds None ⟧) claimed $ split3 ! $ done !))
 
   -- what a look finds: what the slot holds, by whether the flag is set
@@ -123,13 +123,13 @@ module _ {M : Type 1} {𝓤 : Ura M} (𝓛 : Logic 𝓤) (R : RattleType) (slot 
       law false n fits v w is =
           qed 𝓛 (‵ (Stays v) ∷ ‵ (Had v w) ∷ ‵ Right ∷ []) ∵ move ! (1 ∷ 2 ∷ []) $
           use2 𝓛 (‵ (Had v claimed) ⊛ ‵ (Holds v))
-          (moves.claims 𝓛 R t b s.block_life d k e η v w) $
+          (moves.claims 𝓛 R t b s.block_life d.sharing d.table k e η v w) $
           split ! $ move ! (2 ∷ 0 ∷ 1 ∷ []) $
           by ! (found false n fits v v is (is, (λ no. let m : false ≡ true = no in cc)))
       law true n fits v w is =
           qed 𝓛 (‵ (Stays v) ∷ ‵ (Had v w) ∷ ‵ (right_owns t.pass k) ∷ []) ∵
           use3 𝓛 (given (v ≡ None) (‵ (Stays v) ⊛ ‵ (Had v claimed) ⊛ ‵ (Holds None)))
-          (moves.early_claims 𝓛 R t b s.block_life d k e η v w) $
+          (moves.early_claims 𝓛 R t b s.block_life d.sharing d.table k e η v w) $
           learn ! (λ none. split3 ! $
           by ! (found true n fits v None is (is ∙ ap is_some none, (λ _. refl))))
 
@@ -145,12 +145,12 @@ module _ {M : Type 1} {𝓤 : Ura M} (𝓛 : Logic 𝓤) (R : RattleType) (slot 
   pub publishes : (q : Share) (left : Option Gv) (same : Belongs d.sharing d.table) (x : R.Denot)
       → A.inv (fbor t.life I)
       ∗ (A.lft t.life q
-      ∗ (⟦ Which ⟧ ∗ ⟦ moves.Offer 𝓛 R t b s.block_life d k e η left same x ⟧))
-      ⊢ asks 𝓛 chunk_word with_flag always (λ _. fsep (flft t.life q) (moves.Gain 𝓛 R t b s.block_life d k e η left same x))
+      ∗ (⟦ Which ⟧ ∗ ⟦ moves.Offer 𝓛 R t b s.block_life d.sharing d.table k e η left same x ⟧))
+      ⊢ asks 𝓛 chunk_word with_flag always (λ _. fsep (flft t.life q) (moves.Gain 𝓛 R t b s.block_life d.sharing d.table k e η left same x))
   publishes q left same x =
-      let Gained : Fml = moves.Gain 𝓛 R t b s.block_life d k e η left same x in
+      let Gained : Fml = moves.Gain 𝓛 R t b s.block_life d.sharing d.table k e η left same x in
       let Gains : ℕ → Fml = λ _. Gained in
-      let Offered : Fml = moves.Offer 𝓛 R t b s.block_life d k e η left same x in
+      let Offered : Fml = moves.Offer 𝓛 R t b s.block_life d.sharing d.table k e η left same x in
       general.stepped_by 𝓛 R slot q with_flag Gains Offered
       (λ n fits v w is.
       let F : Option R.Denot × Who → SProp 𝓤 = Turned q with_flag Gains n v in
@@ -158,7 +158,7 @@ module _ {M : Type 1} {𝓤 : Ura M} (𝓛 : Logic 𝓤) (R : RattleType) (slot 
       use3 𝓛
       (raw
       (upd 𝓤 (guard 𝓤 (v ≡ None) (⟦ Stays (Some x) ⟧ ∗ ⟦ Had (Some x) claimed ⟧ ∗ ⟦ Gained ⟧))))
-      (moves.publishes 𝓛 R t b s.block_life d k e η left same v w x) $
+      (moves.publishes 𝓛 R t b s.block_life d.sharing d.table k e η left same v w x) $
       settle 𝓛 (ex 𝓤 F)
       (given (v ≡ None) (‵ (Stays (Some x)) ⊛ ‵ (Had (Some x) claimed) ⊛ ‵ Gained)) $
       suffices ! _ (upd_i 𝓤 (ex 𝓤 F)) $ learn ! (λ none. split3 ! $

@@ -168,7 +168,7 @@ module _ {M : Type 1} {𝓤 : Ura M} (𝓛 : Logic 𝓤) (R : RattleType) where
         let e : ℕ = place_in s in
         let η : GName = name_at s.names i in
         let bit : ℕ = i % 64 in
-        let S : Option R.Denot → Fml = stays R t b s.block_life d k e η in
+        let S : Option R.Denot → Fml = stays R t b s.block_life d.sharing k e η in
         let D : Option R.Denot → Who → Fml = lies_with_slot R t b s.block_life d.sharing d.table k e η in
         let Flags : ℕ → Fml = inside.Flags 𝓛 R (placed d t wb wo s i k e b l at_k refl refl) in
         let Slot : Bool → Fml = inside.Slot 𝓛 R (placed d t wb wo s i k e b l at_k refl refl) in
@@ -182,7 +182,7 @@ module _ {M : Type 1} {𝓤 : Ura M} (𝓛 : Logic 𝓤) (R : RattleType) where
         -- [what stands; who has it; the loan; the word; the way back; the pass]
         move ! (0 ∷ 1 ∷ 5 ∷ []) $
         use3 𝓛 (given (z.0 ≡ None) (‵ (S z.0) ⊛ ‵ (D z.0 free) ⊛ ‵ Right))
-        (moves.early_gives_up 𝓛 R t b s.block_life d k e η z.0 z.1) $
+        (moves.early_gives_up 𝓛 R t b s.block_life d.sharing d.table k e η z.0 z.1) $
         learn ! (λ none. split3 ! $
         -- [what stands; who has it; the right; the loan; the word; the way back]
         move ! (4 ∷ 3 ∷ 0 ∷ 1 ∷ 5 ∷ []) $ group ! 5 $

@@ -1,7 +1,7 @@
 -- What the buckets of a table at rest show, by the rows of their slots: of the ids that were held at
 -- once, and that buckets are announced. Assumes `Logic`.
 use Rattle.std.proofs.Common.{◌≡◌, ◌∙◌, ℕ, zero, suc, ◌+◌, ◌^◌, ◌<◌, ◌≤◌, ◌==◌, Bool, true, false, List, [], ◌∷◌, length, refl}
-use Rattle.std.proofs.Common.{sym, ap, subst, arith, Option, None, Some, IsSome, if◌then◌else◌, eqb, pow_pos}
+use Rattle.std.proofs.Common.{sym, ap, subst, arith, Option, Some, if◌then◌else◌, eqb, pow_pos}
 use Rattle.std.specs.Prelude.{slice_index_or, nat_lt}
 use Rattle.std.proofs.lemmas.Bool.{eqb-true, eqb-false, eq-eqb, lt-ltb, ltb-true}
 use seplogic.Ra.Ura.{Ura}
@@ -22,7 +22,7 @@ use Rattle.thread_local_ids.specs.Sharings.{later_of}
 use Rattle.thread_local_ids.proofs.ReachedElements.{reached_none, reached_less}
 use Rattle.thread_local_shared_buckets.specs.Announcing.{Announcing, announced, lies_with_word}
 use Rattle.thread_local_shared_buckets.proofs.AnnouncingLaws.{shows, begun_announced}
-use Rattle.thread_local_shared_buckets.specs.Shared.{BucketView, ids_shown, shown_by, grown, announced_unless, announced_for}
+use Rattle.thread_local_shared_buckets.specs.Shared.{BucketView, ids_shown, shown_by, grown}
 use Rattle.thread_local_shared_buckets.specs.TableView.{TableView, bucket_view}
 use Rattle.thread_local_shared_buckets.specs.Grown.{is_among, stand_among_below, stand_among, only_reserved}
 use Rattle.thread_local_shared_buckets.specs.AfterLoan.{adds_no_bucket, view_with}
@@ -121,26 +121,15 @@ shown_reached d id i ids at held =
 abbrev ByNumber : ℕ → ℕ → (ℕ → ℕ → Type 0) → Type 0
 ByNumber n b P = (i j : ℕ) → j ≡ i + b → i < n → P i j
 
--- the bit of a bucket is set in this word where it has to be: where the bucket stands and isn't
--- reserved, and where it holds a value
-pub record IsSetFor {V : Type 0} (n bucket : ℕ) (reserved : Bool) (cs : List (Option V)) : Type 0 where
-  pub standing : 0 < length cs → reserved ≡ false → is_set n bucket ≡ true
-  pub holding : (i : ℕ) → IsSome (slice_index_or cs i None) → is_set n bucket ≡ true
+-- each of these buckets that stands has its bit set in this word
+abbrev pub AllSet : {V : Type 0} → ℕ → ℕ → List (List (Option V)) → Type 0
+AllSet n b rows = ByNumber (length rows) b (λ i j. 0 < length (slice_index_or rows i []) → is_set n j ≡ true)
 
--- a row that holds a value has slots
-pub held_within : {V : Type 0} (cs : List (Option V)) (i : ℕ) → IsSome (slice_index_or cs i None) → 0 < length cs
-held_within [] i some = let never : false ≡ true = some in cc
-held_within (c ∷ cs) i some = omega arith
-
--- the same of these buckets, of which those of this many slots are reserved
-abbrev pub AllSet : {V : Type 0} → ℕ → ℕ → ℕ → List (List (Option V)) → Type 0
-AllSet n reserved b rows = ByNumber (length rows) b (λ i j. IsSetFor n j (nat_lt (id_at j 0) reserved) (slice_index_or rows i []))
-
-set_from : {V : Type 0} (n reserved b : ℕ) (cs : List (Option V)) (rows : List (List (Option V)))
-    → IsSetFor n b (nat_lt (id_at b 0) reserved) cs → AllSet n reserved (suc b) rows → AllSet n reserved b (cs ∷ rows)
-set_from n reserved b cs rows first others zero j at near =
-    let is : b ≡ j = omega (arith, at) in subst (λ k. IsSetFor n k (nat_lt (id_at k 0) reserved) cs) is first
-set_from n reserved b cs rows first others (suc i) j at near = others i j (omega (arith, at)) (omega (arith, near))
+set_from : {V : Type 0} (n b : ℕ) (cs : List (Option V)) (rows : List (List (Option V)))
+    → (0 < length cs → is_set n b ≡ true) → AllSet n (suc b) rows → AllSet n b (cs ∷ rows)
+set_from n b cs rows first others zero j at near =
+    λ some. let is : b ≡ j = omega (arith, at) in subst (λ k. is_set n k ≡ true) is (first some)
+set_from n b cs rows first others (suc i) j at near = others i j (omega (arith, at)) (omega (arith, near))
 
 module _ (R : RattleType) where
   abbrev Slots : Type 0
@@ -155,26 +144,21 @@ module _ (R : RattleType) where
   rows_grown s b [] = ftrue
   rows_grown s b (cs ∷ rows) = fsep (row_grown (unworded s b) cs) (rows_grown s (suc b) rows)
 
-  -- a bucket is announced where one of these slots holds a value
-  abbrev pub values_announced : BucketView → Slots → Fml
-  values_announced d [] = ftrue
-  values_announced d (c ∷ cs) = fsep (announced_for d c) (values_announced d cs)
-
-  -- a bucket is announced, by its row, where it stands and isn't reserved, and where it holds a value
-  abbrev pub row_announced : BucketView → Slots → Fml
-  row_announced d [] = ftrue
-  row_announced d (c ∷ cs) = fsep (announced_unless d d.reserved) (values_announced d (c ∷ cs))
+  -- a bucket is announced if it stands, by its row
+  abbrev pub row_announced : Announcing → ℕ → Slots → Fml
+  row_announced m b [] = ftrue
+  row_announced m b (c ∷ cs) = announced m b
 
   -- the same of the rows from this bucket on
-  abbrev pub rows_announced : TableView → Announcing → ℕ → List Slots → Fml
-  rows_announced s m b [] = ftrue
-  rows_announced s m b (cs ∷ rows) = fsep (row_announced (bucket_view s m b) cs) (rows_announced s m (suc b) rows)
+  abbrev pub rows_announced : Announcing → ℕ → List Slots → Fml
+  rows_announced m b [] = ftrue
+  rows_announced m b (cs ∷ rows) = fsep (row_announced m b cs) (rows_announced m (suc b) rows)
 
   -- what is told of a bucket's slots, and what its row shows
   abbrev pub row_known : BucketView → Slots → Fml
   row_known d cs =
       fsep (all_told_or_untold R d.sharing (id_at d.bucket 0) (whole_row d.bucket cs))
-      (fsep (row_grown d cs) (row_announced d cs))
+      (fsep (row_grown d cs) (row_announced d.word d.bucket cs))
 
   -- the same of the rows from this bucket on
   abbrev pub rows_known : TableView → Announcing → ℕ → List Slots → Fml
@@ -188,25 +172,17 @@ module _ {M : Type 1} {𝓤 : Ura M} (𝓛 : Logic 𝓤) (R : RattleType) where
   infixr 35 ◌∗◌
   -- a block that stands shows what its bucket's row does
   pub whole_grown : (d : BucketView) (cs : Slots R) → 0 < length cs
-      → ⟦ grown d ⟧ ∗ ⟦ values_announced R d cs ⟧ ⊢ ⟦ fsep (row_grown R d cs) (row_announced R d cs) ⟧
+      → ⟦ grown d ⟧ ⊢ ⟦ fsep (row_grown R d cs) (row_announced R d.word d.bucket cs) ⟧
   whole_grown d [] some = absurd (omega arith)
-  whole_grown d (c ∷ cs) some =
-      qed 𝓛 (‵ (grown d) ∷ ‵ (values_announced R d (c ∷ cs)) ∷ []) ∵ fsplit ! $ move ! (1 ∷ 2 ∷ []) $ fjoin ! $
-      move ! (1 ∷ 0 ∷ []) $ fjoin ! $ done !
-
-  -- and the other way round
-  pub grown_whole : (d : BucketView) (c : Option R.Denot) (cs : Slots R)
-      → ⟦ fsep (row_grown R d (c ∷ cs)) (row_announced R d (c ∷ cs)) ⟧ ⊢ ⟦ grown d ⟧ ∗ ⟦ values_announced R d (c ∷ cs) ⟧
-  grown_whole d c cs =
-      qed 𝓛 (‵ (fsep (row_grown R d (c ∷ cs)) (row_announced R d (c ∷ cs))) ∷ []) ∵ fsplit3 ! $ move ! (0 ∷ 1 ∷ []) $ fjoin ! $ done !
+  whole_grown d (c ∷ cs) some = id⊢ 𝓤 _
 
   pub known_apart : (s : TableView) (m : Announcing) (b : ℕ) (rows : List (Slots R))
       → ⟦ rows_known R s m b rows ⟧
-      ⊢ ⟦ rows_telling R s.sharing b rows ⟧ ∗ ⟦ rows_grown R s b rows ⟧ ∗ ⟦ rows_announced R s m b rows ⟧
+      ⊢ ⟦ rows_telling R s.sharing b rows ⟧ ∗ ⟦ rows_grown R s b rows ⟧ ∗ ⟦ rows_announced R m b rows ⟧
   known_apart s m b [] = qed 𝓛 (‵ ftrue ∷ []) ∵ nothing ! $ nothing ! $ done !
   known_apart s m b (cs ∷ rows) =
       qed 𝓛 (‵ (rows_known R s m b (cs ∷ rows)) ∷ []) ∵ fsplit ! $ fsplit3 ! $ move ! (3 ∷ []) $
-      use1 𝓛 (‵ (rows_telling R s.sharing (suc b) rows) ⊛ ‵ (rows_grown R s (suc b) rows) ⊛ ‵ (rows_announced R s m (suc b) rows))
+      use1 𝓛 (‵ (rows_telling R s.sharing (suc b) rows) ⊛ ‵ (rows_grown R s (suc b) rows) ⊛ ‵ (rows_announced R m (suc b) rows))
       (known_apart s m (suc b) rows) $
       split3 ! $
       -- [what is told of the others; what they show; they are announced; the same three of the first]
@@ -214,111 +190,56 @@ module _ {M : Type 1} {𝓤 : Ura M} (𝓛 : Logic 𝓤) (R : RattleType) where
       move ! (2 ∷ 1 ∷ 0 ∷ []) $ done !
 
   pub known_together : (s : TableView) (m : Announcing) (b : ℕ) (rows : List (Slots R))
-      → ⟦ rows_telling R s.sharing b rows ⟧ ∗ ⟦ rows_grown R s b rows ⟧ ∗ ⟦ rows_announced R s m b rows ⟧
+      → ⟦ rows_telling R s.sharing b rows ⟧ ∗ ⟦ rows_grown R s b rows ⟧ ∗ ⟦ rows_announced R m b rows ⟧
       ⊢ ⟦ rows_known R s m b rows ⟧
   known_together s m b [] = qed 𝓛 (‵ ftrue ∷ ‵ ftrue ∷ ‵ ftrue ∷ []) ∵ drop ! $ drop ! $ done !
   known_together s m b (cs ∷ rows) =
-      qed 𝓛 (‵ (rows_telling R s.sharing b (cs ∷ rows)) ∷ ‵ (rows_grown R s b (cs ∷ rows)) ∷ ‵ (rows_announced R s m b (cs ∷ rows)) ∷ []) ∵
+      qed 𝓛 (‵ (rows_telling R s.sharing b (cs ∷ rows)) ∷ ‵ (rows_grown R s b (cs ∷ rows)) ∷ ‵ (rows_announced R m b (cs ∷ rows)) ∷ []) ∵
       fsplit ! $ move ! (2 ∷ []) $ fsplit ! $ move ! (4 ∷ []) $ fsplit ! $
       -- [the first is announced; the others; what the first shows; the others; what is told of the first; of the others]
       move ! (4 ∷ 2 ∷ 0 ∷ []) $ fjoin3 ! $ move ! (3 ∷ 2 ∷ 1 ∷ []) $
       use3 𝓛 (‵ (rows_known R s m (suc b) rows)) (known_together s m (suc b) rows) $ move ! (1 ∷ 0 ∷ []) $ fjoin ! $ done !
 
-  -- a bucket is announced where its bit was set when the sharing began
-  values_set : (d : BucketView) (cs : Slots R) → ((i : ℕ) → IsSome (slice_index_or cs i None) → is_set d.word.begun d.bucket ≡ true)
-      → emp 𝓤 ⊢ ⟦ values_announced R d cs ⟧
-  values_set d [] set = qed 𝓛 [] ∵ nothing ! $ done !
-  values_set d (None ∷ cs) set =
-      qed 𝓛 [] ∵ use0 𝓛 (‵ (values_announced R d cs)) (values_set d cs (λ i some. set (suc i) some)) $ nothing ! $ fjoin ! $ done !
-  values_set d (Some x ∷ cs) set =
-      qed 𝓛 [] ∵ use0 𝓛 (‵ (values_announced R d cs)) (values_set d cs (λ i some. set (suc i) some)) $ nothing ! $
-      use1 𝓛 (‵ (announced d.word d.bucket)) (begun_announced 𝓛 d.word d.bucket (set 0 refl)) $ fjoin ! $ done !
+  -- a bucket that stands is announced where its bit was set when the sharing began
+  row_set : (m : Announcing) (b : ℕ) (cs : Slots R) → (0 < length cs → is_set m.begun b ≡ true)
+      → emp 𝓤 ⊢ ⟦ row_announced R m b cs ⟧
+  row_set m b [] set = qed 𝓛 [] ∵ nothing ! $ done !
+  row_set m b (c ∷ cs) set =
+      qed 𝓛 [] ∵ nothing ! $ use1 𝓛 (‵ (announced m b)) (begun_announced 𝓛 m b (set (omega arith))) $ done !
 
-  unless_set : (d : BucketView) (reserved : Bool) → (reserved ≡ false → is_set d.word.begun d.bucket ≡ true)
-      → emp 𝓤 ⊢ ⟦ announced_unless d reserved ⟧
-  unless_set d true set = qed 𝓛 [] ∵ nothing ! $ done !
-  unless_set d false set =
-      qed 𝓛 [] ∵ nothing ! $ use1 𝓛 (‵ (announced d.word d.bucket)) (begun_announced 𝓛 d.word d.bucket (set refl)) $ done !
-
-  row_set : (d : BucketView) (cs : Slots R) → IsSetFor d.word.begun d.bucket d.reserved cs → emp 𝓤 ⊢ ⟦ row_announced R d cs ⟧
-  row_set d [] set = qed 𝓛 [] ∵ nothing ! $ done !
-  row_set d (c ∷ cs) set =
-      qed 𝓛 [] ∵ use0 𝓛 (‵ (values_announced R d (c ∷ cs))) (values_set d (c ∷ cs) set.holding) $
-      use0 𝓛 (‵ (announced_unless d d.reserved)) (unless_set d d.reserved (set.standing (omega arith))) $ fjoin ! $ done !
-
-  pub rows_set : (s : TableView) (m : Announcing) (b : ℕ) (rows : List (Slots R)) → AllSet m.begun s.reserved b rows
-      → emp 𝓤 ⊢ ⟦ rows_announced R s m b rows ⟧
-  rows_set s m b [] set = qed 𝓛 [] ∵ nothing ! $ done !
-  rows_set s m b (cs ∷ rows) set =
+  pub rows_set : (m : Announcing) (b : ℕ) (rows : List (Slots R)) → AllSet m.begun b rows
+      → emp 𝓤 ⊢ ⟦ rows_announced R m b rows ⟧
+  rows_set m b [] set = qed 𝓛 [] ∵ nothing ! $ done !
+  rows_set m b (cs ∷ rows) set =
       qed 𝓛 [] ∵
-      use0 𝓛 (‵ (rows_announced R s m (suc b) rows))
-      (rows_set s m (suc b) rows (λ i j e near. set (suc i) j (omega (arith, e)) (omega (arith, near)))) $
-      use0 𝓛 (‵ (row_announced R (bucket_view s m b) cs)) (row_set (bucket_view s m b) cs (set 0 b (omega arith) (omega arith))) $
-      fjoin ! $ done !
+      use0 𝓛 (‵ (rows_announced R m (suc b) rows))
+      (rows_set m (suc b) rows (λ i j e near. set (suc i) j (omega (arith, e)) (omega (arith, near)))) $
+      use0 𝓛 (‵ (row_announced R m b cs)) (row_set m b cs (set 0 b (omega arith) (omega arith))) $ fjoin ! $ done !
 
-  -- the bits of the buckets that are announced are set
-  values_show : (d : BucketView) (n : ℕ) (cs : Slots R) → d.bucket < 63
-      → ⟦ lies_with_word d.word n ⟧ ∗ ⟦ values_announced R d cs ⟧
-      ⊢ guard 𝓤 ((i : ℕ) → IsSome (slice_index_or cs i None) → is_set n d.bucket ≡ true) ⟦ lies_with_word d.word n ⟧
-  values_show d n [] low =
-      qed 𝓛 (‵ (lies_with_word d.word n) ∷ ‵ ftrue ∷ []) ∵ check ! (λ i some. let never : false ≡ true = some in cc) $
-      keep ! (0 ∷ []) $ done !
-  values_show d n (None ∷ cs) low =
-      let Shown : Type 0 = (i : ℕ) → IsSome (slice_index_or cs i None) → is_set n d.bucket ≡ true in
-      qed 𝓛 (‵ (lies_with_word d.word n) ∷ ‵ (values_announced R d (None ∷ cs)) ∷ []) ∵ move ! (1 ∷ []) $ fsplit ! $
-      move ! (2 ∷ 1 ∷ []) $
-      use2 𝓛 (given Shown (‵ (lies_with_word d.word n))) (values_show d n cs low) $ learn ! (λ others.
-      check ! (λ i. elim i as (λ (k : ℕ). IsSome (slice_index_or (None ∷ cs) k None) → is_set n d.bucket ≡ true) [
-        | zero ↦ λ some. let never : false ≡ true = some in cc
-        | suc k ↦ λ some. others k some
-      ]) $
-      keep ! (0 ∷ []) $ done !)
-  values_show d n (Some x ∷ cs) low =
-      qed 𝓛 (‵ (lies_with_word d.word n) ∷ ‵ (values_announced R d (Some x ∷ cs)) ∷ []) ∵ move ! (1 ∷ []) $ fsplit ! $
-      move ! (2 ∷ 0 ∷ []) $
-      use2 𝓛 (given (is_set n d.bucket ≡ true) (‵ (lies_with_word d.word n))) (shows 𝓛 d.word n d.bucket low) $ learn ! (λ is.
-      check ! (λ i some. is) $ keep ! (0 ∷ []) $ done !)
+  -- the bits of the buckets that stand are set
+  row_shows : (m : Announcing) (n b : ℕ) (cs : Slots R) → b < 63
+      → ⟦ lies_with_word m n ⟧ ∗ ⟦ row_announced R m b cs ⟧
+      ⊢ guard 𝓤 (0 < length cs → is_set n b ≡ true) ⟦ lies_with_word m n ⟧
+  row_shows m n b [] low =
+      qed 𝓛 (‵ (lies_with_word m n) ∷ ‵ ftrue ∷ []) ∵ check ! (λ some. absurd (omega arith)) $ keep ! (0 ∷ []) $ done !
+  row_shows m n b (c ∷ cs) low =
+      qed 𝓛 (‵ (lies_with_word m n) ∷ ‵ (announced m b) ∷ []) ∵
+      use2 𝓛 (given (is_set n b ≡ true) (‵ (lies_with_word m n))) (shows 𝓛 m n b low) $ learn ! (λ is.
+      check ! (λ some. is) $ done !)
 
-  unless_shows : (d : BucketView) (n : ℕ) (reserved : Bool) → d.bucket < 63
-      → ⟦ lies_with_word d.word n ⟧ ∗ ⟦ announced_unless d reserved ⟧
-      ⊢ guard 𝓤 (reserved ≡ false → is_set n d.bucket ≡ true) ⟦ lies_with_word d.word n ⟧
-  unless_shows d n true low =
-      qed 𝓛 (‵ (lies_with_word d.word n) ∷ ‵ ftrue ∷ []) ∵ check ! (λ no. let never : true ≡ false = no in cc) $ keep ! (0 ∷ []) $ done !
-  unless_shows d n false low =
-      qed 𝓛 (‵ (lies_with_word d.word n) ∷ ‵ (announced d.word d.bucket) ∷ []) ∵
-      use2 𝓛 (given (is_set n d.bucket ≡ true) (‵ (lies_with_word d.word n))) (shows 𝓛 d.word n d.bucket low) $ learn ! (λ is.
-      check ! (λ _. is) $ done !)
-
-  row_shows : (d : BucketView) (n : ℕ) (cs : Slots R) → d.bucket < 63
-      → ⟦ lies_with_word d.word n ⟧ ∗ ⟦ row_announced R d cs ⟧
-      ⊢ guard 𝓤 (IsSetFor n d.bucket d.reserved cs) ⟦ lies_with_word d.word n ⟧
-  row_shows d n [] low =
-      qed 𝓛 (‵ (lies_with_word d.word n) ∷ ‵ ftrue ∷ []) ∵
-      check ! (record { standing = λ some no. absurd (omega arith); holding = λ i some. let never : false ≡ true = some in cc }) $
-      keep ! (0 ∷ []) $ done !
-  row_shows d n (c ∷ cs) low =
-      let Holding : Type 0 = (i : ℕ) → IsSome (slice_index_or (c ∷ cs) i None) → is_set n d.bucket ≡ true in
-      qed 𝓛 (‵ (lies_with_word d.word n) ∷ ‵ (row_announced R d (c ∷ cs)) ∷ []) ∵ move ! (1 ∷ []) $ fsplit ! $
-      -- [unless it is reserved; where it holds values; what lies with the word]
-      move ! (2 ∷ 0 ∷ []) $
-      use2 𝓛 (given (d.reserved ≡ false → is_set n d.bucket ≡ true) (‵ (lies_with_word d.word n))) (unless_shows d n d.reserved low) $
-      learn ! (λ unless.
-      use2 𝓛 (given Holding (‵ (lies_with_word d.word n))) (values_show d n (c ∷ cs) low) $ learn ! (λ holding.
-      check ! (record { standing = λ some. unless; holding = holding }) $ done !))
-
-  pub rows_show : (s : TableView) (m : Announcing) (n b : ℕ) (rows : List (Slots R)) → length rows + b ≤ 63
-      → ⟦ lies_with_word m n ⟧ ∗ ⟦ rows_announced R s m b rows ⟧
-      ⊢ guard 𝓤 (AllSet n s.reserved b rows) ⟦ lies_with_word m n ⟧
-  rows_show s m n b [] few =
+  pub rows_show : (m : Announcing) (n b : ℕ) (rows : List (Slots R)) → length rows + b ≤ 63
+      → ⟦ lies_with_word m n ⟧ ∗ ⟦ rows_announced R m b rows ⟧
+      ⊢ guard 𝓤 (AllSet n b rows) ⟦ lies_with_word m n ⟧
+  rows_show m n b [] few =
       qed 𝓛 (‵ (lies_with_word m n) ∷ ‵ ftrue ∷ []) ∵ check ! (λ i j e near. absurd (omega (arith, near))) $ keep ! (0 ∷ []) $ done !
-  rows_show s m n b (cs ∷ rows) few =
-      let d : BucketView = bucket_view s m b in
-      qed 𝓛 (‵ (lies_with_word m n) ∷ ‵ (rows_announced R s m b (cs ∷ rows)) ∷ []) ∵ move ! (1 ∷ []) $ fsplit ! $
+  rows_show m n b (cs ∷ rows) few =
+      let Set : Type 0 = 0 < length cs → is_set n b ≡ true in
+      qed 𝓛 (‵ (lies_with_word m n) ∷ ‵ (rows_announced R m b (cs ∷ rows)) ∷ []) ∵ move ! (1 ∷ []) $ fsplit ! $
       -- [the first is announced; the others; what lies with the word]
       move ! (2 ∷ 0 ∷ []) $
-      use2 𝓛 (given (IsSetFor n b d.reserved cs) (‵ (lies_with_word m n))) (row_shows d n cs (omega (arith, few))) $ learn ! (λ first.
-      use2 𝓛 (given (AllSet n s.reserved (suc b) rows) (‵ (lies_with_word m n))) (rows_show s m n (suc b) rows (omega (arith, few))) $
-      learn ! (λ others. check ! (set_from n s.reserved b cs rows first others) $ done !))
+      use2 𝓛 (given Set (‵ (lies_with_word m n))) (row_shows m n b cs (omega (arith, few))) $ learn ! (λ first.
+      use2 𝓛 (given (AllSet n (suc b) rows) (‵ (lies_with_word m n))) (rows_show m n (suc b) rows (omega (arith, few))) $
+      learn ! (λ others. check ! (set_from n b cs rows first others) $ done !))
 
   -- rows show nothing where no bucket stands that would
   pub none_grown : (s : TableView) (b : ℕ) (rows : List (Slots R))

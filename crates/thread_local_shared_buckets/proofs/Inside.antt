@@ -145,7 +145,7 @@ module _ {M : Type 1} {𝓤 : Ura M} (𝓛 : Logic 𝓤) where
     abbrev pub Under : List ℕ → Fml
     Under ns =
         slots_under R (len R d) b start (λ ms.
-        each (numbered_slot R t b s.block_life d (first R d) start ms) s.names 0)
+        each (numbered_slot R t b s.block_life d.sharing d.table (first R d) start ms) s.names 0)
         ns
 
     module _ (Out : SProp 𝓤 → SProp 𝓤) (lifted : (P Q X : SProp 𝓤) → P ∗ X ⊢ Q → Out P ∗ X ⊢ Out Q)
@@ -160,7 +160,7 @@ module _ {M : Type 1} {𝓤 : Ura M} (𝓛 : Logic 𝓤) where
           let S : Fml = settled R d t s in
           let Body : ℕ × ℕ → Fml = λ z.
           fsep (fex (List ℕ) (slots_under R (len R d) z.0 z.1 (λ ns.
-          each (numbered_slot R t z.0 s.block_life d (first R d) z.1 ns)
+          each (numbered_slot R t z.0 s.block_life d.sharing d.table (first R d) z.1 ns)
           s.names 0)))
           (back R z.0 z.1 (len R d)) in
           qed 𝓛 (‵ Q ∷ []) ∵ fsplit ! $ fpick ! (λ h.
@@ -216,7 +216,7 @@ module _ {M : Type 1} {𝓤 : Ura M} (𝓛 : Logic 𝓤) where
 
     -- the slot, by whether its flag is set
     abbrev pub Slot : Bool → Fml
-    Slot set = shared_slot R t b s.block_life d set k e (name_at s.names i)
+    Slot set = shared_slot R t b s.block_life d.sharing d.table set k e (name_at s.names i)
 
     -- the word that has its flag
     abbrev pub Flags : ℕ → Fml
@@ -234,7 +234,7 @@ module _ {M : Type 1} {𝓤 : Ura M} (𝓛 : Logic 𝓤) where
     o = count_of s.at
 
     abbrev Numbered : List ℕ → GName → ℕ → Fml
-    Numbered ns = numbered_slot R t b s.block_life d (first R d) o ns
+    Numbered ns = numbered_slot R t b s.block_life d.sharing d.table (first R d) o ns
 
     abbrev Row : List ℕ → Fml
     Row ns = each (Numbered ns) s.names 0
@@ -244,7 +244,7 @@ module _ {M : Type 1} {𝓤 : Ura M} (𝓛 : Logic 𝓤) where
 
     numbered_is : (ns : List ℕ) → ◌≡◌ {A = Fml} (Numbered ns (get_or s.names i 0) i) (Slot (is_set_in ns i))
     numbered_is ns =
-        let F : ℕ × ℕ × ℕ → Fml = λ z. shared_slot R t b s.block_life d (is_set_in ns i) z.0 z.1 z.2 in
+        let F : ℕ × ℕ × ℕ → Fml = λ z. shared_slot R t b s.block_life d.sharing d.table (is_set_in ns i) z.0 z.1 z.2 in
         let same : ◌≡◌ {A = ℕ × ℕ × ℕ} (i + first R d, value_offset R o i, get_or s.names i 0)
         (k, e, name_at s.names i) = λ j. (sym at_k j, sym at_e j, name_at-get_or s.names i j) in
         ap F same
@@ -256,7 +256,7 @@ module _ {M : Type 1} {𝓤 : Ura M} (𝓛 : Logic 𝓤) where
     apart_same ns inside y η m apart =
         subst (λ (u : Bool).
         ⟦ Numbered ns η m ⟧
-        ⊢ ⟦ shared_slot R t b s.block_life d u (m + first R d)
+        ⊢ ⟦ shared_slot R t b s.block_life d.sharing d.table u (m + first R d)
         (value_offset R o m) η ⟧)
         (sym (turned_there R (len R d) i ns inside y m apart)) (id⊢ 𝓤 _)
 

@@ -1,10 +1,10 @@
 -- A load of a shared bucket's pointer, and what it hands out. Assumes `Logic`.
 use Rattle.std.proofs.lemmas.Option.{none-some}
-use Rattle.std.proofs.Common.{◌≡◌, ℕ, List, zero, suc, ◌+◌, ◌<◌, Bool, true, false, [], ◌∷◌, ◌++◌, length, sym, subst, refl, arith}
+use Rattle.std.proofs.Common.{◌≡◌, ℕ, List, zero, suc, ◌+◌, ◌<◌, false, [], ◌∷◌, ◌++◌, length, sym, subst, refl, arith}
 use Rattle.std.proofs.Common.{Option, Some, None, IsSome}
 use seplogic.Ra.Ura.{Ura}
 use base.Fraction.{left, right}
-use base.Logic.{SProp, ent, sep, ex, guard, guard_i, upd_i, id⊢}
+use base.Logic.{SProp, ent, sep, ex, guard, guard_i, upd_i}
 use base.Fml.{GName, Lft, Share, Fml, ftrue, fsep, fex, flft, fres, fbor, Incl-refl}
 use base.Before.{before}
 use types.Logic.{Logic, sem}
@@ -28,7 +28,7 @@ use Rattle.thread_local_ids.proofs.TokenListLaws.{slot_agrees}
 use Rattle.thread_local_shared_buckets.specs.Announcing.{announced}
 use Rattle.thread_local_shared_buckets.proofs.AnnouncingLaws.{announced_twice}
 use Rattle.thread_local_shared_buckets.proofs.ChunkLooks.{all_from}
-use Rattle.thread_local_shared_buckets.specs.Shared.{BucketView, Turn, StandingBlock, block_code, Sized, len, first, shown_by, grown, announced_unless}
+use Rattle.thread_local_shared_buckets.specs.Shared.{BucketView, Turn, StandingBlock, block_code, Sized, len, first, shown_by, grown}
 use Rattle.thread_local_shared_buckets.specs.Shared.{all_unborn, standing, beside_pointer, bucket_invariant, loaded}
 use Rattle.thread_local_base.proofs.Pointers.{Lies, opened}
 use Rattle.thread_local_base.proofs.Signs.{signs}
@@ -106,44 +106,17 @@ module _ {M : Type 1} {𝓤 : Ura M} (𝓛 : Logic 𝓤) (R : RattleType) (d : B
   pub forgets : ent 𝓤 (sem 𝓛 (tell_each R tokens)) (sem 𝓛 ftrue)
   forgets = qed 𝓛 (‵ (tell_each R tokens) ∷ []) ∵ drop ! $ nothing ! $ done !
 
--- what the block of an announced bucket shows, and that it is announced
-abbrev pub shown_announced : BucketView → Fml
-shown_announced d = fsep (reached_owns d.table (shown_by d)) (announced d.word d.bucket)
-
-module _ {M : Type 1} {𝓤 : Ura M} (𝓛 : Logic 𝓤) (d : BucketView) where
-  open signs 𝓛 use {⟦◌⟧, ◌⊢◌, ◌∗◌}
-
-  infix 26 ◌⊢◌
-  infixr 35 ◌∗◌
-  abbrev Announced : Fml
-  Announced = announced d.word d.bucket
-
-  abbrev Held : Fml
-  Held = reached_owns d.table (shown_by d)
-
-  unless_twice : (r : Bool) → ⟦ announced_unless d r ⟧ ⊢ ⟦ announced_unless d r ⟧ ∗ ⟦ announced_unless d r ⟧
-  unless_twice true = qed 𝓛 (‵ ftrue ∷ []) ∵ nothing ! $ done !
-  unless_twice false = announced_twice 𝓛 d.word d.bucket
-
-  unless_shown : (r : Bool) → ⟦ Announced ⟧ ⊢ ⟦ announced_unless d r ⟧
-  unless_shown true = qed 𝓛 (‵ Announced ∷ []) ∵ drop ! $ nothing ! $ done !
-  unless_shown false = id⊢ 𝓤 _
-
-  -- what a block shows can be had twice
-  pub grown_twice : ⟦ grown d ⟧ ⊢ ⟦ grown d ⟧ ∗ ⟦ grown d ⟧
-  grown_twice =
-      let Known : Fml = announced_unless d d.reserved in
-      qed 𝓛 (‵ (grown d) ∷ []) ∵ fsplit ! $
-      use1 𝓛 (‵ Held ⊛ ‵ Held) (reached_twice 𝓛 d.table (shown_by d)) $ split ! $ move ! (2 ∷ []) $
-      use1 𝓛 (‵ Known ⊛ ‵ Known) (unless_twice d.reserved) $ split ! $
-      -- [that it is announced, twice; how many ids were held, twice]
-      move ! (2 ∷ 0 ∷ []) $ fjoin ! $ move ! (2 ∷ 1 ∷ []) $ fjoin ! $ done !
-
-  pub shows_grown : ⟦ shown_announced d ⟧ ⊢ ⟦ grown d ⟧ ∗ ⟦ Announced ⟧
-  shows_grown =
-      qed 𝓛 (‵ (shown_announced d) ∷ []) ∵ fsplit ! $ move ! (1 ∷ []) $
-      use1 𝓛 (‵ Announced ⊛ ‵ Announced) (announced_twice 𝓛 d.word d.bucket) $ split ! $
-      use1 𝓛 (‵ (announced_unless d d.reserved)) (unless_shown d.reserved) $ move ! (2 ∷ 0 ∷ []) $ fjoin ! $ done !
+-- what a block shows can be had twice
+pub grown_twice : {M : Type 1} {𝓤 : Ura M} (𝓛 : Logic 𝓤) (d : BucketView)
+    → ent 𝓤 (sem 𝓛 (grown d)) (sep 𝓤 (sem 𝓛 (grown d)) (sem 𝓛 (grown d)))
+grown_twice 𝓛 d =
+    let Held : Fml = reached_owns d.table (shown_by d) in
+    let Known : Fml = announced d.word d.bucket in
+    qed 𝓛 (‵ (grown d) ∷ []) ∵ fsplit ! $
+    use1 𝓛 (‵ Held ⊛ ‵ Held) (reached_twice 𝓛 d.table (shown_by d)) $ split ! $ move ! (2 ∷ []) $
+    use1 𝓛 (‵ Known ⊛ ‵ Known) (announced_twice 𝓛 d.word d.bucket) $ split ! $
+    -- [that it is announced, twice; how many ids were held, twice]
+    move ! (2 ∷ 0 ∷ []) $ fjoin ! $ move ! (2 ∷ 1 ∷ []) $ fjoin ! $ done !
 
 module _ {M : Type 1} {𝓤 : Ura M} (𝓛 : Logic 𝓤) (R : RattleType) (d : BucketView) (t : Turn) where
   open 𝓛 use {H, A}

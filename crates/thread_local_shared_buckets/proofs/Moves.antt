@@ -13,7 +13,7 @@ use denote.RattleType.{RattleType}
 use Rattle.std.specs.Coded.{coded_option}
 use Rattle.thread_local_ids.specs.Rights.{right_owns, note_owns}
 use Rattle.thread_local_ids.proofs.RightElements.{right_once}
-use Rattle.thread_local_shared_buckets.specs.Shared.{BucketView, Turn, Who, free, claimed, early, value_code, pinned, laid_down}
+use Rattle.thread_local_shared_buckets.specs.Shared.{Turn, Who, free, claimed, early, value_code, pinned}
 use Rattle.thread_local_shared_buckets.specs.Shared.{pinned_and_told, opened, holds, stays, lies_with_slot}
 use Rattle.thread_local_ids.specs.Told.{tells}
 use Rattle.thread_local_ids.specs.Sharings.{Belongs, left_after}
@@ -33,8 +33,7 @@ module _ {M : Type 1} {𝓤 : Ura M} (𝓛 : Logic 𝓤) where
       (guard_i 𝓤 (x ≡ y) Both)
 
 module _ {M : Type 1} {𝓤 : Ura M} (𝓛 : Logic 𝓤) (R : RattleType) (t : Turn) (b ν : ℕ)
-    (d : BucketView) (k e : ℕ) (η : GName) where
-  open d use {sharing, table}
+    (sharing : Option GName) (table k e : ℕ) (η : GName) where
   open signs 𝓛 use {⟦◌⟧, ◌⊢◌, ◌∗◌}
 
   infix 26 ◌⊢◌
@@ -43,7 +42,7 @@ module _ {M : Type 1} {𝓤 : Ura M} (𝓛 : Logic 𝓤) (R : RattleType) (t : T
   Holds v = holds R t b ν sharing k e η v
 
   abbrev pub Stays : Option R.Denot → Fml
-  Stays v = stays R t b ν d k e η v
+  Stays v = stays R t b ν sharing k e η v
 
   abbrev pub Had : Option R.Denot → Who → Fml
   Had v w = lies_with_slot R t b ν sharing table k e η v w
@@ -57,11 +56,6 @@ module _ {M : Type 1} {𝓤 : Ura M} (𝓛 : Logic 𝓤) (R : RattleType) (t : T
   -- no two rights are to the same id
   twice : (γ : GName) (Z : SProp 𝓤) → ⟦ right_owns γ k ⟧ ∗ ⟦ right_owns γ k ⟧ ⊢ Z
   twice γ Z = right_once 𝓛 γ k Z
-
-  -- nor is there another, once one is laid down
-  laid_once : (Z : SProp 𝓤) → ⟦ laid_down t d k ⟧ ∗ ⟦ right_owns t.vacant k ⟧ ⊢ Z
-  laid_once Z =
-      qed 𝓛 (‵ (laid_down t d k) ∷ ‵ (right_owns t.vacant k) ∷ []) ∵ fsplit ! $ keep ! (0 ∷ 2 ∷ []) $ by ! (twice t.vacant Z)
 
   -- whoever has the right to the id of a slot claims the slot for that right
   pub claims : (v : Option R.Denot) (w : Who) → ⟦ Had v w ⟧ ∗ ⟦ Right ⟧ ⊢ ⟦ Had v claimed ⟧ ∗ ⟦ Holds v ⟧
@@ -80,8 +74,8 @@ module _ {M : Type 1} {𝓤 : Ura M} (𝓛 : Logic 𝓤) (R : RattleType) (t : T
       keep ! (1 ∷ 2 ∷ []) $ by ! (twice t.pass _)
   early_only Z found (Some x) early =
       qed 𝓛 (‵ (Stays (Some x)) ∷ ‵ (Had (Some x) early) ∷ ‵ Pass ∷ []) ∵ fsplit3 ! $
-      move ! (3 ∷ []) $ fsplit ! $ move ! (1 ∷ []) $ fsplit3 ! $ keep ! (4 ∷ 0 ∷ []) $
-      by ! (laid_once _)
+      move ! (3 ∷ []) $ fsplit ! $ move ! (1 ∷ []) $ fsplit3 ! $ keep ! (0 ∷ 4 ∷ []) $
+      by ! (twice t.vacant _)
   early_only Z found None early =
       qed 𝓛 (‵ (Stays None) ∷ ‵ (Had None early) ∷ ‵ Pass ∷ []) ∵ check ! refl $ by ! found
 
@@ -130,8 +124,8 @@ module _ {M : Type 1} {𝓤 : Ura M} (𝓛 : Logic 𝓤) (R : RattleType) (t : T
       ⊢ guard 𝓤 (v ≡ u) (⟦ Stays v ⟧ ∗ ⟦ Had v claimed ⟧ ∗ ⟦ Holds u ⟧)
   known (Some x) (Some y) early =
       qed 𝓛 (‵ (Stays (Some x)) ∷ ‵ (Had (Some x) early) ∷ ‵ (Holds (Some y)) ∷ []) ∵ fsplit3 ! $
-      move ! (3 ∷ []) $ fsplit ! $ move ! (1 ∷ []) $ fsplit3 ! $ keep ! (4 ∷ 0 ∷ []) $
-      by ! (laid_once _)
+      move ! (3 ∷ []) $ fsplit ! $ move ! (1 ∷ []) $ fsplit3 ! $ keep ! (0 ∷ 4 ∷ []) $
+      by ! (twice t.vacant _)
   known None None early =
       qed 𝓛 (‵ (Stays None) ∷ ‵ (Had None early) ∷ ‵ (Holds None) ∷ []) ∵ drop ! $ fsplit ! $
       move ! (1 ∷ []) $ fsplit3 ! $ move ! (4 ∷ []) $ fsplit3 ! $ keep ! (0 ∷ 3 ∷ []) $
@@ -150,7 +144,7 @@ module _ {M : Type 1} {𝓤 : Ura M} (𝓛 : Logic 𝓤) (R : RattleType) (t : T
       move ! (4 ∷ 0 ∷ 5 ∷ []) $ fjoin3 ! $ move ! (2 ∷ 1 ∷ 3 ∷ []) $ fjoin3 ! $ move ! (1 ∷ 2 ∷ 0 ∷ []) $ done !)
   known (Some x) None w =
       qed 𝓛 (‵ (Stays (Some x)) ∷ ‵ (Had (Some x) w) ∷ ‵ (Holds None) ∷ []) ∵ fsplit3 ! $
-      move ! (4 ∷ []) $ fsplit3 ! $ keep ! (3 ∷ 0 ∷ []) $ by ! (laid_once _)
+      move ! (4 ∷ []) $ fsplit3 ! $ keep ! (0 ∷ 3 ∷ []) $ by ! (twice t.vacant _)
   known None (Some y) w =
       qed 𝓛 (‵ (Stays None) ∷ ‵ (Had None w) ∷ ‵ (Holds (Some y)) ∷ []) ∵ move ! (2 ∷ []) $
       fsplit3 ! $ move ! (3 ∷ []) $ fsplit ! $ keep ! (0 ∷ 2 ∷ []) $ by ! (twice t.filled _)
@@ -175,7 +169,7 @@ module _ {M : Type 1} {𝓤 : Ura M} (𝓛 : Logic 𝓤) (R : RattleType) (t : T
   module _ (left : Option Gv) (same : Belongs sharing table) where
     -- what stays with the slot once the value is published, and the note of its id
     abbrev pub Offer : R.Denot → Fml
-    Offer x = fsep (fsep (laid_down t d k) (fsep (pinned R η x) (opened R t b ν e x))) (note_owns table k left)
+    Offer x = fsep (fsep (right_owns t.vacant k) (fsep (pinned R η x) (opened R t b ν e x))) (note_owns table k left)
 
     -- what the claim has of it then, beside the value
     abbrev pub Gain : R.Denot → Fml
@@ -189,16 +183,15 @@ module _ {M : Type 1} {𝓤 : Ura M} (𝓛 : Logic 𝓤) (R : RattleType) (t : T
         → ⟦ Stays v ⟧ ∗ ⟦ Had v w ⟧ ∗ ⟦ Offer x ⟧ ⊢ upd 𝓤 (Made v x)
     publishes (Some z) w x =
         qed 𝓛 (‵ (Stays (Some z)) ∷ ‵ (Had (Some z) w) ∷ ‵ (Offer x) ∷ []) ∵ fsplit3 ! $
-        move ! (4 ∷ []) $ fsplit ! $ fsplit3 ! $ keep ! (0 ∷ 4 ∷ []) $ move ! (1 ∷ []) $ fsplit ! $ keep ! (2 ∷ 0 ∷ []) $
-        by ! (laid_once _)
+        move ! (4 ∷ []) $ fsplit ! $ fsplit3 ! $ keep ! (0 ∷ 4 ∷ []) $ by ! (twice t.vacant _)
     publishes None free x =
         qed 𝓛 (‵ (Stays None) ∷ ‵ (Had None free) ∷ ‵ (Offer x) ∷ []) ∵ drop ! $ fsplit ! $
         move ! (1 ∷ []) $ fsplit3 ! $ move ! (4 ∷ []) $ fsplit ! $ fsplit3 ! $ keep ! (0 ∷ 4 ∷ []) $
-        by ! (laid_once _)
+        by ! (twice t.vacant _)
     publishes None early x =
         qed 𝓛 (‵ (Stays None) ∷ ‵ (Had None early) ∷ ‵ (Offer x) ∷ []) ∵ drop ! $ fsplit ! $
         move ! (1 ∷ []) $ fsplit3 ! $ move ! (4 ∷ []) $ fsplit ! $ fsplit3 ! $ keep ! (0 ∷ 4 ∷ []) $
-        by ! (laid_once _)
+        by ! (twice t.vacant _)
     publishes None claimed x =
         let Told : Fml = tells R sharing k (Some x) in
         let Note : Fml = note_owns table k (left_after R sharing table left (Some x)) in

@@ -43,7 +43,7 @@ use Rattle.thread_local_shared_buckets.specs.Shared.{BucketView, Turn, StandingB
 use Rattle.thread_local_shared_buckets.specs.Shared.{value_code, pinned, opened, tracked_value, age, holds, lies_with_slot, shared_slot_as}
 use Rattle.thread_local_shared_buckets.specs.Shared.{by as lent_by}
 use Rattle.thread_local_shared_buckets.specs.Shared.{numbered_slot, AreFlagWords, slots_under, slots_stand, block_stands}
-use Rattle.thread_local_shared_buckets.specs.Shared.{slots_side, all_unborn, Sized, len, first, standing, beside_pointer, grown, laid_down}
+use Rattle.thread_local_shared_buckets.specs.Shared.{slots_side, all_unborn, Sized, len, first, standing, beside_pointer, grown}
 use Rattle.thread_local_shared_buckets.specs.Shared.{bucket_invariant}
 use Rattle.thread_local_ids.specs.Told.{untold_in, tells}
 use Rattle.thread_local_ids.specs.Sharings.{Belongs, left_after}
@@ -51,8 +51,7 @@ use Rattle.thread_local_ids.proofs.ToldElements.{tells_dup}
 use Rattle.thread_local_ids.proofs.ToldNotes.{publishes_noted}
 use Rattle.thread_local_shared_buckets.proofs.Rested.{publishes}
 use Rattle.thread_local_base.proofs.Pointers.{Compared, opened_to_compare, alike_null}
-use Rattle.thread_local_shared_buckets.specs.Announcing.{announced}
-use Rattle.thread_local_shared_buckets.proofs.Loads.{part, glimpse, parted, shown_announced, shows_grown}
+use Rattle.thread_local_shared_buckets.proofs.Loads.{part, glimpse, parted}
 use Rattle.thread_local_base.proofs.Signs.{signs}
 
 -- who has a slot that is born: the claim that took its pass before, or nobody
@@ -216,9 +215,7 @@ module _ {M : Type 1} {𝓤 : Ura M} (𝓛 : Logic 𝓤) (R : RattleType) (t : T
           qed 𝓛 (‵ (right_owns t.pass k) ∷ ‵ (holds R t b ν sharing k e η None) ∷ []) ∵ fjoin ! $
           done !
 
-      module _ (d : BucketView) (k : ℕ) (ns : List ℕ) where
-        open d use {sharing, table}
-
+      module _ (sharing : Option GName) (table k : ℕ) (ns : List ℕ) where
         first_clear : (i : ℕ) {m : ℕ} → ((j : ℕ) → j < suc m → is_set_in ns (j + i) ≡ false) → is_set_in ns i ≡ false
         first_clear i clear = let at : 0 + i ≡ i = omega arith in subst (λ (k : ℕ). is_set_in ns k ≡ false) at (clear 0 (omega arith))
 
@@ -235,7 +232,7 @@ module _ {M : Type 1} {𝓤 : Ura M} (𝓛 : Logic 𝓤) (R : RattleType) (t : T
         born_one : (i : ℕ) (η : GName) (w : Bool) → is_set_in ns i ≡ false
             → ⟦ right_owns t.vacant (i + k) ⟧ ∗ ⟦ Unborn (i + k) ⟧
             ∗ ⟦ slots_side R w table t.pass (i + k) ⟧ ∗ ⟦ bare_slot η i ⟧
-            ⊢ ⟦ numbered_slot R t b ν d k o ns η i ⟧
+            ⊢ ⟦ numbered_slot R t b ν sharing table k o ns η i ⟧
         born_one i η w clear =
             let j : ℕ = i + k in
             let e : ℕ = value_offset R o i in
@@ -250,13 +247,13 @@ module _ {M : Type 1} {𝓤 : Ura M} (𝓛 : Logic 𝓤) (R : RattleType) (t : T
             (waited sharing table j e η w) $
             move ! (2 ∷ 0 ∷ []) $ fjoin ! $
             nothing ! $ fpack ! (set ≡ is_some v) (λ _. ftrue) clear $ fjoin ! $
-            fpack ! (Option R.Denot × Who) (shared_slot_as R t b ν d set j e η)
+            fpack ! (Option R.Denot × Who) (shared_slot_as R t b ν sharing table set j e η)
             (None, who w) $
             move ! (1 ∷ 0 ∷ []) $ fjoin ! $ done !
 
         born_all : (names : List ℕ) (i : ℕ) → ((j : ℕ) → j < length names → is_set_in ns (j + i) ≡ false)
             → ⟦ all_unborn R sharing table t (length names) (i + k) ⟧ ∗ ⟦ each bare_slot names i ⟧
-            ⊢ ⟦ each (numbered_slot R t b ν d k o ns) names i ⟧
+            ⊢ ⟦ each (numbered_slot R t b ν sharing table k o ns) names i ⟧
         born_all [] i clear = qed 𝓛 (‵ ftrue ∷ ‵ ftrue ∷ []) ∵ drop ! $ done !
         born_all (η ∷ names) i clear = let j : ℕ = i + k in let next : suc (i + k) ≡ suc i + k = omega arith in
             qed 𝓛 (‵ (all_unborn R sharing table t (length (η ∷ names)) j)
@@ -264,7 +261,7 @@ module _ {M : Type 1} {𝓤 : Ura M} (𝓛 : Logic 𝓤) (R : RattleType) (t : T
             fsplit ! $ fsplit3 ! $ move ! (2 ∷ []) $ fpick ! (λ w. move ! (4 ∷ []) $ fsplit ! $
             -- [the slot; the other slots; what waits; vacant; filled; the others that are unborn]
             move ! (3 ∷ 4 ∷ 2 ∷ 0 ∷ []) $ group ! 4 $
-            use1 𝓛 (‵ (numbered_slot R t b ν d k o ns η i)) (born_one i η w (first_clear i clear)) $ frame ! $
+            use1 𝓛 (‵ (numbered_slot R t b ν sharing table k o ns η i)) (born_one i η w (first_clear i clear)) $ frame ! $
             move ! (1 ∷ []) $
             rewrite ! 0 (λ (m : ℕ). ‵ (all_unborn R sharing table t (length names) m)) next refl $
             by ! (born_all names (suc i) (next_clear i (length names) clear)))
@@ -312,15 +309,13 @@ module _ {M : Type 1} {𝓤 : Ura M} (𝓛 : Logic 𝓤) (R : RattleType) (t : T
             move ! (2 ∷ 1 ∷ []) $ res_agree ! (coded_option R.coded) {x = Some x} {y = c} (λ z. drop ! $ drop ! $
             rewrite ! 0 (λ (u : Option R.Denot). ‵ (content_at R u b e)) (sym z) refl $ now ! $ keep ! (0 ∷ []) $ done !))
 
-        module _ (d : BucketView) (k : ℕ) (ns : List ℕ) (says : Option Gv) (same : Belongs d.sharing d.table) where
-          open d use {sharing, table}
-
+        module _ (sharing : Option GName) (table k : ℕ) (ns : List ℕ) (says : Option Gv) (same : Belongs sharing table) where
           -- the slot is born with its value, for the claim that has its pass
           full_reborn : (i : ℕ) (η : GName) → is_set_in ns i ≡ true
-              → ⟦ laid_down t d (i + k) ⟧ ∗ ⟦ fsep (right_owns t.filled (i + k)) (untold_in sharing (i + k)) ⟧
+              → ⟦ right_owns t.vacant (i + k) ⟧ ∗ ⟦ fsep (right_owns t.filled (i + k)) (untold_in sharing (i + k)) ⟧
               ∗ ⟦ right_owns table (i + k) ⟧ ∗ ⟦ right_owns t.pass (i + k) ⟧ ∗ ⟦ full (value_offset R o i) η ⟧
               ∗ ⟦ note_owns table (i + k) says ⟧
-              ⊢ upd 𝓤 (⟦ numbered_slot R t b ν d k o ns η i ⟧ ∗ ⟦ Won_by sharing table says (Some x) (i + k) ⟧)
+              ⊢ upd 𝓤 (⟦ numbered_slot R t b ν sharing table k o ns η i ⟧ ∗ ⟦ Won_by sharing table says (Some x) (i + k) ⟧)
           full_reborn i η set =
               let j : ℕ = i + k in
               let e : ℕ = value_offset R o i in
@@ -328,31 +323,31 @@ module _ {M : Type 1} {𝓤 : Ura M} (𝓛 : Logic 𝓤) (R : RattleType) (t : T
               let v : Option R.Denot = Some x in
               let Told : Fml = tells R sharing j v in
               let Note : Fml = note_owns table j (left_after R sharing table says v) in
-              let Z : SProp 𝓤 = ⟦ numbered_slot R t b ν d k o ns η i ⟧ ∗ ⟦ Won_by sharing table says v j ⟧ in
-              qed 𝓛 (‵ (laid_down t d j) ∷ ‵ (fsep (right_owns t.filled j) (untold_in sharing j))
+              let Z : SProp 𝓤 = ⟦ numbered_slot R t b ν sharing table k o ns η i ⟧ ∗ ⟦ Won_by sharing table says v j ⟧ in
+              qed 𝓛 (‵ (right_owns t.vacant j) ∷ ‵ (fsep (right_owns t.filled j) (untold_in sharing j))
               ∷ ‵ (right_owns table j) ∷ ‵ (right_owns t.pass j) ∷ ‵ (full e η) ∷ ‵ (note_owns table j says) ∷ []) ∵
               move ! (1 ∷ []) $ fsplit ! $ move ! (1 ∷ 6 ∷ []) $
               use2 𝓛 (raw (upd 𝓤 (⟦ Told ⟧ ∗ ⟦ Note ⟧))) (publishes_noted 𝓛 R sharing table j says x same) $ settle 𝓛 Z (‵ Told ⊛ ‵ Note) $
               suffices ! _ (upd_i 𝓤 Z) $ split ! $ use1 𝓛 (‵ Told ⊛ ‵ Told) (tells_dup 𝓛 R sharing j v) $ split ! $
               move ! (7 ∷ []) $ fsplit3 ! $
-              -- [the way to its end; pinned; opened; told, twice; the note; filled; what is laid down; the right; the pass]
+              -- [the way to its end; pinned; opened; told, twice; the note; filled; vacant; the right; the pass]
               move ! (1 ∷ 3 ∷ []) $ fjoin ! $ move ! (6 ∷ 0 ∷ 2 ∷ []) $ fjoin3 ! $
               -- [what stays; the way to its end; told; the note; filled; the right; the pass]
               move ! (5 ∷ 6 ∷ []) $ fjoin ! $ move ! (1 ∷ 0 ∷ []) $ fjoin ! $
               nothing ! $ fpack ! (bit ≡ is_some v) (λ _. ftrue) set $ fjoin ! $
-              fpack ! (Option R.Denot × Who) (shared_slot_as R t b ν d bit j e η) (v, claimed) $
+              fpack ! (Option R.Denot × Who) (shared_slot_as R t b ν sharing table bit j e η) (v, claimed) $
               -- [the slot, as it is; the way to its end; told; the note; filled]
               move ! (1 ∷ 0 ∷ []) $ fjoin ! $ move ! (3 ∷ 1 ∷ []) $ fjoin ! $ move ! (0 ∷ 2 ∷ []) $ fjoin ! $ move ! (1 ∷ 0 ∷ []) $ done !
 
           -- so it is whoever has the slot: with the pass it is the claim
           full_born : (i : ℕ) (η : GName) (w : Bool) → is_set_in ns i ≡ true
-              → ⟦ laid_down t d (i + k) ⟧ ∗ ⟦ fsep (right_owns t.filled (i + k)) (untold_in sharing (i + k)) ⟧
+              → ⟦ right_owns t.vacant (i + k) ⟧ ∗ ⟦ fsep (right_owns t.filled (i + k)) (untold_in sharing (i + k)) ⟧
               ∗ ⟦ slots_side R w table t.pass (i + k) ⟧ ∗ ⟦ right_owns t.pass (i + k) ⟧ ∗ ⟦ full (value_offset R o i) η ⟧
               ∗ ⟦ note_owns table (i + k) says ⟧
-              ⊢ upd 𝓤 (⟦ numbered_slot R t b ν d k o ns η i ⟧ ∗ ⟦ Won_by sharing table says (Some x) (i + k) ⟧)
+              ⊢ upd 𝓤 (⟦ numbered_slot R t b ν sharing table k o ns η i ⟧ ∗ ⟦ Won_by sharing table says (Some x) (i + k) ⟧)
           full_born i η false set =
               let j : ℕ = i + k in
-              qed 𝓛 (‵ (laid_down t d j) ∷ ‵ (fsep (right_owns t.filled j) (untold_in sharing j))
+              qed 𝓛 (‵ (right_owns t.vacant j) ∷ ‵ (fsep (right_owns t.filled j) (untold_in sharing j))
               ∷ ‵ (right_owns t.pass j) ∷ ‵ (right_owns t.pass j) ∷ ‵ (full (value_offset R o i) η)
               ∷ ‵ (note_owns table j says) ∷ []) ∵
               keep ! (2 ∷ 3 ∷ []) $ by ! (right_once 𝓛 t.pass j _)
@@ -385,23 +380,20 @@ module _ {M : Type 1} {𝓤 : Ura M} (𝓛 : Logic 𝓤) (R : RattleType) (t : T
         takes_mine None e η = takes_one e η
         takes_mine (Some x) e η = takes_full L x e η
 
-        module _ (d : BucketView) (k : ℕ) (ns : List ℕ) (says : Option Gv) (same : Belongs d.sharing d.table) where
-          open d use {sharing, table}
-
+        module _ (sharing : Option GName) (table k : ℕ) (ns : List ℕ) (says : Option Gv) (same : Belongs sharing table) where
           mine_born : (v : Option R.Denot) (i : ℕ) (η : GName) (w : Bool) → is_set_in ns i ≡ is_some v
-              → ⟦ laid_down t d (i + k) ⟧ ∗ ⟦ fsep (right_owns t.filled (i + k)) (untold_in sharing (i + k)) ⟧
+              → ⟦ right_owns t.vacant (i + k) ⟧ ∗ ⟦ fsep (right_owns t.filled (i + k)) (untold_in sharing (i + k)) ⟧
               ∗ ⟦ slots_side R w table t.pass (i + k) ⟧ ∗ ⟦ right_owns t.pass (i + k) ⟧ ∗ ⟦ mine v (value_offset R o i) η ⟧
               ∗ ⟦ note_owns table (i + k) says ⟧
-              ⊢ upd 𝓤 (⟦ numbered_slot R t b ν d k o ns η i ⟧ ∗ ⟦ Won_by sharing table says v (i + k) ⟧)
+              ⊢ upd 𝓤 (⟦ numbered_slot R t b ν sharing table k o ns η i ⟧ ∗ ⟦ Won_by sharing table says v (i + k) ⟧)
           mine_born None i η w clear =
               let j : ℕ = i + k in
-              qed 𝓛 (‵ (laid_down t d j) ∷ ‵ (Unborn d k ns j) ∷ ‵ (slots_side R w table t.pass j) ∷ ‵ (right_owns t.pass j)
+              qed 𝓛 (‵ (right_owns t.vacant j) ∷ ‵ (Unborn sharing table k ns j) ∷ ‵ (slots_side R w table t.pass j) ∷ ‵ (right_owns t.pass j)
               ∷ ‵ (bare (value_offset R o i) η) ∷ ‵ (note_owns table j says) ∷ []) ∵
-              suffices ! _ (upd_i 𝓤 (⟦ numbered_slot R t b ν d k o ns η i ⟧ ∗ ⟦ Won_by sharing table says None j ⟧)) $
-              fsplit ! $ move ! (1 ∷ []) $ drop ! $
+              suffices ! _ (upd_i 𝓤 (⟦ numbered_slot R t b ν sharing table k o ns η i ⟧ ∗ ⟦ Won_by sharing table says None j ⟧)) $
               move ! (3 ∷ 5 ∷ []) $ fjoin ! $ move ! (1 ∷ 2 ∷ 3 ∷ 4 ∷ 0 ∷ []) $ group ! 4 $
-              use1 𝓛 (‵ (numbered_slot R t b ν d k o ns η i)) (born_one d k ns i η w clear) $ done !
-          mine_born (Some x) i η w set = full_born L x d k ns says same i η w set
+              use1 𝓛 (‵ (numbered_slot R t b ν sharing table k o ns η i)) (born_one sharing table k ns i η w clear) $ done !
+          mine_born (Some x) i η w set = full_born L x sharing table k ns says same i η w set
 
   unborn_apart : (sharing : Option GName) (table n m r k j : ℕ) → n ≡ m + r → j ≡ m + k
       → ⟦ all_unborn R sharing table t n k ⟧ ⊢ ⟦ all_unborn R sharing table t m k ⟧ ∗ ⟦ all_unborn R sharing table t r j ⟧
@@ -592,7 +584,6 @@ module _ {M : Type 1} {𝓤 : Ura M} (𝓛 : Logic 𝓤) (R : RattleType) (t : T
       -- the block's slots are born under the turn, the claim's for whoever has its pass
       born_block : (p : Ptr) (ν : ℕ) (z : Names) → Lies p z
           → ⟦ all_unborn R d.sharing d.table t n (first R d) ⟧ ∗ ⟦ idle p ν z ⟧ ∗ ⟦ right_owns t.pass id ⟧ ∗ ⟦ Note ⟧
-          ∗ ⟦ announced d.word d.bucket ⟧
           ⊢ upd 𝓤 (⟦ fsep (block_stands R d t p (block_as p ν z)) (heap_token τ p) ⟧
           ∗ ⟦ Won ⟧)
       born_block p ν z so =
@@ -605,7 +596,7 @@ module _ {M : Type 1} {𝓤 : Ura M} (𝓛 : Logic 𝓤) (R : RattleType) (t : T
           let Unborn : ℕ → ℕ → Fml = λ m j. all_unborn R d.sharing d.table t m j in
           let from_first : k ≡ 0 + k = omega arith in
           let next : suc id ≡ suc at + k = omega arith in
-          qed 𝓛 (‵ (Unborn n k) ∷ ‵ (idle p ν z) ∷ ‵ (right_owns t.pass id) ∷ ‵ Note ∷ ‵ (announced d.word d.bucket) ∷ []) ∵
+          qed 𝓛 (‵ (Unborn n k) ∷ ‵ (idle p ν z) ∷ ‵ (right_owns t.pass id) ∷ ‵ Note ∷ []) ∵
           use1 𝓛 (‵ (Unborn at k) ⊛ ‵ (Unborn (suc rest) id)) (unborn_apart d.sharing d.table n at (suc rest) k id many refl) $ split ! $
           move ! (1 ∷ []) $ fsplit ! $
           -- [the claim's slot, unborn; the slots behind, unborn; the slots before, unborn; the block; the pass]
@@ -613,17 +604,17 @@ module _ {M : Type 1} {𝓤 : Ura M} (𝓛 : Logic 𝓤) (R : RattleType) (t : T
           -- [the words; nothing; the slots; the ends; what waits; vacant; filled; the slots behind, unborn; before, unborn; the pass]
           move ! (1 ∷ []) $ drop ! $ move ! (1 ∷ []) $ fsplit3 ! $
           -- [the slots before; the claim's; those behind; the words; the ends; what waits; vacant; filled; the slots behind, unborn;
-          -- before, unborn; the pass; its note; that the bucket is announced]
-          let N : GName → ℕ → Fml = numbered_slot R t b ν d k o ns in
-          move ! (6 ∷ 12 ∷ []) $ fjoin ! $ move ! (0 ∷ 7 ∷ 6 ∷ 10 ∷ 2 ∷ 11 ∷ []) $ group ! 6 $
+          -- before, unborn; the pass]
+          let N : GName → ℕ → Fml = numbered_slot R t b ν d.sharing d.table k o ns in
+          move ! (6 ∷ 7 ∷ 5 ∷ 10 ∷ 1 ∷ 11 ∷ []) $ group ! 6 $
           use1 𝓛 (raw (upd 𝓤 (⟦ N z.here at ⟧ ∗ ⟦ Won ⟧)))
-          (mine_born b ν o L d k ns says same v at z.here w (here_set R v at rest ns are.1)) $
+          (mine_born b ν o L d.sharing d.table k ns says same v at z.here w (here_set R v at rest ns are.1)) $
           settle 𝓛 Z (‵ (N z.here at) ⊛ ‵ Won) $ suffices ! _ (upd_i 𝓤 Z) $ split ! $
           -- [the claim's slot; what the claim gets; the slots before; behind; the words; the ends; behind, unborn; before, unborn]
           move ! (7 ∷ []) $ rewrite ! 0 (λ (m : ℕ). ‵ (Unborn at m)) from_first refl $
           rewrite ! 0 (λ (m : ℕ). ‵ (Unborn m (0 + k))) (sym so.before) refl $ move ! (0 ∷ 3 ∷ []) $
           use2 𝓛 (‵ (each N z.before 0))
-          (born_all b ν o d k ns z.before 0 (λ j near.
+          (born_all b ν o d.sharing d.table k ns z.before 0 (λ j near.
           let is : j ≡ j + 0 = omega arith in
           subst (λ (i : ℕ). is_set_in ns i ≡ false) is
           (before_clear R v at rest ns are.1 j (omega (arith, near, so.before))))) $
@@ -631,7 +622,7 @@ module _ {M : Type 1} {𝓤 : Ura M} (𝓛 : Logic 𝓤) (R : RattleType) (t : T
           move ! (6 ∷ []) $ rewrite ! 0 (λ (m : ℕ). ‵ (Rest m)) next refl $
           rewrite ! 0 (λ (m : ℕ). ‵ (Unborn m (suc at + k))) (sym so.behind) refl $ move ! (0 ∷ 4 ∷ []) $
           use2 𝓛 (‵ (each N z.behind (suc at)))
-          (born_all b ν o d k ns z.behind (suc at) (λ j near.
+          (born_all b ν o d.sharing d.table k ns z.behind (suc at) (λ j near.
           behind_clear R v at rest ns are.1 j (j + suc at) refl)) $
           -- [the slots behind; before; the claim's; what the claim gets; the words; the ends]
           move ! (2 ∷ 0 ∷ []) $ fjoin ! $ move ! (1 ∷ 0 ∷ []) $
@@ -655,10 +646,6 @@ module _ {M : Type 1} {𝓤 : Ura M} (𝓛 : Logic 𝓤) (R : RattleType) (t : T
         abbrev J : Fml
         J = bucket_invariant R d t b o
 
-        -- that the bucket is announced, beside what it shows
-        abbrev Shown : Fml
-        Shown = shown_announced d
-
         abbrev Held : Ptr → Fml
         Held p = fsep (cell b o p) (beside_pointer R d t p)
 
@@ -679,25 +666,22 @@ module _ {M : Type 1} {𝓤 : Ura M} (𝓛 : Logic 𝓤) (R : RattleType) (t : T
 
         -- what the exchange finds in the pointer
         abbrev Finds : Ptr → Type 1
-        Finds p = ⟦ cell b o p ⟧ ∗ ⟦ beside_pointer R d t p ⟧ ∗ ⟦ private new ν z ⟧ ∗ ⟦ Shown ⟧ ∗ ⟦ Ticket ⟧ ⊢ ex 𝓤 F
+        Finds p = ⟦ cell b o p ⟧ ∗ ⟦ beside_pointer R d t p ⟧ ∗ ⟦ private new ν z ⟧ ∗ ⟦ grown d ⟧ ∗ ⟦ Ticket ⟧ ⊢ ex 𝓤 F
 
         -- no block was installed: this one is
         found_none : Finds null_ptr
         found_none = let m = block_code s in let γ : GName = t.which in let G : SProp 𝓤 = ⟦ J ⟧ ∗ ⟦ won null_ptr ⟧ in
             qed 𝓛
-            (‵ (cell b o null_ptr) ∷ ‵ (beside_pointer R d t null_ptr) ∷ ‵ (private new ν z) ∷ ‵ Shown ∷ ‵ Ticket ∷ []) ∵
+            (‵ (cell b o null_ptr) ∷ ‵ (beside_pointer R d t null_ptr) ∷ ‵ (private new ν z) ∷ ‵ (grown d) ∷ ‵ Ticket ∷ []) ∵
             show ! F (null_ptr, true) $ frame ! $
             use0 𝓛 (‵ (alike null_ptr null_ptr true)) (alike_null 𝓛 null_ptr (lit< tt)) $ frame ! $
             assume ! (‵ (cell b o new)) $ move ! (1 ∷ []) $ fsplit3 ! $ drop ! $
             use1 𝓛 (raw (upd 𝓤 (A.obs γ m ∗ A.auth γ m))) (𝓛.names.name_set_upd γ gnil gnil m) $
             settle 𝓛 G (‵ (fobs γ m) ⊛ ‵ (fauth γ m)) $ split ! $
             -- [what the name says now; its authority; what waits; the pointer; the private block; what it shows; the pass]
-            use1 𝓛 (‵ (fres γ m)) (𝓛.names.obs-res γ m) $ move ! (5 ∷ []) $
-            use1 𝓛 (‵ (grown d) ⊛ ‵ (announced d.word d.bucket)) (shows_grown 𝓛 d) $ split ! $ move ! (3 ∷ 2 ∷ 0 ∷ []) $ fjoin3 ! $
-            -- [settled; that it is announced; what waits; the pointer; the private block; the ticket]
-            move ! (4 ∷ []) $ fsplit ! $ move ! (6 ∷ []) $ fsplit ! $
-            -- [the pass; its note; its own token; the block; settled; that it is announced; what waits; the pointer]
-            move ! (6 ∷ 3 ∷ 0 ∷ 1 ∷ 5 ∷ []) $ group ! 5 $
+            use1 𝓛 (‵ (fres γ m)) (𝓛.names.obs-res γ m) $ move ! (1 ∷ 0 ∷ 5 ∷ []) $ fjoin3 ! $ move ! (3 ∷ []) $ fsplit ! $
+            -- [its own token; the block; settled; what waits; the pointer; the ticket]
+            move ! (5 ∷ []) $ fsplit ! $ move ! (5 ∷ 3 ∷ 0 ∷ 1 ∷ []) $ group ! 4 $
             use1 𝓛 (raw (upd 𝓤 (⟦ fsep (block_stands R d t new s) (heap_token τ new) ⟧ ∗ ⟦ Won ⟧))) (born_block new ν z so) $
             settle 𝓛 G (‵ (fsep (block_stands R d t new s) (heap_token τ new)) ⊛ ‵ Won) $
             suffices ! _ (upd_i 𝓤 G) $ split ! $
@@ -715,7 +699,7 @@ module _ {M : Type 1} {𝓤 : Ura M} (𝓛 : Logic 𝓤) (R : RattleType) (t : T
         found_other : (pb po : ℕ) → Finds (block_ptr pb po)
         found_other pb po =
             let p : Ptr = block_ptr pb po in
-            qed 𝓛 (‵ (cell b o p) ∷ ‵ (beside_pointer R d t p) ∷ ‵ (private new ν z) ∷ ‵ Shown ∷ ‵ Ticket ∷ []) ∵
+            qed 𝓛 (‵ (cell b o p) ∷ ‵ (beside_pointer R d t p) ∷ ‵ (private new ν z) ∷ ‵ (grown d) ∷ ‵ Ticket ∷ []) ∵
             keep ! (0 ∷ 1 ∷ 2 ∷ 4 ∷ []) $ show ! F (p, false) $ frame ! $ fpick ! (λ y. fsplit ! $ fpick ! (λ h. drop ! $
             nothing ! $ fpack ! ((y.0.at ≡ p) × (length y.0.names ≡ n) × Sized R n p) (λ _. ftrue) h $ fjoin ! $
             use1 𝓛 (‵ (standing R d t p (y.0, left y.1)) ⊛ ‵ (part 𝓛 R d t p (y.0, right y.1)))
@@ -731,10 +715,10 @@ module _ {M : Type 1} {𝓤 : Ura M} (𝓛 : Logic 𝓤) (R : RattleType) (t : T
         found null_ptr = found_none
         found (block_ptr pb po) = found_other pb po
 
-        pub offers : A.inv (fbor t.life J) ∗ (A.lft t.life q ∗ (⟦ private new ν z ⟧ ∗ ⟦ Shown ⟧ ∗ ⟦ Ticket ⟧))
+        pub offers : A.inv (fbor t.life J) ∗ (A.lft t.life q ∗ (⟦ private new ν z ⟧ ∗ ⟦ grown d ⟧ ∗ ⟦ Ticket ⟧))
             ⊢ compares 𝓛 (block_ptr b o) null_ptr new (λ p. fsep (flft t.life q) (won p))
             (λ p. fsep (flft t.life q) (lost p))
         offers =
-            opened_to_compare 𝓛 t.life q J b o null_ptr new won lost (⟦ private new ν z ⟧ ∗ ⟦ Shown ⟧ ∗ ⟦ Ticket ⟧)
-            (qed 𝓛 (‵ J ∷ ‵ (private new ν z) ∷ ‵ Shown ∷ ‵ Ticket ∷ []) ∵ suffices ! _ (upd_i 𝓤 (ex 𝓤 F)) $ fpick ! (λ p.
+            opened_to_compare 𝓛 t.life q J b o null_ptr new won lost (⟦ private new ν z ⟧ ∗ ⟦ grown d ⟧ ∗ ⟦ Ticket ⟧)
+            (qed 𝓛 (‵ J ∷ ‵ (private new ν z) ∷ ‵ (grown d) ∷ ‵ Ticket ∷ []) ∵ suffices ! _ (upd_i 𝓤 (ex 𝓤 F)) $ fpick ! (λ p.
             fsplit ! $ by ! (found p)))

@@ -11,7 +11,7 @@ use base.Fml.{GName, Fml, ftrue, fsep, fex}
 use base.Logic.{SProp, ex, guard, id⊢, guard_i}
 use contract.Monad.{fact_use}
 use types.Logic.{Logic}
-use types.Kit.{‵, some, given, later, split, split3, use2, use3, ◌⊛◌, ◌$◌, ◌∵◌, !, qed, move, keep, drop, use0, use1, fsplit, fsplit3}
+use types.Kit.{‵, some, given, later, split, use2, use3, ◌⊛◌, ◌$◌, ◌∵◌, !, qed, move, keep, drop, use0, use1, fsplit, fsplit3}
 use types.Kit.{fjoin, fjoin3, fpick, fpack, pick, learn, check, show, await, updating, now, rewrite, done}
 use denote.RattleType.{RattleType}
 use denote.RawPtr.{Ptr, block_ptr, null_ptr, InBlock, Testable}
@@ -24,12 +24,12 @@ use Rattle.thread_local_base.specs.Bits.{is_set_in}
 use Rattle.thread_local_buckets.specs.Slots.{heap_token, chunks, each, AreFlags, flags_at, slot_value, block_ty, Fits}
 use Rattle.thread_local_buckets.specs.Slots.{value_offset, content_at, slot, flags_own, back}
 use Rattle.thread_local_buckets.specs.PointerOwns.{pointer_owns}
-use Rattle.thread_local_shared_buckets.specs.Shared.{BucketView, AreFlagWords, slots_under, known_at_rest, slot_rests_as, slot_rests, grown}
+use Rattle.thread_local_shared_buckets.specs.Shared.{BucketView, AreFlagWords, slots_under, slot_rests_as, slot_rests}
 use Rattle.thread_local_shared_buckets.specs.Shared.{slots_rest, Sized, len, first, at_rest}
 use Rattle.thread_local_ids.specs.Told.{told_or_untold, all_told_or_untold, whole_row}
 use Rattle.thread_local_ids.specs.Rights.{reached_owns}
 use Rattle.thread_local_ids.proofs.ReachedElements.{reached_none}
-use Rattle.thread_local_shared_buckets.proofs.GrownLaws.{row_grown, row_announced, row_known, values_announced, whole_grown, grown_whole}
+use Rattle.thread_local_shared_buckets.proofs.GrownLaws.{row_grown, row_announced, row_known, whole_grown}
 use Rattle.thread_local_shared_buckets.proofs.Rested.{redeems}
 use Rattle.thread_local_shared_buckets.specs.Fit.{Fit}
 use Rattle.thread_local_base.proofs.Signs.{signs}
@@ -98,14 +98,14 @@ module _ {M : Type 1} {𝓤 : Ura M} (𝓛 : Logic 𝓤) (R : RattleType) (L : L
   abbrev C : Type 0
   C = Option R.Denot
 
-  -- ---- the slots of a block: their contents, and what is known of them
-  module _ (d : BucketView) (k b : ℕ) where
+  -- ---- the slots of a block: their contents, and what is told of them
+  module _ (sharing : Option GName) (k b : ℕ) where
     abbrev OneRedeemed : Bool → ℕ → ℕ → C → SProp 𝓤
-    OneRedeemed set id e v = guard 𝓤 (set ≡ is_some v) (⟦ content_at R v b e ⟧ ∗ ⟦ known_at_rest R d id v ⟧)
+    OneRedeemed set id e v = guard 𝓤 (set ≡ is_some v) (⟦ content_at R v b e ⟧ ∗ ⟦ told_or_untold R sharing id v ⟧)
 
-    redeems_slot : (set : Bool) (id e : ℕ) → ⟦ slot_rests R d id set b e ⟧ ⊢ H.⇛ (ex 𝓤 (OneRedeemed set id e))
+    redeems_slot : (set : Bool) (id e : ℕ) → ⟦ slot_rests R sharing id set b e ⟧ ⊢ H.⇛ (ex 𝓤 (OneRedeemed set id e))
     redeems_slot set id e =
-        qed 𝓛 (‵ (slot_rests R d id set b e) ∷ []) ∵ updating ! $ fpick ! (λ s. fsplit3 ! $
+        qed 𝓛 (‵ (slot_rests R sharing id set b e) ∷ []) ∵ updating ! $ fpick ! (λ s. fsplit3 ! $
         fpick ! (λ is. drop ! $ move ! (1 ∷ []) $
         use1 𝓛 (later (‵ (content_at R s.0 b e))) (redeems 𝓛 R L b e s.1 s.0) $ await ! tt $
         now ! $ show ! (OneRedeemed set id e) s.0 $ check ! is $ done !))
@@ -114,71 +114,68 @@ module _ {M : Type 1} {𝓤 : Ura M} (𝓛 : Logic 𝓤) (R : RattleType) (L : L
       abbrev AllRedeemed : ℕ → ℕ → List C → SProp 𝓤
       AllRedeemed n i cs =
           guard 𝓤 ((length cs ≡ n) × Told ns i cs)
-          (⟦ each (slot R b o) cs i ⟧ ∗ ⟦ all_told_or_untold R d.sharing (i + k) cs ⟧ ∗ ⟦ values_announced R d cs ⟧)
+          (⟦ each (slot R b o) cs i ⟧ ∗ ⟦ all_told_or_untold R sharing (i + k) cs ⟧)
 
       -- the first slot, and then the others
-      redeems_next : (n i : ℕ) → ⟦ slots_rest R d k n (suc i) b o ns ⟧ ⊢ H.⇛ (ex 𝓤 (AllRedeemed n (suc i)))
-          → ⟦ slots_rest R d k (suc n) i b o ns ⟧ ⊢ H.⇛ (ex 𝓤 (AllRedeemed (suc n) i))
+      redeems_next : (n i : ℕ) → ⟦ slots_rest R sharing k n (suc i) b o ns ⟧ ⊢ H.⇛ (ex 𝓤 (AllRedeemed n (suc i)))
+          → ⟦ slots_rest R sharing k (suc n) i b o ns ⟧ ⊢ H.⇛ (ex 𝓤 (AllRedeemed (suc n) i))
       redeems_next n i others =
           let e : ℕ = value_offset R o i in
           let set : Bool = is_set_in ns i in
           let next : suc i + k ≡ suc (i + k) = omega arith in
-          qed 𝓛 (‵ (slots_rest R d k (suc n) i b o ns) ∷ []) ∵ updating ! $ fsplit ! $
+          qed 𝓛 (‵ (slots_rest R sharing k (suc n) i b o ns) ∷ []) ∵ updating ! $ fsplit ! $
           use1 𝓛 (later (some (λ (v : C).
-          given (set ≡ is_some v) (‵ (content_at R v b e) ⊛ ‵ (known_at_rest R d (i + k) v)))))
+          given (set ≡ is_some v) (‵ (content_at R v b e) ⊛ ‵ (told_or_untold R sharing (i + k) v)))))
           (redeems_slot set (i + k) e) $
           await ! tt $ pick ! (λ v. learn ! (λ is. move ! (1 ∷ []) $
           use1 𝓛 (later (some (λ (cs : List C).
           given ((length cs ≡ n) × Told ns (suc i) cs)
-          (‵ (each (slot R b o) cs (suc i)) ⊛ ‵ (all_told_or_untold R d.sharing (suc i + k) cs) ⊛ ‵ (values_announced R d cs)))))
+          (‵ (each (slot R b o) cs (suc i)) ⊛ ‵ (all_told_or_untold R sharing (suc i + k) cs)))))
           others $
           await ! tt $ pick ! (λ cs. learn ! (λ so.
-          split3 ! $ move ! (3 ∷ []) $ split ! $ move ! (1 ∷ []) $ fsplit ! $
-          -- [what is told of the slot; that it is announced; the slot; the other slots; what is told of them; that they are
-          -- announced]
-          move ! (2 ∷ 3 ∷ []) $ fjoin ! $ move ! (3 ∷ []) $
-          rewrite ! 0 (λ (m : ℕ). ‵ (all_told_or_untold R d.sharing m cs)) next refl $ move ! (2 ∷ 0 ∷ []) $
-          fjoin ! $ move ! (2 ∷ 3 ∷ []) $ fjoin ! $ move ! (2 ∷ 1 ∷ 0 ∷ []) $
+          split ! $ move ! (2 ∷ []) $ split ! $
+          -- [the slot; what is told of it; the other slots; what is told of them]
+          move ! (0 ∷ 2 ∷ []) $ fjoin ! $ move ! (2 ∷ []) $
+          rewrite ! 0 (λ (m : ℕ). ‵ (all_told_or_untold R sharing m cs)) next refl $ move ! (2 ∷ 0 ∷ []) $
+          fjoin ! $ move ! (1 ∷ 0 ∷ []) $
           now ! $ show ! (AllRedeemed (suc n) i) (v ∷ cs) $ check ! (ap suc so.0, told_more ns i v cs is so.1) $ done !))))
 
-      redeems_slots : (n i : ℕ) → ⟦ slots_rest R d k n i b o ns ⟧ ⊢ H.⇛ (ex 𝓤 (AllRedeemed n i))
+      redeems_slots : (n i : ℕ) → ⟦ slots_rest R sharing k n i b o ns ⟧ ⊢ H.⇛ (ex 𝓤 (AllRedeemed n i))
       redeems_slots zero i =
           qed 𝓛 (‵ ftrue ∷ []) ∵ updating ! $ now ! $ show ! (AllRedeemed 0 i) [] $
-          check ! (refl, λ j near. absurd (omega arith)) $ nothing ! $ nothing ! $ done !
+          check ! (refl, λ j near. absurd (omega arith)) $ nothing ! $ done !
       redeems_slots (suc n) i = redeems_next n i (redeems_slots n (suc i))
 
       rests_slot : (i : ℕ) (v : C) → is_set_in ns i ≡ is_some v
-          → ⟦ slot R b o v i ⟧ ∗ ⟦ known_at_rest R d (i + k) v ⟧
-          ⊢ ⟦ slot_rests R d (i + k) (is_set_in ns i) b (value_offset R o i) ⟧
+          → ⟦ slot R b o v i ⟧ ∗ ⟦ told_or_untold R sharing (i + k) v ⟧
+          ⊢ ⟦ slot_rests R sharing (i + k) (is_set_in ns i) b (value_offset R o i) ⟧
       rests_slot i v is = let e : ℕ = value_offset R o i in let set : Bool = is_set_in ns i in
-          qed 𝓛 (‵ (content_at R v b e) ∷ ‵ (known_at_rest R d (i + k) v) ∷ []) ∵
+          qed 𝓛 (‵ (content_at R v b e) ∷ ‵ (told_or_untold R sharing (i + k) v) ∷ []) ∵
           move ! (1 ∷ 0 ∷ []) $ nothing ! $ fpack ! (set ≡ is_some v) (λ _. ftrue) is $ fjoin3 ! $
-          fpack ! (C × Bool) (slot_rests_as R d (i + k) set b e) (v, false) $ done !
+          fpack ! (C × Bool) (slot_rests_as R sharing (i + k) set b e) (v, false) $ done !
 
       rests_next : (c : C) (cs : List C) (i : ℕ) → Told ns i (c ∷ cs)
-          → ⟦ each (slot R b o) cs (suc i) ⟧ ∗ ⟦ all_told_or_untold R d.sharing (suc i + k) cs ⟧ ∗ ⟦ values_announced R d cs ⟧
-          ⊢ ⟦ slots_rest R d k (length cs) (suc i) b o ns ⟧
-          → ⟦ each (slot R b o) (c ∷ cs) i ⟧ ∗ ⟦ all_told_or_untold R d.sharing (i + k) (c ∷ cs) ⟧ ∗ ⟦ values_announced R d (c ∷ cs) ⟧
-          ⊢ ⟦ slots_rest R d k (suc (length cs)) i b o ns ⟧
+          → ⟦ each (slot R b o) cs (suc i) ⟧ ∗ ⟦ all_told_or_untold R sharing (suc i + k) cs ⟧ ⊢ ⟦ slots_rest R sharing k (length cs) (suc i) b o ns ⟧
+          → ⟦ each (slot R b o) (c ∷ cs) i ⟧ ∗ ⟦ all_told_or_untold R sharing (i + k) (c ∷ cs) ⟧
+          ⊢ ⟦ slots_rest R sharing k (suc (length cs)) i b o ns ⟧
       rests_next c cs i told others =
           let next : suc (i + k) ≡ suc i + k = omega arith in
           qed 𝓛
-          (‵ (each (slot R b o) (c ∷ cs) i) ∷ ‵ (all_told_or_untold R d.sharing (i + k) (c ∷ cs))
-          ∷ ‵ (values_announced R d (c ∷ cs)) ∷ []) ∵
-          fsplit ! $ move ! (2 ∷ []) $ fsplit ! $ move ! (4 ∷ []) $ fsplit ! $
-          -- [that the slot is announced, and the others; what is told of the slot, and of the others; the slot; the others]
-          move ! (2 ∷ 0 ∷ []) $ fjoin ! $ move ! (3 ∷ 0 ∷ []) $
-          use2 𝓛 (‵ (slot_rests R d (i + k) (is_set_in ns i) b (value_offset R o i)))
+          (‵ (each (slot R b o) (c ∷ cs) i) ∷ ‵ (all_told_or_untold R sharing (i + k) (c ∷ cs)) ∷ []) ∵
+          fsplit ! $ move ! (2 ∷ []) $ fsplit ! $
+          -- [what is told of the slot, and of the others; the slot; the others]
+          move ! (2 ∷ 0 ∷ []) $
+          use2 𝓛 (‵ (slot_rests R sharing (i + k) (is_set_in ns i) b (value_offset R o i)))
           (rests_slot i c (told_first ns i c cs told)) $
-          move ! (2 ∷ []) $
-          rewrite ! 0 (λ (m : ℕ). ‵ (all_told_or_untold R d.sharing m cs)) next refl $ move ! (3 ∷ 0 ∷ 2 ∷ []) $
-          use3 𝓛 (‵ (slots_rest R d k (length cs) (suc i) b o ns)) others $
+          move ! (1 ∷ []) $
+          rewrite ! 0 (λ (m : ℕ). ‵ (all_told_or_untold R sharing m cs)) next refl $ move ! (2 ∷ 0 ∷ []) $
+          use2 𝓛 (‵ (slots_rest R sharing k (length cs) (suc i) b o ns)) others $
           move ! (1 ∷ 0 ∷ []) $ fjoin ! $ done !
 
       rests_slots : (cs : List C) (i : ℕ) → Told ns i cs
-          → ⟦ each (slot R b o) cs i ⟧ ∗ ⟦ all_told_or_untold R d.sharing (i + k) cs ⟧ ∗ ⟦ values_announced R d cs ⟧
-          ⊢ ⟦ slots_rest R d k (length cs) i b o ns ⟧
-      rests_slots [] i told = qed 𝓛 (‵ ftrue ∷ ‵ ftrue ∷ ‵ ftrue ∷ []) ∵ drop ! $ drop ! $ done !
+          → ⟦ each (slot R b o) cs i ⟧ ∗ ⟦ all_told_or_untold R sharing (i + k) cs ⟧
+          ⊢ ⟦ slots_rest R sharing k (length cs) i b o ns ⟧
+      rests_slots [] i told = qed 𝓛 (‵ ftrue ∷ ‵ ftrue ∷ []) ∵ drop ! $ done !
       rests_slots (c ∷ cs) i told = rests_next c cs i told (rests_slots cs (suc i) (told_rest ns i c cs told))
 
   -- ---- the pointer
@@ -212,10 +209,10 @@ module _ {M : Type 1} {𝓤 : Ura M} (𝓛 : Logic 𝓤) (R : RattleType) (L : L
     Tells cs = row_known R d cs
 
     abbrev Slotted : ℕ → ℕ → Fml
-    Slotted b o = fex (List ℕ) (slots_under R n b o (slots_rest R d k n 0 b o))
+    Slotted b o = fex (List ℕ) (slots_under R n b o (slots_rest R d.sharing k n 0 b o))
 
     abbrev Redeemed : ℕ → ℕ → List C → SProp 𝓤
-    Redeemed b o cs = guard 𝓤 (length cs ≡ n) (⟦ Slots b o cs ⟧ ∗ ⟦ all_told_or_untold R d.sharing k cs ⟧ ∗ ⟦ values_announced R d cs ⟧)
+    Redeemed b o cs = guard 𝓤 (length cs ≡ n) (⟦ Slots b o cs ⟧ ∗ ⟦ all_told_or_untold R d.sharing k cs ⟧)
 
     redeems_block : (b o : ℕ) → ⟦ Slotted b o ⟧ ⊢ H.⇛ (ex 𝓤 (Redeemed b o))
     redeems_block b o =
@@ -224,11 +221,11 @@ module _ {M : Type 1} {𝓤 : Ura M} (𝓛 : Logic 𝓤) (R : RattleType) (L : L
         drop ! $ move ! (1 ∷ []) $
         use1 𝓛 (later (some (λ (cs : List C).
         given ((length cs ≡ n) × Told ns 0 cs)
-        (‵ (each (slot R b o) cs 0) ⊛ ‵ (all_told_or_untold R d.sharing (0 + k) cs) ⊛ ‵ (values_announced R d cs)))))
-        (redeems_slots d k b o ns n 0) $
-        await ! tt $ pick ! (λ cs. learn ! (λ so. split3 ! $
-        -- [the slots; what is told of them; that they are announced; the words]
-        move ! (3 ∷ []) $
+        (‵ (each (slot R b o) cs 0) ⊛ ‵ (all_told_or_untold R d.sharing (0 + k) cs)))))
+        (redeems_slots d.sharing k b o ns n 0) $
+        await ! tt $ pick ! (λ cs. learn ! (λ so. split ! $
+        -- [the slots; what is told of them; the words]
+        move ! (2 ∷ []) $
         rewrite ! 0 (λ (m : ℕ). ‵ (each (flags_at R m b o) ns 0)) (sym so.0) refl $ nothing ! $
         move ! (1 ∷ 0 ∷ []) $ fjoin ! $
         nothing ! $
@@ -239,19 +236,19 @@ module _ {M : Type 1} {𝓤 : Ura M} (𝓛 : Logic 𝓤) (R : RattleType) (L : L
         move ! (1 ∷ 0 ∷ []) $ now ! $ show ! (Redeemed b o) cs $ check ! so.0 $ done !))))
 
     rests_block : (b o : ℕ) (cs : List C) → length cs ≡ n
-        → ⟦ Slots b o cs ⟧ ∗ ⟦ all_told_or_untold R d.sharing k cs ⟧ ∗ ⟦ values_announced R d cs ⟧ ⊢ ⟦ Slotted b o ⟧
+        → ⟦ Slots b o cs ⟧ ∗ ⟦ all_told_or_untold R d.sharing k cs ⟧ ⊢ ⟦ Slotted b o ⟧
     rests_block b o cs long =
         let at : k ≡ 0 + k = omega arith in
-        qed 𝓛 (‵ (Slots b o cs) ∷ ‵ (all_told_or_untold R d.sharing k cs) ∷ ‵ (values_announced R d cs) ∷ []) ∵ fsplit ! $ fpick ! (λ ns.
+        qed 𝓛 (‵ (Slots b o cs) ∷ ‵ (all_told_or_untold R d.sharing k cs) ∷ []) ∵ fsplit ! $ fpick ! (λ ns.
         fsplit3 ! $ fpick ! (λ are. drop ! $ move ! (1 ∷ []) $ drop ! $
-        -- [the words; the slots; what is told of them; that they are announced]
-        move ! (2 ∷ []) $ rewrite ! 0 (λ (m : ℕ). ‵ (all_told_or_untold R d.sharing m cs)) at refl $ move ! (2 ∷ 0 ∷ 3 ∷ []) $
-        use3 𝓛 (‵ (slots_rest R d k (length cs) 0 b o ns))
-        (rests_slots d k b o ns cs 0 (told_flags ns cs are.1)) $
-        rewrite ! 0 (λ (m : ℕ). ‵ (slots_rest R d k m 0 b o ns)) long refl $
+        -- [the words; the slots; what is told of them]
+        move ! (2 ∷ []) $ rewrite ! 0 (λ (m : ℕ). ‵ (all_told_or_untold R d.sharing m cs)) at refl $ move ! (2 ∷ 0 ∷ []) $
+        use2 𝓛 (‵ (slots_rest R d.sharing k (length cs) 0 b o ns))
+        (rests_slots d.sharing k b o ns cs 0 (told_flags ns cs are.1)) $
+        rewrite ! 0 (λ (m : ℕ). ‵ (slots_rest R d.sharing k m 0 b o ns)) long refl $
         move ! (1 ∷ 0 ∷ []) $ rewrite ! 0 (λ (m : ℕ). ‵ (each (flags_at R m b o) ns 0)) long refl $
         nothing ! $ fpack ! (AreFlagWords R n ns) (λ _. ftrue) (are_words R n ns cs long are) $
-        fjoin3 ! $ fpack ! (List ℕ) (slots_under R n b o (slots_rest R d k n 0 b o)) ns $
+        fjoin3 ! $ fpack ! (List ℕ) (slots_under R n b o (slots_rest R d.sharing k n 0 b o)) ns $
         done !))
 
     plain_slots : (b o : ℕ) (c : C) (cs : List C) → length (c ∷ cs) ≡ n → Sized R n (block_ptr b o)
@@ -290,14 +287,14 @@ module _ {M : Type 1} {𝓤 : Ura M} (𝓛 : Logic 𝓤) (R : RattleType) (L : L
         qed 𝓛 (‵ (at_rest R d p) ∷ []) ∵ updating ! $ fsplit3 ! $ fpick ! (λ so. drop ! $ fsplit ! $
         move ! (2 ∷ []) $ fsplit ! $ move ! (2 ∷ 3 ∷ 0 ∷ 1 ∷ []) $
         use1 𝓛 (later (some (λ (cs : List C).
-        given (length cs ≡ n) (‵ (Slots b o cs) ⊛ ‵ (all_told_or_untold R d.sharing k cs) ⊛ ‵ (values_announced R d cs)))))
+        given (length cs ≡ n) (‵ (Slots b o cs) ⊛ ‵ (all_told_or_untold R d.sharing k cs)))))
         (redeems_block b o) $
-        await ! tt $ pick ! (λ cs. learn ! (λ long. split3 ! $
-        -- [the slots; what is told of them; that they are announced; the way back; the right to free; what the block shows]
-        move ! (0 ∷ 3 ∷ 4 ∷ []) $
+        await ! tt $ pick ! (λ cs. learn ! (λ long. split ! $
+        -- [the slots; what is told of them; the way back; the right to free; what the block shows]
+        move ! (0 ∷ 2 ∷ 3 ∷ []) $
         use3 𝓛 (‵ (pointer_owns R heap_token p cs)) (plain_block b o cs long so) $ move ! (1 ∷ []) $
-        use1 𝓛 (‵ (Telling cs)) (tells_whole cs long) $ move ! (3 ∷ 2 ∷ []) $
-        use2 𝓛 (‵ (fsep (row_grown R d cs) (row_announced R d cs))) (whole_grown 𝓛 R d cs (has_slots cs long)) $
+        use1 𝓛 (‵ (Telling cs)) (tells_whole cs long) $ move ! (2 ∷ []) $
+        use1 𝓛 (‵ (fsep (row_grown R d cs) (row_announced R d.word d.bucket cs))) (whole_grown 𝓛 R d cs (has_slots cs long)) $
         move ! (1 ∷ 0 ∷ []) $ fjoin ! $ move ! (1 ∷ 0 ∷ []) $
         now ! $ show ! (Plain p) cs $ check ! (inr long) $ done !)))
 
@@ -322,11 +319,10 @@ module _ {M : Type 1} {𝓤 : Ura M} (𝓛 : Logic 𝓤) (R : RattleType) (L : L
         move ! (1 ∷ []) $ rewrite ! 0 (λ (m : ℕ). ‵ (back R b o m)) fit refl $ move ! (2 ∷ []) $
         rewrite ! 0 (λ (m : ℕ). ‵ (heap_token (block_ty R m) p)) fit refl $
         use1 𝓛 (given (Testable p) (‵ (heap_token (block_ty R n) p))) (tested (block_ty R n) p) $
-        learn ! (λ test. move ! (3 ∷ 2 ∷ []) $ fjoin ! $ move ! (3 ∷ []) $ fsplit ! $ move ! (1 ∷ []) $
-        use1 𝓛 (‵ (grown d) ⊛ ‵ (values_announced R d all)) (grown_whole 𝓛 R d c cs) $ split ! $ move ! (3 ∷ 2 ∷ 1 ∷ []) $
-        -- [the words and the slots; what is told; that they are announced; what the row shows; the right to free; the way
+        learn ! (λ test. move ! (3 ∷ 2 ∷ []) $ fjoin ! $ move ! (3 ∷ []) $ fsplit ! $ move ! (2 ∷ 0 ∷ []) $
+        -- [the words and the slots; what is told; what the row shows; the right to free; the way
         -- back]
-        use3 𝓛 (‵ (Slotted b o)) (rests_block b o all fit) $ move ! (0 ∷ 3 ∷ []) $ fjoin ! $
+        use2 𝓛 (‵ (Slotted b o)) (rests_block b o all fit) $ move ! (0 ∷ 3 ∷ []) $ fjoin ! $
         move ! (2 ∷ 1 ∷ []) $ fjoin ! $ move ! (1 ∷ 0 ∷ []) $
         nothing ! $ fpack ! (Sized R n p) (λ _. ftrue) (tt, test, subst (Fits R) fit so.1) $ fjoin3 ! $ done !))
 

@@ -28,10 +28,10 @@ use Rattle.thread_local_ids.specs.Rights.{right_owns}
 use Rattle.thread_local_base.specs.Judged.{Shareable, Judged}
 use Rattle.thread_local_base.specs.Bits.{is_set_in}
 use Rattle.thread_local_buckets.specs.Slots.{value_offset, content_at, each, back, empty_slots}
-use Rattle.thread_local_shared_buckets.specs.Shared.{BucketView, Turn, Who, free, value_code, pinned, tracked_value, age}
+use Rattle.thread_local_shared_buckets.specs.Shared.{Turn, Who, free, value_code, pinned, tracked_value, age}
 use Rattle.thread_local_shared_buckets.specs.Shared.{shared_value, opened, by as lent_by, stays, lies_with_slot, shared_slot_as}
 use Rattle.thread_local_shared_buckets.specs.Shared.{shared_slot, numbered_slot, slots_under, slots_side, all_unborn, due}
-use Rattle.thread_local_shared_buckets.specs.Shared.{rests, known_at_rest, slot_rests_as, slot_rests, slots_rest, block_rests}
+use Rattle.thread_local_shared_buckets.specs.Shared.{rests, slot_rests_as, slot_rests, slots_rest, block_rests}
 use Rattle.thread_local_ids.specs.Told.{untold_in, tells, told_or_untold, all_told_or_untold}
 use Rattle.thread_local_ids.proofs.ToldElements.{tells_dup}
 use Rattle.thread_local_shared_buckets.proofs.ClaimTokens.{tokens_from, token_off}
@@ -210,22 +210,22 @@ module _ {M : Type 1} {𝓤 : Ura M} (𝓛 : Logic 𝓤) where
             split ! $ drop ! $ fpack ! (Judged R) (lent_by R t b ν e η x) (inr refuted) $
             use0 𝓛 (‵ (opened R t b ν e x)) (opens_never x refuted) $ now ! $ done !
 
-      module _ (d : BucketView) where
+      module _ (sharing : Option GName) where
         -- a slot that a turn has begun for, without its flag: its loan, what stays, and what lies
         -- with it while nobody has it
-        module _ (k e : ℕ) (X : SProp 𝓤) where
+        module _ (table k e : ℕ) (X : SProp 𝓤) where
           abbrev pub Born : Option R.Denot → GName → SProp 𝓤
           Born v η =
-              ⟦ flent κ (tracked_value R b e η) ⟧ ∗ ⟦ stays R t b ν d k e η v ⟧
-              ∗ ⟦ lies_with_slot R t b ν d.sharing d.table k e η v free ⟧ ∗ X
+              ⟦ flent κ (tracked_value R b e η) ⟧ ∗ ⟦ stays R t b ν sharing k e η v ⟧
+              ∗ ⟦ lies_with_slot R t b ν sharing table k e η v free ⟧ ∗ X
 
-        born : (ts : Toks) → Incl (span ts) R.lives → Incl (span ts) κ → Judged R → (k e : ℕ) (v : Option R.Denot)
-            → ⟦ content_at R v b e ⟧ ∗ ⟦ tokens k ⟧ ∗ ⟦ known_at_rest R d k v ⟧ ∗ lfts 𝓛 ts
-            ⊢ H.⇛ (ex 𝓤 (Born k e (lfts 𝓛 ts) v))
-        born ts inc sp j k e None =
-            qed 𝓛 (‵ (content_at R None b e) ∷ ‵ (tokens k) ∷ ‵ (known_at_rest R d k None)
+        born : (ts : Toks) → Incl (span ts) R.lives → Incl (span ts) κ → Judged R → (table k e : ℕ) (v : Option R.Denot)
+            → ⟦ content_at R v b e ⟧ ∗ ⟦ tokens k ⟧ ∗ ⟦ told_or_untold R sharing k v ⟧ ∗ lfts 𝓛 ts
+            ⊢ H.⇛ (ex 𝓤 (Born table k e (lfts 𝓛 ts) v))
+        born ts inc sp j table k e None =
+            qed 𝓛 (‵ (content_at R None b e) ∷ ‵ (tokens k) ∷ ‵ (untold_in sharing k)
             ∷ raw (lfts 𝓛 ts) ∷ []) ∵
-            updating ! $ move ! (2 ∷ []) $ fsplit ! $ move ! (1 ∷ []) $ drop ! $ move ! (1 ∷ 2 ∷ 0 ∷ []) $ name_new ! tt (value_code R None) (λ η.
+            updating ! $ name_new ! tt (value_code R None) (λ η.
             -- [its name, in two halves; the room; the tokens; untold; the lifetimes]
             move ! (2 ∷ 1 ∷ []) $ fjoin ! $
             fpack ! (Option R.Denot) (λ c. fsep (content_at R c b e) (fauth η (value_code R c)))
@@ -234,11 +234,11 @@ module _ {M : Type 1} {𝓤 : Ura M} (𝓛 : Logic 𝓤) where
             move ! (3 ∷ []) $ fsplit3 ! $
             -- [vacant; filled; pass; the borrow; the way to its end; its name; untold; the lifetimes]
             move ! (1 ∷ 6 ∷ []) $ fjoin ! $ move ! (1 ∷ 5 ∷ 3 ∷ []) $ fjoin3 ! $ move ! (2 ∷ 0 ∷ []) $ fjoin ! $
-            now ! $ show ! (Born k e (lfts 𝓛 ts) None) η $ move ! (2 ∷ 1 ∷ 0 ∷ []) $ done !)
-        born ts inc sp j k e (Some x) =
-            let Told : Fml = tells R d.sharing k (Some x) in
-            qed 𝓛 (‵ (content_at R (Some x) b e) ∷ ‵ (tokens k) ∷ ‵ (known_at_rest R d k (Some x)) ∷ raw (lfts 𝓛 ts) ∷ []) ∵
-            updating ! $ move ! (2 ∷ []) $ fsplit ! $ move ! (2 ∷ 3 ∷ 0 ∷ 4 ∷ []) $ name_new ! tt (value_code R (Some x)) (λ η.
+            now ! $ show ! (Born table k e (lfts 𝓛 ts) None) η $ move ! (2 ∷ 1 ∷ 0 ∷ []) $ done !)
+        born ts inc sp j table k e (Some x) =
+            let Told : Fml = tells R sharing k (Some x) in
+            qed 𝓛 (‵ (content_at R (Some x) b e) ∷ ‵ (tokens k) ∷ ‵ Told ∷ raw (lfts 𝓛 ts) ∷ []) ∵
+            updating ! $ name_new ! tt (value_code R (Some x)) (λ η.
             move ! (2 ∷ 1 ∷ []) $ fjoin ! $
             fpack ! (Option R.Denot) (λ c. fsep (content_at R c b e) (fauth η (value_code R c)))
             (Some x) $
@@ -255,47 +255,47 @@ module _ {M : Type 1} {𝓤 : Ura M} (𝓛 : Logic 𝓤) where
             -- [opened; by; the lifetimes; pinned; pinned; the way to the end; the tokens; what is
             -- told]
             move ! (7 ∷ []) $
-            use1 𝓛 (‵ Told ⊛ ‵ Told) (tells_dup 𝓛 R d.sharing k (Some x)) $ split ! $
+            use1 𝓛 (‵ Told ⊛ ‵ Told) (tells_dup 𝓛 R sharing k (Some x)) $ split ! $
             move ! (5 ∷ 0 ∷ []) $ fjoin ! $ move ! (5 ∷ 1 ∷ []) $ fjoin ! $
             move ! (6 ∷ []) $ fsplit3 ! $
             -- [vacant; filled; pass; published; published; opened; by; the lifetimes; the way to the
-            -- end; that it is announced]
-            move ! (0 ∷ 9 ∷ []) $ fjoin ! $ move ! (0 ∷ 3 ∷ 5 ∷ []) $ fjoin3 ! $ move ! (1 ∷ 3 ∷ 4 ∷ []) $ fjoin3 ! $ move ! (2 ∷ 0 ∷ []) $ fjoin ! $
-            now ! $ show ! (Born k e (lfts 𝓛 ts) (Some x)) η $ move ! (3 ∷ 1 ∷ 0 ∷ 2 ∷ []) $ done !)
+            -- end]
+            move ! (0 ∷ 3 ∷ 5 ∷ []) $ fjoin3 ! $ move ! (1 ∷ 3 ∷ 4 ∷ []) $ fjoin3 ! $ move ! (2 ∷ 0 ∷ []) $ fjoin ! $
+            now ! $ show ! (Born table k e (lfts 𝓛 ts) (Some x)) η $ move ! (3 ∷ 1 ∷ 0 ∷ 2 ∷ []) $ done !)
 
         -- a slot that lay at rest comes under the turn
-        wakes_slot : (ts : Toks) → Incl (span ts) R.lives → Incl (span ts) κ → Judged R → (set : Bool) (k e : ℕ)
-            → ⟦ slot_rests R d k set b e ⟧ ∗ ⟦ tokens k ⟧ ∗ lfts 𝓛 ts
+        wakes_slot : (ts : Toks) → Incl (span ts) R.lives → Incl (span ts) κ → Judged R → (table : ℕ) (set : Bool) (k e : ℕ)
+            → ⟦ slot_rests R sharing k set b e ⟧ ∗ ⟦ tokens k ⟧ ∗ lfts 𝓛 ts
             ⊢ H.⇛ (ex 𝓤
-            (λ (η : GName). ⟦ shared_slot R t b ν d set k e η ⟧ ∗ lfts 𝓛 ts))
-        wakes_slot ts inc sp j set k e =
-            qed 𝓛 (‵ (slot_rests R d k set b e) ∷ ‵ (tokens k) ∷ raw (lfts 𝓛 ts) ∷ []) ∵
+            (λ (η : GName). ⟦ shared_slot R t b ν sharing table set k e η ⟧ ∗ lfts 𝓛 ts))
+        wakes_slot ts inc sp j table set k e =
+            qed 𝓛 (‵ (slot_rests R sharing k set b e) ∷ ‵ (tokens k) ∷ raw (lfts 𝓛 ts) ∷ []) ∵
             updating ! $ fpick ! (λ s. fsplit3 ! $ fpick ! (λ is. drop ! $
             move ! (1 ∷ []) $ use1 𝓛 (later (‵ (content_at R s.0 b e))) (redeems R L b e s.1 s.0) $
             await ! tt $ move ! (0 ∷ 2 ∷ 1 ∷ 3 ∷ []) $ group ! 4 $
             use1 𝓛 (later (some (λ (η : GName).
-            ‵ (flent κ (tracked_value R b e η)) ⊛ ‵ (stays R t b ν d k e η s.0)
-            ⊛ ‵ (lies_with_slot R t b ν d.sharing d.table k e η s.0 free) ⊛ raw (lfts 𝓛 ts))))
-            (born ts inc sp j k e s.0) $
+            ‵ (flent κ (tracked_value R b e η)) ⊛ ‵ (stays R t b ν sharing k e η s.0)
+            ⊛ ‵ (lies_with_slot R t b ν sharing table k e η s.0 free) ⊛ raw (lfts 𝓛 ts))))
+            (born ts inc sp j table k e s.0) $
             await ! tt $ pick ! (λ η. split3 ! $ move ! (2 ∷ []) $ split ! $
             -- [had; the lifetimes; the way to the end; what stays]
             move ! (3 ∷ 0 ∷ []) $ fjoin ! $ nothing ! $
             fpack ! (set ≡ is_some s.0) (λ _. ftrue) is $ fjoin ! $
-            fpack ! (Option R.Denot × Who) (shared_slot_as R t b ν d set k e η)
+            fpack ! (Option R.Denot × Who) (shared_slot_as R t b ν sharing table set k e η)
             (s.0, free) $
             move ! (2 ∷ 0 ∷ []) $ fjoin ! $
-            now ! $ show ! (λ (μ : GName). ⟦ shared_slot R t b ν d set k e μ ⟧ ∗ lfts 𝓛 ts) η $ done !)))
+            now ! $ show ! (λ (μ : GName). ⟦ shared_slot R t b ν sharing table set k e μ ⟧ ∗ lfts 𝓛 ts) η $ done !)))
 
-        module _ (k o : ℕ) (ns : List ℕ) where
+        module _ (table k o : ℕ) (ns : List ℕ) where
           -- the slots of these names, from the index i on
           abbrev Slots : List ℕ → ℕ → Fml
-          Slots names i = each (numbered_slot R t b ν d k o ns) names i
+          Slots names i = each (numbered_slot R t b ν sharing table k o ns) names i
 
           abbrev Woken : Toks → ℕ → ℕ → List ℕ → SProp 𝓤
           Woken ts n i names = guard 𝓤 (length names ≡ n) (⟦ Slots names i ⟧ ∗ lfts 𝓛 ts)
 
           wakes_slots : (ts : Toks) → Incl (span ts) R.lives → Incl (span ts) κ → Judged R → (n i : ℕ)
-              → ⟦ slots_rest R d k n i b o ns ⟧ ∗ ⟦ all_tokens (i + k) ⟧ ∗ lfts 𝓛 ts
+              → ⟦ slots_rest R sharing k n i b o ns ⟧ ∗ ⟦ all_tokens (i + k) ⟧ ∗ lfts 𝓛 ts
               ⊢ H.⇛ (ex 𝓤 (Woken ts n i))
           wakes_slots ts inc sp j zero i =
               qed 𝓛 (‵ ftrue ∷ ‵ (all_tokens (i + k)) ∷ raw (lfts 𝓛 ts) ∷ []) ∵ updating ! $ now ! $
@@ -304,15 +304,15 @@ module _ {M : Type 1} {𝓤 : Ura M} (𝓛 : Logic 𝓤) where
               let e : ℕ = value_offset R o i in
               let set : Bool = is_set_in ns i in
               let next : suc (i + k) ≡ suc i + k = omega arith in
-              qed 𝓛 (‵ (slots_rest R d k (suc n) i b o ns) ∷ ‵ (all_tokens (i + k))
+              qed 𝓛 (‵ (slots_rest R sharing k (suc n) i b o ns) ∷ ‵ (all_tokens (i + k))
               ∷ raw (lfts 𝓛 ts) ∷ []) ∵
               updating ! $ fsplit ! $ move ! (2 ∷ []) $
               use1 𝓛 (‵ (tokens (i + k)) ⊛ ‵ (all_tokens (suc (i + k)))) (tokens_step (i + k)) $
               split ! $ move ! (1 ∷ []) $ rewrite ! 0 (λ (m : ℕ). ‵ (all_tokens m)) next refl $
               move ! (2 ∷ 1 ∷ 4 ∷ []) $
               use3 𝓛 (later (some (λ (η : GName).
-              ‵ (shared_slot R t b ν d set (i + k) e η) ⊛ raw (lfts 𝓛 ts))))
-              (wakes_slot ts inc sp j set (i + k) e) $
+              ‵ (shared_slot R t b ν sharing table set (i + k) e η) ⊛ raw (lfts 𝓛 ts))))
+              (wakes_slot ts inc sp j table set (i + k) e) $
               await ! tt $ pick ! (λ η. split ! $ move ! (3 ∷ 2 ∷ 1 ∷ []) $
               use3 𝓛 (later (some (λ (names : List ℕ).
               given (length names ≡ n) (‵ (Slots names (suc i)) ⊛ raw (lfts 𝓛 ts)))))
@@ -321,89 +321,87 @@ module _ {M : Type 1} {𝓤 : Ura M} (𝓛 : Logic 𝓤) where
               move ! (2 ∷ 0 ∷ []) $ fjoin ! $ now ! $ show ! (Woken ts (suc n) i) (η ∷ names) $ check ! (ap suc long) $ done !)))
 
         -- a standing block: the slots of these names, of which the first is for the id k
-        abbrev pub Block : ℕ → ℕ → ℕ → List ℕ → Fml
-        Block k n o names =
+        abbrev pub Block : ℕ → ℕ → ℕ → ℕ → List ℕ → Fml
+        Block table k n o names =
             fsep (fex (List ℕ) (slots_under R n b o
-            (λ ns. each (numbered_slot R t b ν d k o ns) names 0)))
+            (λ ns. each (numbered_slot R t b ν sharing table k o ns) names 0)))
             (back R b o n)
 
-        abbrev pub BlockWoken : Toks → ℕ → ℕ → ℕ → List ℕ → SProp 𝓤
-        BlockWoken ts k n o names = guard 𝓤 (length names ≡ n) (⟦ Block k n o names ⟧ ∗ lfts 𝓛 ts)
+        abbrev pub BlockWoken : Toks → ℕ → ℕ → ℕ → ℕ → List ℕ → SProp 𝓤
+        BlockWoken ts table k n o names = guard 𝓤 (length names ≡ n) (⟦ Block table k n o names ⟧ ∗ lfts 𝓛 ts)
 
         -- a block that lay at rest comes under the turn
-        pub wakes_block : (ts : Toks) → Incl (span ts) R.lives → Incl (span ts) κ → Judged R → (k n o : ℕ)
-            → ⟦ block_rests R d k n b o ⟧ ∗ ⟦ all_tokens k ⟧ ∗ lfts 𝓛 ts
-            ⊢ H.⇛ (ex 𝓤 (BlockWoken ts k n o))
-        wakes_block ts inc sp j k n o = let same : k ≡ 0 + k = omega arith in
-            qed 𝓛 (‵ (block_rests R d k n b o) ∷ ‵ (all_tokens k) ∷ raw (lfts 𝓛 ts) ∷ []) ∵
+        pub wakes_block : (ts : Toks) → Incl (span ts) R.lives → Incl (span ts) κ → Judged R → (table k n o : ℕ)
+            → ⟦ block_rests R sharing k n b o ⟧ ∗ ⟦ all_tokens k ⟧ ∗ lfts 𝓛 ts
+            ⊢ H.⇛ (ex 𝓤 (BlockWoken ts table k n o))
+        wakes_block ts inc sp j table k n o = let same : k ≡ 0 + k = omega arith in
+            qed 𝓛 (‵ (block_rests R sharing k n b o) ∷ ‵ (all_tokens k) ∷ raw (lfts 𝓛 ts) ∷ []) ∵
             updating ! $ fsplit ! $ fpick ! (λ ns. fsplit3 ! $ move ! (4 ∷ []) $
             rewrite ! 0 (λ (m : ℕ). ‵ (all_tokens m)) same refl $
             -- [the tokens; that they are words of flags; the words; the slots; the way back; the
             -- lifetimes]
             move ! (3 ∷ 0 ∷ 5 ∷ []) $
             use3 𝓛 (later (some (λ (names : List ℕ).
-            given (length names ≡ n) (‵ (Slots k o ns names 0) ⊛ raw (lfts 𝓛 ts)))))
-            (wakes_slots k o ns ts inc sp j n 0) $
+            given (length names ≡ n) (‵ (Slots table k o ns names 0) ⊛ raw (lfts 𝓛 ts)))))
+            (wakes_slots table k o ns ts inc sp j n 0) $
             await ! tt $
             pick ! (λ names. learn ! (λ long. split ! $ move ! (2 ∷ 3 ∷ 0 ∷ []) $ fjoin3 ! $
-            fpack ! (List ℕ) (slots_under R n b o (λ z. Slots k o z names 0)) ns $
+            fpack ! (List ℕ) (slots_under R n b o (λ z. Slots table k o z names 0)) ns $
             move ! (0 ∷ 2 ∷ []) $ fjoin ! $
-            now ! $ show ! (BlockWoken ts k n o) names $ check ! long $ done !)))
+            now ! $ show ! (BlockWoken ts table k n o) names $ check ! long $ done !)))
 
         owed : (k e : ℕ) (η : GName) (v : Option R.Denot)
-            → A.dead κ ∗ ⟦ flent κ (tracked_value R b e η) ⟧ ∗ ⟦ stays R t b ν d k e η v ⟧
-            ⊢ ⟦ known_at_rest R d k v ⟧ ∗ ⟦ rests R true b e v ⟧
+            → A.dead κ ∗ ⟦ flent κ (tracked_value R b e η) ⟧ ∗ ⟦ stays R t b ν sharing k e η v ⟧
+            ⊢ ⟦ told_or_untold R sharing k v ⟧ ∗ ⟦ rests R true b e v ⟧
         owed k e η None =
             qed 𝓛 (‵ (fdead κ) ∷ ‵ (flent κ (tracked_value R b e η))
-            ∷ ‵ (stays R t b ν d k e η None) ∷ []) ∵
+            ∷ ‵ (stays R t b ν sharing k e η None) ∷ []) ∵
             fjoin ! $ fpack ! (Lft × GName) (due R b e None) (κ, η) $ move ! (1 ∷ []) $ fsplit ! $
-            keep ! (1 ∷ 2 ∷ []) $ nothing ! $ move ! (1 ∷ 0 ∷ []) $ fjoin ! $ done !
+            keep ! (1 ∷ 2 ∷ []) $ done !
         owed k e η (Some x) =
             qed 𝓛 (‵ (fdead κ) ∷ ‵ (flent κ (tracked_value R b e η))
-            ∷ ‵ (stays R t b ν d k e η (Some x)) ∷ []) ∵
+            ∷ ‵ (stays R t b ν sharing k e η (Some x)) ∷ []) ∵
             fjoin ! $ move ! (1 ∷ []) $ fsplit3 ! $ move ! (1 ∷ []) $ fsplit ! $
-            -- [pinned; what is told; what was laid down; opened; the loan]
-            move ! (0 ∷ 4 ∷ []) $ fjoin ! $ fpack ! (Lft × GName) (due R b e (Some x)) (κ, η) $ move ! (2 ∷ []) $ fsplit ! $
-            -- [vacant; that it is announced; what is due; what is told; opened]
-            move ! (3 ∷ 1 ∷ []) $ fjoin ! $ keep ! (0 ∷ 2 ∷ []) $ done !
+            -- [pinned; what is told; vacant; opened; the loan]
+            move ! (0 ∷ 4 ∷ []) $ fjoin ! $ fpack ! (Lft × GName) (due R b e (Some x)) (κ, η) $ keep ! (1 ∷ 0 ∷ []) $ done !
 
         -- a slot goes to rest once the turn is over
-        rests_slot : (set : Bool) (k e : ℕ) (η : GName)
-            → A.dead κ ∗ ⟦ shared_slot R t b ν d set k e η ⟧
-            ⊢ ⟦ slot_rests R d k set b e ⟧
-        rests_slot set k e η =
-            qed 𝓛 (‵ (fdead κ) ∷ ‵ (shared_slot R t b ν d set k e η) ∷ []) ∵
+        rests_slot : (table : ℕ) (set : Bool) (k e : ℕ) (η : GName)
+            → A.dead κ ∗ ⟦ shared_slot R t b ν sharing table set k e η ⟧
+            ⊢ ⟦ slot_rests R sharing k set b e ⟧
+        rests_slot table set k e η =
+            qed 𝓛 (‵ (fdead κ) ∷ ‵ (shared_slot R t b ν sharing table set k e η) ∷ []) ∵
             move ! (1 ∷ []) $ fsplit ! $ move ! (1 ∷ []) $ fpick ! (λ s. fsplit3 ! $
             -- [the flag; what stays; had; the way to the end; dead]
             move ! (4 ∷ 3 ∷ 1 ∷ []) $
-            use3 𝓛 (‵ (known_at_rest R d k s.0) ⊛ ‵ (rests R true b e s.0)) (owed k e η s.0) $
+            use3 𝓛 (‵ (told_or_untold R sharing k s.0) ⊛ ‵ (rests R true b e s.0)) (owed k e η s.0) $
             split ! $ move ! (2 ∷ 0 ∷ 1 ∷ []) $ fjoin3 ! $
-            fpack ! (Option R.Denot × Bool) (slot_rests_as R d k set b e) (s.0, true) $
+            fpack ! (Option R.Denot × Bool) (slot_rests_as R sharing k set b e) (s.0, true) $
             keep ! (0 ∷ []) $ done !)
 
-        rests_slots : (k o : ℕ) (ns names : List ℕ) (i : ℕ)
-            → A.dead κ ∗ ⟦ Slots k o ns names i ⟧
-            ⊢ ⟦ slots_rest R d k (length names) i b o ns ⟧
-        rests_slots k o ns [] i = qed 𝓛 (‵ (fdead κ) ∷ ‵ ftrue ∷ []) ∵ drop ! $ done !
-        rests_slots k o ns (η ∷ names) i = let e : ℕ = value_offset R o i in let set : Bool = is_set_in ns i in
-            qed 𝓛 (‵ (fdead κ) ∷ ‵ (Slots k o ns (η ∷ names) i) ∷ []) ∵
+        rests_slots : (table k o : ℕ) (ns names : List ℕ) (i : ℕ)
+            → A.dead κ ∗ ⟦ Slots table k o ns names i ⟧
+            ⊢ ⟦ slots_rest R sharing k (length names) i b o ns ⟧
+        rests_slots table k o ns [] i = qed 𝓛 (‵ (fdead κ) ∷ ‵ ftrue ∷ []) ∵ drop ! $ done !
+        rests_slots table k o ns (η ∷ names) i = let e : ℕ = value_offset R o i in let set : Bool = is_set_in ns i in
+            qed 𝓛 (‵ (fdead κ) ∷ ‵ (Slots table k o ns (η ∷ names) i) ∷ []) ∵
             use1 𝓛 (‵ (fdead κ) ⊛ ‵ (fdead κ)) (𝓛.lfts.dead_dup κ) $ split ! $ move ! (2 ∷ []) $
             fsplit ! $
             move ! (2 ∷ 0 ∷ []) $
-            use2 𝓛 (‵ (slot_rests R d (i + k) set b e)) (rests_slot set (i + k) e η) $
-            frame ! $ move ! (1 ∷ 0 ∷ []) $ by ! (rests_slots k o ns names (suc i))
+            use2 𝓛 (‵ (slot_rests R sharing (i + k) set b e)) (rests_slot table set (i + k) e η) $
+            frame ! $ move ! (1 ∷ 0 ∷ []) $ by ! (rests_slots table k o ns names (suc i))
 
         -- a block goes to rest once the turn is over
-        pub rests_block : (k n o : ℕ) (names : List ℕ) → length names ≡ n
-            → A.dead κ ∗ ⟦ Block k n o names ⟧ ⊢ ⟦ block_rests R d k n b o ⟧
-        rests_block k n o names long =
-            qed 𝓛 (‵ (fdead κ) ∷ ‵ (Block k n o names) ∷ []) ∵ move ! (1 ∷ []) $ fsplit ! $
+        pub rests_block : (table k n o : ℕ) (names : List ℕ) → length names ≡ n
+            → A.dead κ ∗ ⟦ Block table k n o names ⟧ ⊢ ⟦ block_rests R sharing k n b o ⟧
+        rests_block table k n o names long =
+            qed 𝓛 (‵ (fdead κ) ∷ ‵ (Block table k n o names) ∷ []) ∵ move ! (1 ∷ []) $ fsplit ! $
             fpick ! (λ ns. fsplit3 ! $
             -- [that they are words of flags; the words; the slots; the way back; dead]
             move ! (4 ∷ 2 ∷ []) $
-            use2 𝓛 (‵ (slots_rest R d k (length names) 0 b o ns))
-            (rests_slots k o ns names 0) $
-            rewrite ! 0 (λ (m : ℕ). ‵ (slots_rest R d k m 0 b o ns)) long refl $
+            use2 𝓛 (‵ (slots_rest R sharing k (length names) 0 b o ns))
+            (rests_slots table k o ns names 0) $
+            rewrite ! 0 (λ (m : ℕ). ‵ (slots_rest R sharing k m 0 b o ns)) long refl $
             move ! (1 ∷ 2 ∷ 0 ∷ []) $ fjoin3 ! $
-            fpack ! (List ℕ) (slots_under R n b o (slots_rest R d k n 0 b o)) ns $ fjoin ! $
+            fpack ! (List ℕ) (slots_under R n b o (slots_rest R sharing k n 0 b o)) ns $ fjoin ! $
             done !)

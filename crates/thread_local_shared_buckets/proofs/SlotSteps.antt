@@ -42,13 +42,13 @@ module _ {M : Type 1} {𝓤 : Ura M} (𝓛 : Logic 𝓤) (R : RattleType) (slot 
   Which = fres t.which (block_code s)
 
   abbrev pub Slot : Bool → Fml
-  Slot set = shared_slot R t b s.block_life d set k e η
+  Slot set = shared_slot R t b s.block_life d.sharing d.table set k e η
 
   abbrev pub Flags : ℕ → Fml
   Flags n = inside.Flags 𝓛 R slot n
 
   abbrev pub Stays : Option R.Denot → Fml
-  Stays v = stays R t b s.block_life d k e η v
+  Stays v = stays R t b s.block_life d.sharing k e η v
 
   abbrev pub Had : Option R.Denot → Who → Fml
   Had v w = lies_with_slot R t b s.block_life d.sharing d.table k e η v w
@@ -81,7 +81,7 @@ module _ {M : Type 1} {𝓤 : Ura M} (𝓛 : Logic 𝓤) (R : RattleType) (slot 
       move ! (2 ∷ 3 ∷ []) $ fjoin ! $ nothing ! $ fpack ! (set ≡ is_some z.0) (λ _. ftrue) refl $
       fjoin ! $
       fpack ! (Option R.Denot × Who)
-      (shared_slot_as R t b s.block_life d set k e η) z $
+      (shared_slot_as R t b s.block_life d.sharing d.table set k e η) z $
       move ! (2 ∷ 0 ∷ []) $ fjoin ! $ move ! (1 ∷ 0 ∷ []) $ join ! $ move ! (1 ∷ []) $
       use1 𝓛 (raw (Back n y)) (all_e 𝓤 (Back n) y) $ move ! (1 ∷ 0 ∷ []) $ use2 𝓛 (‵ I) (apply∗ 𝓤 T ⟦ I ⟧) $ done !
 

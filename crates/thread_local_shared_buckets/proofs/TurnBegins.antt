@@ -81,8 +81,9 @@ module _ {M : Type 1} {𝓤 : Ura M} (𝓛 : Logic 𝓤) where
         use1 𝓛 (‵ (fdead κ))
         (𝓛.lfts.dead-incl κ t.life (meet_⊑_right (s.0.block_life ∷ []) t.life)) $
         move ! (0 ∷ 1 ∷ []) $
-        use2 𝓛 (‵ (block_rests R d (first R d) (len R d) b o))
-        (rests_block 𝓛 t R L b s.0.block_life d (first R d) (len R d) o s.0.names so.1) $
+        use2 𝓛 (‵ (block_rests R d.sharing (first R d) (len R d) b o))
+        (rests_block 𝓛 t R L b s.0.block_life d.sharing d.table (first R d) (len R d) o
+        s.0.names so.1) $
         -- [the block; the right to free; settled; its own token]
         move ! (2 ∷ []) $ fsplit3 ! $ keep ! (4 ∷ 2 ∷ 3 ∷ []) $ fjoin ! $ move ! (1 ∷ 0 ∷ []) $
         nothing ! $ fpack ! (Sized R (len R d) p) (λ _. ftrue) so.2 $ fjoin3 ! $ done !))
@@ -136,8 +137,9 @@ module _ {M : Type 1} {𝓤 : Ura M} (𝓛 : Logic 𝓤) where
           given (length names ≡ len R d)
           (‵ (block_stands R d t p record { at = p; block_life = ν; names = names })
           ⊛ (‵ (flft (ν ∷ []) full_share) ⊛ ‵ (flft μ r))))))
-          (wakes_block 𝓛 t R L b ν d ((ν ∷ [], full_share) ∷ (μ, r) ∷ [])
-          (Incl-trans (meet_⊑_right (ν ∷ []) μ) inc) (meet_within (ν ∷ []) κ μ sp) j (first R d) (len R d) o) $
+          (wakes_block 𝓛 t R L b ν d.sharing ((ν ∷ [], full_share) ∷ (μ, r) ∷ [])
+          (Incl-trans (meet_⊑_right (ν ∷ []) μ) inc) (meet_within (ν ∷ []) κ μ sp) j d.table
+          (first R d) (len R d) o) $
           await ! tt $ pick ! (λ names. learn ! (λ long. split ! $ move ! (1 ∷ []) $ split ! $
           -- [its own token; μ's token; the block; the right to free; pending]
           let s : StandingBlock = record { at = p; block_life = ν; names = names } in

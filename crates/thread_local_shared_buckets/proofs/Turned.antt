@@ -1,9 +1,7 @@
 -- Turns shared buckets at rest into an owner's buckets and back: the machine values are the same.
 -- Assumes `Logic`.
 use Rattle.std.proofs.Common.{map, suc, ◌≡◌, ℕ, ◌+◌, ◌<◌, ◌^◌, w64, List, [], ◌∷◌, ◌++◌, length, refl, sym, ap, ◌∙◌, subst}
-use Rattle.std.proofs.Common.{arith, Bool, Option, None, Some, true, false, ◌==◌, ◌≤◌, ⊎_elim}
-use Rattle.std.specs.Prelude.{nat_lt}
-use Rattle.thread_local_base.specs.Place.{id_at}
+use Rattle.std.proofs.Common.{arith, Bool, Option, None, Some, true, false, ◌==◌}
 use seplogic.Ra.Ura.{Ura}
 use mir.Val.{Val, vint, vstruct, vcons, vnil, of_list}
 use base.Fml.{Fml, ftrue, ffalse, fsep}
@@ -26,7 +24,7 @@ use denote.Param.Laws.{Laws}
 use Rattle.std.proofs.cell.Inside.{one}
 use denote.Struct.Struct.{Struct, Shape, within}
 use Rattle.std.specs.contracts.alloc.Global as heap
-use Rattle.std.proofs.lemmas.Bool.{ltb-true, lt-ltb, le-ltb, cases_lt}
+use Rattle.std.proofs.lemmas.Bool.{ltb-true, lt-ltb}
 use Rattle.thread_local_base.specs.Bits.{is_set}
 use Rattle.thread_local_base.specs.Buckets.{Contents, row, IsTable}
 use Rattle.thread_local_base.specs.Owned.{Owned, AreOfFirstBuckets, IsOwned}
@@ -38,9 +36,9 @@ use Rattle.thread_local_buckets.proofs.bucket_pointer.BucketPointer.TheLaws as p
 use Rattle.thread_local_buckets.specs.Announced.{Announces}
 use Rattle.thread_local_buckets.specs.contracts.announced.AnnouncedBuckets as bits
 use Rattle.thread_local_buckets.proofs.announced.AnnouncedBuckets.TheLaws as bits'
-use Rattle.thread_local_shared_buckets.specs.Announcing.{Announcing, BeginsWithFirst, BeginsWithReserved, lies_with_word}
+use Rattle.thread_local_shared_buckets.specs.Announcing.{Announcing, BeginsWithFirst, lies_with_word}
 use Rattle.thread_local_shared_buckets.specs.contracts.announcements.Announcements as shared_word
-use Rattle.thread_local_shared_buckets.proofs.AnnouncingLaws.{bits_untold, new_rights, rights_new, StaySet, stay_set, none_past, begins}
+use Rattle.thread_local_shared_buckets.proofs.AnnouncingLaws.{bits_untold, new_rights, rights_new, first_set, none_past, begins}
 use Rattle.thread_local_shared_buckets.specs.Shared.{BucketView, at_rest}
 use Rattle.thread_local_ids.specs.Told.{rows_telling, rows_tell, book_owns}
 use Rattle.thread_local_ids.specs.Sharings.{later_of}
@@ -67,7 +65,7 @@ use Rattle.thread_local_shared_buckets.proofs.Lists.{are_owned, fit_all, table_b
 use Rattle.thread_local_shared_buckets.proofs.Lists.{table_seen}
 use Rattle.thread_local_shared_buckets.specs.Grown.{only_reserved}
 use Rattle.thread_local_shared_buckets.proofs.GrownLaws.{row_known, rows_known, rows_grown, rows_announced, AllSet, known_apart}
-use Rattle.thread_local_shared_buckets.proofs.GrownLaws.{known_together, rows_show, rows_set, IsSetFor, held_within}
+use Rattle.thread_local_shared_buckets.proofs.GrownLaws.{known_together, rows_show, rows_set}
 use Rattle.thread_local_shared_buckets.proofs.GrownLaws.{none_grown, less_grown, nothing_shown, lent_shown, view_again, grown_in}
 use Rattle.thread_local_shared_buckets.proofs.Redeemed.{redeems_bucket, rests_bucket}
 use Rattle.thread_local_base.proofs.Signs.{signs}
@@ -290,8 +288,7 @@ module _ {M : Type 1} {𝓤 : Ura M} (𝓛 : Logic 𝓤) (R : RattleType) (L : L
       (x : (all_shared.TheInside.the_row R).Denot)
       × ((table_view_of x.pointers.pointers.pointers x.reserved ≡ s)
       × (AreBuckets x.pointers.pointers.pointers x.pointers.announced x.reserved
-      × BeginsWithFirst x.pointers.announced × AreOfFirstBuckets x.reserved
-      × BeginsWithReserved x.reserved x.pointers.announced))
+      × BeginsWithFirst x.pointers.announced × AreOfFirstBuckets x.reserved))
 
   -- what is told of the slots of an owner's buckets, if they are shared as this says
   abbrev pub AllTold : TableView → Owner.Denot → Fml
@@ -315,46 +312,38 @@ module _ {M : Type 1} {𝓤 : Ura M} (𝓛 : Logic 𝓤) (R : RattleType) (L : L
   Out s vs y = guard 𝓤 (Judged R × (y.reserved ≡ s.reserved)) (⟦ Owner.own_val y vs ⟧ ∗ ⟦ AllTold s y ⟧ ∗ ⟦ Shown s y ⟧)
 
   -- a word that a sharing ends with announces what stands
-  ends_announced : (s : TableView) (m : Announcing) (n : ℕ) (c : Contents R.Denot) → IsTable c → BeginsWithFirst m
-      → BeginsWithReserved s.reserved m
-      → ⟦ lies_with_word m n ⟧ ∗ ⟦ rows_announced R s m 0 c.rows ⟧ ⊢ guard 𝓤 (Announces n c) ⟦ ftrue ⟧
-  ends_announced s m n c table first reserved =
+  ends_announced : (m : Announcing) (n : ℕ) (c : Contents R.Denot) → IsTable c → BeginsWithFirst m
+      → ⟦ lies_with_word m n ⟧ ∗ ⟦ rows_announced R m 0 c.rows ⟧ ⊢ guard 𝓤 (Announces n c) ⟦ ftrue ⟧
+  ends_announced m n c table first =
       let long : length c.rows ≡ 63 = table.buckets in
-      qed 𝓛 (‵ (lies_with_word m n) ∷ ‵ (rows_announced R s m 0 c.rows) ∷ []) ∵
-      use2 𝓛 (given (AllSet n s.reserved 0 c.rows) (‵ (lies_with_word m n))) (rows_show 𝓛 R s m n 0 c.rows (omega (arith, long))) $
+      qed 𝓛 (‵ (lies_with_word m n) ∷ ‵ (rows_announced R m 0 c.rows) ∷ []) ∵
+      use2 𝓛 (given (AllSet n 0 c.rows) (‵ (lies_with_word m n))) (rows_show 𝓛 R m n 0 c.rows (omega (arith, long))) $
       learn ! (λ all.
-      use1 𝓛 (given (StaySet 𝓛 m n 63) (‵ (lies_with_word m n))) (stay_set 𝓛 m n 63 (omega arith)) $ learn ! (λ stay.
+      use1 𝓛 (given ((bit : ℕ) → bit < 7 → is_set n bit ≡ true) (‵ (lies_with_word m n)))
+      (first_set 𝓛 m n 7 (omega arith) first) $ learn ! (λ seven.
       use1 𝓛 (given (is_set n 63 ≡ false) (‵ (lies_with_word m n))) (none_past 𝓛 m n) $ learn ! (λ none.
       check ! (record {
-        first = λ b low. stay b (omega (arith, low)) (first b low);
+        first = seven;
         standing = λ b low there.
             let at : b ≡ b + 0 = omega arith in
-            ⊎_elim
-            (λ (in_reserve : id_at b 0 < s.reserved). stay b low (reserved b low in_reserve))
-            (λ (free : s.reserved ≤ id_at b 0).
-            (all b b at (omega (arith, low, long))).standing (ltb-true 0 (length (row c b)) there) (le-ltb (id_at b 0) s.reserved free))
-            (cases_lt (id_at b 0) s.reserved);
+            all b b at (omega (arith, low, long)) (ltb-true 0 (length (row c b)) there);
         none_past = none;
       }) $
       drop ! $ nothing ! $ done !)))
 
   -- and the other way round: what stands is announced in a sharing that begins with the word
-  begins_announced : (s : TableView) (γ n : ℕ) (c : Contents R.Denot) → IsTable c → Announces n c
+  begins_announced : (γ n : ℕ) (c : Contents R.Denot) → IsTable c → Announces n c
       → ⟦ bits_untold γ 63 ⟧
-      ⊢ ⟦ lies_with_word (record { name = γ; begun = n }) n ⟧ ∗ ⟦ rows_announced R s (record { name = γ; begun = n }) 0 c.rows ⟧
-  begins_announced s γ n c table is =
+      ⊢ ⟦ lies_with_word (record { name = γ; begun = n }) n ⟧ ∗ ⟦ rows_announced R (record { name = γ; begun = n }) 0 c.rows ⟧
+  begins_announced γ n c table is =
       let m : Announcing = record { name = γ; begun = n } in
       let long : length c.rows ≡ 63 = table.buckets in
       qed 𝓛 (‵ (bits_untold γ 63) ∷ []) ∵ use1 𝓛 (‵ (lies_with_word m n)) (begins 𝓛 γ n is.none_past) $
-      use0 𝓛 (‵ (rows_announced R s m 0 c.rows))
-      (rows_set 𝓛 R s m 0 c.rows (λ i j at near.
+      use0 𝓛 (‵ (rows_announced R m 0 c.rows))
+      (rows_set 𝓛 R m 0 c.rows (λ i j at near some.
       let same : i ≡ j = omega (arith, at) in
-      let set : 0 < length (row c i) → is_set n i ≡ true = λ some.
-      is.standing i (omega (arith, near, long)) (lt-ltb 0 (length (row c i)) some) in
-      subst (λ (k : ℕ). IsSetFor n k (nat_lt (id_at k 0) s.reserved) (row c i)) same record {
-        standing = λ some _. set some;
-        holding = λ at there. set (held_within (row c i) at there);
-      })) $
+      subst (λ (k : ℕ). is_set n k ≡ true) same
+      (is.standing i (omega (arith, near, long)) (lt-ltb 0 (length (row c i)) some)))) $
       move ! (1 ∷ 0 ∷ []) $ done !
 
   pub turns_plain : (s : TableView) (vs : List Val) → ⟦ Shared.own_val s vs ⟧ ⊢ H.⇛ (ex 𝓤 (Out s vs))
@@ -371,7 +360,7 @@ module _ {M : Type 1} {𝓤 : Ura M} (𝓛 : Logic 𝓤) (R : RattleType) (L : L
       await ! tt $ pick ! (λ ws. learn ! (λ g. split ! $
       let y : Owned R.Denot = owned_of slots ws n in let owned : IsOwned y = are_owned slots ds m ws n g.1 h.1.1.0 h.1.1.2 g.2 in
       move ! (1 ∷ []) $ rewrite ! 0 (λ (z : TableView). ‵ (rows_known R z m 0 y.contents.rows)) h.1.0 refl $
-      use1 𝓛 (‵ (AllTold s y) ⊛ ‵ (Shown s y) ⊛ ‵ (rows_announced R s m 0 y.contents.rows))
+      use1 𝓛 (‵ (AllTold s y) ⊛ ‵ (Shown s y) ⊛ ‵ (rows_announced R m 0 y.contents.rows))
       (known_apart 𝓛 R s m 0 y.contents.rows) $ split3 ! $
       -- [what is told; what they show; they are announced; the array; its value; nothing; the pointers' value; the heap
       -- with the word; the struct's value; the number; nothing]
@@ -380,8 +369,7 @@ module _ {M : Type 1} {𝓤 : Ura M} (𝓛 : Logic 𝓤) (R : RattleType) (L : L
       -- its value; nothing; the pointers' value; the struct's value; the number; nothing]
       move ! (1 ∷ 7 ∷ []) $
       use2 𝓛 (given (Announces bits y.contents) (‵ ftrue))
-      (ends_announced s m bits y.contents owned.table h.1.1.1
-      (subst (λ (t : TableView). BeginsWithReserved t.reserved m) h.1.0 h.1.1.3)) $ learn ! (λ announces. drop ! $
+      (ends_announced m bits y.contents owned.table h.1.1.1) $ learn ! (λ announces. drop ! $
       -- [the word; its type; the heap; nothing; what is told; what they show; the array; its value; nothing; the pointers'
       -- value; the struct's value; the number; nothing]
       move ! (7 ∷ 6 ∷ 8 ∷ []) $ fjoin3 ! $
@@ -432,7 +420,7 @@ module _ {M : Type 1} {𝓤 : Ura M} (𝓛 : Logic 𝓤) (R : RattleType) (L : L
       -- [the array's value; the array; nothing; the pointers' value; the heap with the word; nothing; the struct's value; the
       -- number; nothing; the rights; what they show; what is told]
       move ! (9 ∷ []) $
-      use1 𝓛 (‵ (lies_with_word m bits) ⊛ ‵ (rows_announced R s m 0 c.rows)) (begins_announced s γ bits c h'.1.1.0 is) $ split ! $
+      use1 𝓛 (‵ (lies_with_word m bits) ⊛ ‵ (rows_announced R m 0 c.rows)) (begins_announced γ bits c h'.1.1.0 is) $ split ! $
       -- [what lies with the word; they are announced; the array's value; the array; nothing; the pointers' value; the heap with the
       -- word; nothing; the struct's value; the number; nothing; what they show; what is told]
       move ! (12 ∷ []) $
@@ -475,10 +463,7 @@ module _ {M : Type 1} {𝓤 : Ura M} (𝓛 : Logic 𝓤) (R : RattleType) (L : L
           pointers = record { pointers = record { pointers = ds }; alloc = h'.0.alloc; announced = m };
           reserved = s.reserved;
         },
-        (
-          table_seen s m,
-          (table_named s m, is.first, owned.first, λ b low in_reserve. is.standing b low (owned.standing b low in_reserve)),
-        ),
+        (table_seen s m, (table_named s m, is.first, owned.first)),
       ) $
       done !)))))))
 

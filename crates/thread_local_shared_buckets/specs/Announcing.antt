@@ -9,7 +9,6 @@ use Rattle.std.specs.Coded.{Coded, coded_ℕ, coded×, coded_option, code_by}
 use base.Fml.{GName, Fml, ftrue, fsep}
 use denote.Builtin.{u64}
 use Rattle.thread_local_base.specs.Bits.{is_set}
-use Rattle.thread_local_base.specs.Place.{id_at}
 use Rattle.thread_local_base.specs.Fact.{fact}
 use Rattle.thread_local_ids.specs.Told.{untold_in, told_in}
 
@@ -28,10 +27,6 @@ announcing_coded =
 -- the first seven buckets were announced from the beginning
 abbrev pub BeginsWithFirst : Announcing → Type 0
 BeginsWithFirst m = (bucket : ℕ) → bucket < 7 → is_set m.begun bucket ≡ true
-
--- the buckets of this many reserved slots were announced when the sharing began
-abbrev pub BeginsWithReserved : ℕ → Announcing → Type 0
-BeginsWithReserved reserved m = (bucket : ℕ) → bucket < 63 → id_at bucket 0 < reserved → is_set m.begun bucket ≡ true
 
 -- it is told for good of a bucket that it is announced
 abbrev pub told_of : GName → ℕ → Fml

@@ -18,8 +18,7 @@
 --     telling             what is told of the slot's id under the sharing's name, if it has one: it
 --                         stays with the slot, whoever claims it
 --     grown               what a block that stands shows: of the ids that were held at once, where
---                         its bucket was made for an id, and that its bucket is announced, unless it
---                         is reserved. With a value of a reserved bucket lies that it is announced
+--                         its bucket was made for an id, and that its bucket is announced
 --
 -- Where a `&` to a value names no thread, a published value is shared for good. Where it may name
 -- one, the claim of the slot has the borrow of the value.
@@ -135,20 +134,9 @@ ids_shown true false bucket = 2 ^ bucket
 abbrev pub shown_by : BucketView → ℕ
 shown_by d = ids_shown d.grown_by_ids d.reserved d.bucket
 
--- that a bucket is announced, unless it is reserved
-abbrev pub announced_unless : BucketView → Bool → Fml
-announced_unless d true = ftrue
-announced_unless d false = announced d.word d.bucket
-
--- that a bucket is announced, where one of its slots holds a value
-abbrev pub announced_for : {V : Type 0} → BucketView → Option V → Fml
-announced_for d None = ftrue
-announced_for d (Some x) = announced d.word d.bucket
-
--- what a standing bucket shows: how many ids were held at once, and that it is announced, unless it is
--- reserved
+-- what a standing bucket shows: how many ids were held at once, and that it is announced
 abbrev pub grown : BucketView → Fml
-grown d = fsep (reached_owns d.table (shown_by d)) (announced_unless d d.reserved)
+grown d = fsep (reached_owns d.table (shown_by d)) (announced d.word d.bucket)
 
 -- the life and the names that one bucket has in one sharing; `which` is the name that says which block
 -- stands
@@ -185,11 +173,6 @@ block_code s = gcons gnil (standing_coded.code s)
 -- a turn, a block that stands under it, and the address of the bucket's pointer
 abbrev pub Found : Type 0
 Found = Turn × StandingBlock × ℕ × ℕ
-
--- what lies with a slot whose value is published: the right to publish one, and that the bucket is
--- announced
-abbrev pub laid_down : Turn → BucketView → ℕ → Fml
-laid_down t d k = fsep (right_owns t.vacant k) (announced d.word d.bucket)
 
 -- who has a slot: nobody, a claim, or a claim that took the pass before the block stood
 pub data Who : Type 0 where
@@ -241,30 +224,28 @@ module _ (R : RattleType) where
       holds k e η None = fsep (right_owns t.vacant k) (fsep (fobs η (value_code None)) (fbor age (tracked_value b e η)))
       holds k e η (Some x) = fsep (right_owns t.filled k) (fsep (pinned_and_told sharing k η x) (fex (Judged R) (by e η x)))
 
+      -- what stays with the slot
+      abbrev pub stays : ℕ → ℕ → GName → Option R.Denot → Fml
+      stays k e η None = fsep (right_owns t.filled k) (untold_in sharing k)
+      stays k e η (Some x) = fsep (right_owns t.vacant k) (fsep (pinned_and_told sharing k η x) (opened e x))
+
       -- what lies with the slot, by who has the slot
       abbrev pub lies_with_slot : ℕ → ℕ → ℕ → GName → Option R.Denot → Who → Fml
       lies_with_slot table k e η v free = fsep (right_owns t.pass k) (holds k e η v)
       lies_with_slot table k e η v claimed = fsep (right_owns table k) (right_owns t.pass k)
       lies_with_slot table k e η v early = fsep (right_owns table k) (holds k e η None)
 
-    module _ (d : BucketView) where
-      -- what stays with the slot
-      abbrev pub stays : ℕ → ℕ → GName → Option R.Denot → Fml
-      stays k e η None = fsep (right_owns t.filled k) (untold_in d.sharing k)
-      stays k e η (Some x) = fsep (laid_down t d k) (fsep (pinned_and_told d.sharing k η x) (opened e x))
-
       -- a slot of which it is known what it holds and who has it
-      abbrev pub shared_slot_as : Bool → ℕ → ℕ → GName → Option R.Denot × Who → Fml
-      shared_slot_as set k e η s =
-          fsep (fact (set ≡ is_some s.0)) (fsep (stays k e η s.0) (lies_with_slot d.sharing d.table k e η s.0 s.1))
+      abbrev pub shared_slot_as : ℕ → Bool → ℕ → ℕ → GName → Option R.Denot × Who → Fml
+      shared_slot_as table set k e η s = fsep (fact (set ≡ is_some s.0)) (fsep (stays k e η s.0) (lies_with_slot table k e η s.0 s.1))
 
       -- a slot, with the loan of its memory
-      abbrev pub shared_slot : Bool → ℕ → ℕ → GName → Fml
-      shared_slot set k e η = fsep (flent age (tracked_value b e η)) (fex (Option R.Denot × Who) (shared_slot_as set k e η))
+      abbrev pub shared_slot : ℕ → Bool → ℕ → ℕ → GName → Fml
+      shared_slot table set k e η = fsep (flent age (tracked_value b e η)) (fex (Option R.Denot × Who) (shared_slot_as table set k e η))
 
       -- the slot i of a block at o; k is the first id of the block, and ns are its flags
-      abbrev pub numbered_slot : ℕ → ℕ → List ℕ → GName → ℕ → Fml
-      numbered_slot k o ns η i = shared_slot (is_set_in ns i) (i + k) (value_offset R o i) η
+      abbrev pub numbered_slot : ℕ → ℕ → ℕ → List ℕ → GName → ℕ → Fml
+      numbered_slot table k o ns η i = shared_slot table (is_set_in ns i) (i + k) (value_offset R o i) η
 
   -- 3. The slots of a bucket: of a block that stands, and before there is one.
 
@@ -308,25 +289,21 @@ module _ (R : RattleType) where
   rests false b e v = content_at R v b e
   rests true b e v = fex (Lft × GName) (due b e v)
 
-  module _ (d : BucketView) (k : ℕ) where
-    -- what is told of a slot at rest, and that its bucket is announced where it holds a value
-    abbrev pub known_at_rest : Option R.Denot → Fml
-    known_at_rest v = fsep (told_or_untold R d.sharing k v) (announced_for d v)
-
+  module _ (sharing : Option GName) (k : ℕ) where
     -- the slot at rest of the id k
     abbrev pub slot_rests_as : Bool → ℕ → ℕ → Option R.Denot × Bool → Fml
-    slot_rests_as set b e s = fsep (fact (set ≡ is_some s.0)) (fsep (known_at_rest s.0) (rests s.1 b e s.0))
+    slot_rests_as set b e s = fsep (fact (set ≡ is_some s.0)) (fsep (told_or_untold R sharing k s.0) (rests s.1 b e s.0))
 
     -- the same, whatever it holds
     abbrev pub slot_rests : Bool → ℕ → ℕ → Fml
     slot_rests set b e = fex (Option R.Denot × Bool) (slot_rests_as set b e)
 
-  module _ (d : BucketView) (k : ℕ) where
+  module _ (sharing : Option GName) (k : ℕ) where
     -- n slots at rest of a block at o, from the slot i on, whose flags are in these words; k is the
     -- first id of the block
     abbrev pub slots_rest : ℕ → ℕ → ℕ → ℕ → List ℕ → Fml
     slots_rest zero i b o ns = ftrue
-    slots_rest (suc n) i b o ns = fsep (slot_rests d (i + k) (is_set_in ns i) b (value_offset R o i)) (slots_rest n (suc i) b o ns)
+    slots_rest (suc n) i b o ns = fsep (slot_rests sharing (i + k) (is_set_in ns i) b (value_offset R o i)) (slots_rest n (suc i) b o ns)
 
     -- a block of n slots at rest: its words, its slots, and the way back
     abbrev pub block_rests : ℕ → ℕ → ℕ → Fml
@@ -357,7 +334,7 @@ module _ (R : RattleType) where
 
       -- the slots of a block, one for each name, under the words of their flags
       abbrev pub slots_stand : Ptr → StandingBlock → List ℕ → Fml
-      slots_stand p s ns = each (numbered_slot t (block_of p) s.block_life d first (count_of p) ns) s.names 0
+      slots_stand p s ns = each (numbered_slot t (block_of p) s.block_life d.sharing d.table first (count_of p) ns) s.names 0
 
       -- a standing block: its words, its slots, and the way back
       abbrev pub block_stands : Ptr → StandingBlock → Fml
@@ -397,7 +374,7 @@ module _ (R : RattleType) where
     at_rest null_ptr = fsep (fact (d.reserved ≡ false)) (all_told_or_untold R d.sharing first (empty_slots len))
     at_rest (block_ptr b o) =
         fsep (fact (Sized len (block_ptr b o)))
-        (fsep (block_rests d first len b o) (fsep (heap_token (block_ty R len) (block_ptr b o)) (grown d)))
+        (fsep (block_rests d.sharing first len b o) (fsep (heap_token (block_ty R len) (block_ptr b o)) (grown d)))
 
     -- a bucket at rest: its pointer with what lies beside it, and values of a type that is judged
     abbrev pub bucket_owns : (Ptr → Fml) → Fml

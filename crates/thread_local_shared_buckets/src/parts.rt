@@ -2,7 +2,7 @@
 //! of reserved slots, in the layout of an owner's buckets.
 ghost use Rattle.thread_local_base.specs.Owned.{AreOfFirstBuckets};
 ghost use Rattle.thread_local_shared_buckets.specs.TableView.{TableView, table_view_coded, table_view_of, AreBuckets};
-ghost use Rattle.thread_local_shared_buckets.specs.Announcing.{BeginsWithFirst, BeginsWithReserved};
+ghost use Rattle.thread_local_shared_buckets.specs.Announcing.{BeginsWithFirst};
 
 use crate::{Announcements, SharedBucket};
 use std::alloc::Global;
@@ -39,8 +39,7 @@ impl<T> Model for SharedParts<T> {
     ghost invariant = { λ s.
         AreBuckets s.pointers.pointers.pointers s.pointers.announced s.reserved
         × BeginsWithFirst s.pointers.announced
-        × AreOfFirstBuckets s.reserved
-        × BeginsWithReserved s.reserved s.pointers.announced };
+        × AreOfFirstBuckets s.reserved };
 }
 
 /// What threads may send and share.

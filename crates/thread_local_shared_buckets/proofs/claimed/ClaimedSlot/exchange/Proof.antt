@@ -88,9 +88,9 @@ use Rattle.thread_local_ids.proofs.Markers.{told as token_told}
 use Rattle.thread_local_shared_buckets.specs.Announcing.{Announcing, announced}
 use Rattle.thread_local_shared_buckets.specs.contracts.announcements.Announced as Announced
 use Rattle.thread_local_shared_buckets.proofs.GrownLaws.{shown_reached}
-use Rattle.thread_local_shared_buckets.specs.Shared.{name_at, BucketView, Turn, len, bucket_invariant, shown_by}
+use Rattle.thread_local_shared_buckets.specs.Shared.{name_at, BucketView, Turn, len, bucket_invariant, shown_by, grown}
 use Rattle.thread_local_shared_buckets.specs.Known.{found_as, state_of}
-use Rattle.thread_local_shared_buckets.proofs.Loads.{glimpse, shown_announced}
+use Rattle.thread_local_shared_buckets.proofs.Loads.{glimpse}
 use Rattle.thread_local_shared_buckets.proofs.Offers as offers
 use Rattle.thread_local_shared_buckets.proofs.Offers.{with_first, parted_slots}
 use Rattle.thread_local_shared_buckets.proofs.RowFields.{word_laws}
@@ -528,7 +528,7 @@ module _ {M : Type 1} {𝓤 : Ura M} (𝓛 : Logic 𝓤) (𝓜 : Model 𝓤 𝓛
       asks : Wired 𝓡.env code.code → (l : ℕ → ℕ) → sn < 2 ^ 64 → sn ≡ state_of (found_as v) → h.at ≡ block_ptr wb wo → p ≡ new
           → x.slots ≡ with_first i v rest → x.left ≡ 0 → ix ≡ h.index
           → i * stride R < 2 ^ 64 → slot_value x.slots h.index ≡ v
-          → Seq (Go {0}) 𝓛 ((‵ (offers.private 𝓛 R t LR d x.heap v i rest many new ν names) ⊛ ‵ (shown_announced d)
+          → Seq (Go {0}) 𝓛 ((‵ (offers.private 𝓛 R t LR d x.heap v i rest many new ν names) ⊛ ‵ (grown d)
           ⊛ ‵ (offers.Ticket 𝓛 R t LR d x.heap v i rest many h.left same))
           ∷ ‵ lasts ∷ ‵ (finv (fbor t.life (bucket_invariant R d t wb (wo + 0)))) ∷ ‵ (flft t.life s) ∷ way_back ∷ ‵ others ∷ ‵ gained
           ∷ (opened (kept_of h) ++ holding 𝓛 (Ev l) ((1, vptr rb ro) ∷ (2, vint w64 ix) ∷ (3, bv) ∷ (6, vint w64 sn) ∷ [])))
