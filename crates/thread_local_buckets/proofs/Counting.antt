@@ -7,8 +7,11 @@ use Rattle.thread_local_base.specs.Buckets.{Contents, row, values}
 use Rattle.thread_local_base.specs.Rows.{value_in}
 use Rattle.thread_local_base.specs.Counting.{count_below}
 use Rattle.thread_local_base.specs.Walk.{walk}
-use Rattle.thread_local_base.proofs.TakingLaws.{count_below-absent, count_below-fits, count_below-walk}
+use Rattle.thread_local_base.proofs.TakingLaws.{id_at-next, count_below-none, count_below-fits, count_below-walk}
+use Rattle.thread_local_base.proofs.ValueLaws.{values-id_at}
+use Rattle.thread_local_buckets.specs.Announced.{HasNone}
 use Rattle.thread_local_buckets.specs.Counted.{counted_to}
+use Rattle.thread_local_buckets.proofs.Passing.{none_missing}
 use Rattle.thread_local_buckets.proofs.Summing.{IsSummed, summed_more, summed_past, summed_all}
 use Rattle.thread_local_buckets.proofs.CountingLaws.{count_below-chunk}
 
@@ -58,28 +61,37 @@ counted_at_first now first b n same counted =
 
 -- a loop over announced buckets has counted the values of those that it has taken out of the word
 abbrev pub IsCounted : {V : Type 0} → Contents V → ℕ → ℕ → Type 0
-IsCounted contents = IsSummed contents (λ b. count_below (values contents) (id_at b 0))
+IsCounted contents = IsSummed (HasNone contents) (λ b. count_below (values contents) (id_at b 0))
 
 module _ {V : Type 0} (c : Contents V) where
   abbrev counts : ℕ → ℕ
   counts b = count_below (values c) (id_at b 0)
+
+  -- a bucket without values adds nothing
+  pub none_in : (b : ℕ) → HasNone c b → counts (b + 1) ≡ counts b
+  none_in b none =
+      let end : id_at (b + 1) 0 ≡ id_at b 0 + 2 ^ b = omega (arith, id_at-next b) in
+      ap (count_below (values c)) end
+      ∙ count_below-none (values c) (id_at b 0) (2 ^ b) (λ i inside.
+      let here : id_at b 0 + i ≡ id_at b i = omega arith in
+      ap (values c) here ∙ values-id_at c b i inside ∙ none i)
 
   -- the loop takes a bucket that stands
   pub counted_more : (now : Contents V) (count more left rest b : ℕ) → IsCounted c left count → IsLowestSet left b
       → IsWordBut rest left b false → now ≡ c → count_below (values now) (id_at b 0) + more ≡ count_below (values now) (id_at (b + 1) 0)
       → IsCounted c rest (count + more)
   counted_more now count more left rest b so low but same here =
-      summed_more c counts (count_below-absent c) left rest b count more so low but (counted_at_first now c b more same here)
+      summed_more (HasNone c) counts none_in left rest b count more so low but (counted_at_first now c b more same here)
 
   -- and where a bucket doesn't stand, it adds nothing
   pub counted_past : (now : Contents V) (count left rest b : ℕ) → IsCounted c left count → IsLowestSet left b
       → IsWordBut rest left b false → now ≡ c → row now b ≡ [] → IsCounted c rest count
   counted_past now count left rest b so low but same absent =
-      summed_past c counts (count_below-absent c) left rest b count so low but (ap (λ w. row w b) (sym same) ∙ absent)
+      summed_past (HasNone c) counts none_in left rest b count so low but (none_missing c b (ap (λ w. row w b) (sym same) ∙ absent))
 
   pub counted_fits : (left count : ℕ) → IsCounted c left count → count < 2 ^ 63
   counted_fits left count so = let fits = count_below-fits (values c) so.from so.low in omega (arith, fits, so.summed)
 
   -- where no bucket is left, all values are counted
   pub counted_all : (left count : ℕ) → IsCounted c left count → left ≡ 0 → count ≡ length (walk (values c))
-  counted_all left count so none = summed_all c counts (count_below-absent c) left count so none ∙ count_below-walk (values c)
+  counted_all left count so none = summed_all (HasNone c) counts none_in left count so none ∙ count_below-walk (values c)

@@ -11,20 +11,21 @@ use types.SemTy.{Body}
 use base.Fml.{fseps}
 use denote.Param.Laws.{Laws}
 use types.Follow.{after, takes_beside}
-use Rattle.std.specs.Prelude.{◌⊎◌, ◌^◌, nat_lt}
-use Rattle.std.proofs.lemmas.List.{length-map}
-use Rattle.thread_local_base.specs.Buckets.{Contents, IsTable}
+use Rattle.std.specs.Prelude.{◌⊎◌, ◌^◌, is_some}
+use Rattle.std.proofs.lemmas.List.{length-map, nil_from_length}
+use Rattle.thread_local_base.specs.Buckets.{Contents, IsTable, row}
+use Rattle.thread_local_base.specs.Rows.{value_in}
+use Rattle.thread_local_base.proofs.TakingLaws.{shows_none}
 use Rattle.thread_local_base.specs.Owned.{Owned}
 use Rattle.thread_local_base.specs.Code.{owned_coded}
 use Rattle.thread_local_buckets.specs.declared.bucket_pointer.BucketPointer.{BucketPointer}
-use Rattle.thread_local_buckets.specs.Announced.{Announces}
 use Rattle.thread_local_buckets.specs.contracts.bucket_pointers.BucketPointers as all_pointers
-use Rattle.thread_local_buckets.proofs.Announcing.{IsAnnounced, Announces-fewer}
+use Rattle.thread_local_buckets.proofs.Announcing.{IsAnnounced, IsAnnounced-same}
 use Rattle.thread_local_buckets.specs.LoanOwns.{shape, Known, Lending, lending, loan_owns, frames, Values, values_at, lent_as}
 use Rattle.thread_local_base.specs.Refilled.{refilled}
 use Rattle.thread_local_buckets.proofs.PointerCells.{open_pointers, close_pointers, Laid, Inside, view, good, remade}
 use Rattle.thread_local_buckets.proofs.Refills.{refilled_same}
-use Rattle.thread_local_buckets.proofs.Shapes.{row_long, long}
+use Rattle.thread_local_buckets.proofs.Shapes.{row_long, long, is_slot}
 use Rattle.thread_local_buckets.proofs.Taking.{side, rows, pointers, refit, rows-refit, Waits, cut_pointers, join_pointers}
 
 pub table_same : {V : Type 0} (c w : Contents V) → shape w.rows ≡ shape c.rows → IsTable c → IsTable w
@@ -35,10 +36,12 @@ table_same c w same t = record {
       (t.whole bucket);
 }
 
-announced_same : {V : Type 0} (word : ℕ) (c w : Contents V) → shape w.rows ≡ shape c.rows → Announces word c → Announces word w
-announced_same word c w same =
-    Announces-fewer word c w
-    (λ bucket low stood. ap (nat_lt 0) (sym (row_long c.rows w.rows bucket 0 same)) ∙ stood)
+announced_same : {V : Type 0} (announced made : ℕ) (c w : Contents V) → shape w.rows ≡ shape c.rows
+    → IsAnnounced announced made c → IsAnnounced announced made w
+announced_same announced made c w same so =
+    IsAnnounced-same announced made c w (table_same c w same so.0)
+    (λ b none i. shows_none (value_in w b i) (is_slot c.rows w.rows b i same ∙ ap is_some (none i)))
+    (λ b none. nil_from_length (row w b) (row_long c.rows w.rows b 0 same ∙ ap length none)) so
 
 module _ {M : Type 1} {𝓤 : Ura M} (𝓛 : Logic 𝓤) (X : RattleType) (L : Laws X) (b o : ℕ) (c : Contents (param 0 X).Denot) where
   open 𝓛 use {H, A}
@@ -109,8 +112,9 @@ module _ {M : Type 1} {𝓤 : Ura M} (𝓛 : Logic 𝓤) (X : RattleType) (L : L
         use3 𝓛 (‵ (side 𝓛 R b vs e)) (join_pointers 𝓛 R b ws w.rows e same') $ move ! (0 ∷ 1 ∷ []) $
         use2 𝓛 (‵ (part_at Table full_share (refilled c w) b o))
         (close_pointers 𝓛 X L b o a vs (refilled c w) many (seen' ∙ sym full)
-        (subst (λ (z : Contents R.Denot). IsAnnounced a.announced.bits z) (sym seen')
-        (table_same c w same table, announced_same a.announced.bits c w same (subst (λ (z : Contents R.Denot). Announces a.announced.bits z) seen so.1)))) $
+        (subst (λ (z : Contents R.Denot). IsAnnounced a.announced.bits a.made.bits z) (sym seen')
+        (announced_same a.announced.bits a.made.bits c w same
+        (subst (λ (z : Contents R.Denot). IsAnnounced a.announced.bits a.made.bits z) seen so)))) $
         keep ! (0 ∷ []) $ done !)
 
   -- the owner has the pointers and something apart, and gets both back once the pointers are whole

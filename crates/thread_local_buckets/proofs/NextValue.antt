@@ -1,7 +1,6 @@
 -- The walk and the contents once the walk has passed its next value.
 use Rattle.std.proofs.Common.{◌≡◌, ◌≢◌, ℕ, ◌+◌, ◌-◌, ◌*◌, ◌/◌, ◌%◌, ◌^◌, ◌<◌, ◌≤◌, false, length, ◌∷◌, Option, Some}
 use Rattle.std.proofs.Common.{None, is_some, IsSome, bit_and, count_ones, set, refl, ap, sym, ◌∙◌, subst, arith, ⊎_elim}
-use Rattle.std.specs.Prelude.{nat_lt}
 use Rattle.std.specs.Int.{w64, bit_not}
 use Rattle.std.proofs.lemmas.Bool.{cases_eq, eq-eqb, ne_eqb, cases_lt}
 use Rattle.std.proofs.lemmas.Nat.{zero_from_ones}
@@ -21,8 +20,9 @@ use Rattle.thread_local_base.specs.Counting.{count_below}
 use Rattle.thread_local_buckets.specs.declared.cursor.RawIter.{RawIter}
 use Rattle.thread_local_buckets.specs.declared.cursor.OwnerCursor.{OwnerCursor}
 use Rattle.thread_local_buckets.specs.Cursor.{read_to, values_left, AreFlagsAt, IsAt, IsOwnerWalk}
-use Rattle.thread_local_buckets.specs.Announced.{Announces, AreAhead}
-use Rattle.thread_local_buckets.proofs.Passing.{AreAhead-same, AreAhead-all, AreAhead-behind}
+use Rattle.thread_local_buckets.specs.Announced.{Announces, AreAhead, HasNone}
+use Rattle.thread_local_buckets.proofs.Announcing.{none_taken}
+use Rattle.thread_local_buckets.proofs.Passing.{AreAhead-behind}
 use Rattle.thread_local_buckets.proofs.Slots.{value_of as held_value}
 
 -- the cursor with other flags to pass
@@ -174,8 +174,10 @@ module _ {V : Type 0} where
         flags = flags;
         on = record {
           at = on;
-          announced = AreAhead-same c after cursor.left (b + 1)
-              (λ k. ap (nat_lt 0) (length-row-with_slot c b i k None)) walks.announced;
+          announced = record {
+            others = λ k from low out. none_taken c b i k rows (walks.announced.others k from low out);
+            inside = walks.announced.inside;
+          };
           counted = omega (arith, left, one, counted);
           few = omega (arith, left, one, counted, few);
           fits = walks.fits;
@@ -193,7 +195,7 @@ module _ {V : Type 0} where
 
   pub reads_on : (c : Contents V) (cursor : OwnerCursor) (raw : RawIter) (flags chunk buckets : ℕ)
       → IsOwnerWalk c cursor → cursor.rest ≡ 0 → flags < 2 ^ 64 → IsAt c raw flags → chunk ≡ (raw.index - 64) / 64
-      → AreAhead c buckets (raw.bucket + 1) → raw.yielded ≡ cursor.raw.yielded
+      → AreAhead (HasNone c) buckets (raw.bucket + 1) → raw.yielded ≡ cursor.raw.yielded
       → IsOwnerWalk c (behind_flags cursor raw flags chunk buckets)
       × (values_left (behind_flags cursor raw flags chunk buckets) ≡ values_left cursor)
   reads_on c cursor raw flags chunk buckets walks none fits at are announced yielded =
@@ -227,7 +229,7 @@ module _ {V : Type 0} where
       let left : count_ones 0 + count ≡ count = omega (arith, no_ones 0 refl) in
       record {
         at = at_start c (begun announced count).raw 0 (omega arith) (λ id below. absurd (omega (arith, below)));
-        announced = AreAhead-behind c announced 1 (omega arith) (AreAhead-all c announced told);
+        announced = AreAhead-behind (HasNone c) announced 1 (omega arith) told.holding;
         counted = left ∙ counted;
         few = omega (arith, left, few);
         fits = omega (arith, few);

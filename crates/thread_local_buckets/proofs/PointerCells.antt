@@ -11,8 +11,8 @@ use denote.ArrayMemory.{Array-apart, Array-whole}
 use denote.Laws.{Lawful}
 use denote.Memory.{part_of}
 use denote.Model.Fields.{view_owns, view_made, plain_out, Plain-in}
-use Rattle.thread_local_buckets.specs.contracts.announced.AnnouncedBuckets as bits
-use Rattle.thread_local_buckets.proofs.announced.AnnouncedBuckets.TheLaws as bits'
+use Rattle.thread_local_buckets.specs.contracts.announced.BucketBits as bits
+use Rattle.thread_local_buckets.proofs.announced.BucketBits.TheLaws as bits'
 use denote.Struct.Parts.{PartsBack}
 use denote.Struct.Pick.{rest_at, field_out, field_back}
 use Rattle.std.specs.contracts.alloc.Global as heap
@@ -53,7 +53,7 @@ module _ {M : Type 1} {𝓤 : Ura M} (𝓛 : Logic 𝓤) (X : RattleType) (L : L
 
   abbrev ms : List Member
   ms = record { row = Row; ty = lone Row.mir } ∷ record { row = heap.the_row; ty = lone heap.the_row.mir }
-      ∷ record { row = Bits; ty = lone Bits.mir } ∷ []
+      ∷ record { row = Bits; ty = lone Bits.mir } ∷ record { row = Bits; ty = lone Bits.mir } ∷ []
 
   abbrev ns : List Member
   ns = record { row = Array W 63; ty = lone (Array W 63).mir } ∷ []
@@ -66,7 +66,7 @@ module _ {M : Type 1} {𝓤 : Ura M} (𝓛 : Logic 𝓤) (X : RattleType) (L : L
 
   abbrev pub Laid : Inside.Denot → SProp 𝓤
   Laid a =
-      (⟦ rest_at full_share ms 0 (a.pointers, (a.alloc, (a.announced, tt))) b o 0 ⟧
+      (⟦ rest_at full_share ms 0 (a.pointers, (a.alloc, (a.announced, (a.made, tt)))) b o 0 ⟧
       ∗ PartsBack 𝓛 full_share [] ms b o)
       ∗ (⟦ rest_at full_share ns 0 (a.pointers.pointers, tt) b (o + 0) 0 ⟧
       ∗ PartsBack 𝓛 full_share [] ns b (o + 0))
@@ -94,11 +94,11 @@ module _ {M : Type 1} {𝓤 : Ura M} (𝓛 : Logic 𝓤) (X : RattleType) (L : L
       let a : Inside.Denot = x.0 in
       let ws = a.pointers.pointers in
       let Rest : SProp 𝓤 =
-      ⟦ rest_at full_share ms 0 (a.pointers, (a.alloc, (a.announced, tt))) b o 0 ⟧
+      ⟦ rest_at full_share ms 0 (a.pointers, (a.alloc, (a.announced, (a.made, tt)))) b o 0 ⟧
       ∗ PartsBack 𝓛 full_share [] ms b o in
       let Rest' : SProp 𝓤 = ⟦ rest_at full_share ns 0 (ws, tt) b (o + 0) 0 ⟧ ∗ PartsBack 𝓛 full_share [] ns b (o + 0) in
       use1 𝓛 (‵ (part_at Row full_share a.pointers b (o + 0)) ⊛ raw Rest)
-      (field_out 𝓛 full_share [] ms (LRow, (LH, (bits'.the_row_laws.lawful 𝓛, tt))) (a.pointers, (a.alloc, (a.announced, tt))) b o 0) $
+      (field_out 𝓛 full_share [] ms (LRow, (LH, (bits'.the_row_laws.lawful 𝓛, (bits'.the_row_laws.lawful 𝓛, tt)))) (a.pointers, (a.alloc, (a.announced, (a.made, tt)))) b o 0) $
       split ! $
       use1 𝓛 (‵ (part_at (Array W 63) full_share ws b (o + 0 + 0)) ⊛ raw Rest')
       (field_out 𝓛 full_share [] ns (LA, tt) (ws, tt) b (o + 0) 0) $
@@ -111,7 +111,7 @@ module _ {M : Type 1} {𝓤 : Ura M} (𝓛 : Logic 𝓤) (X : RattleType) (L : L
 
   -- the table with these pointers
   abbrev pub remade : Inside.Denot → List (BucketPointer R.Denot) → Inside.Denot
-  remade a ws = record { pointers = record { pointers = ws }; alloc = a.alloc; announced = a.announced }
+  remade a ws = record { pointers = record { pointers = ws }; alloc = a.alloc; announced = a.announced; made = a.made }
 
   pub close_pointers : (a : Inside.Denot) (ws : List (BucketPointer R.Denot)) (c : Contents R.Denot)
       → length ws ≡ 63 → view (remade a ws) ≡ c → good (remade a ws)
@@ -119,7 +119,7 @@ module _ {M : Type 1} {𝓤 : Ura M} (𝓛 : Logic 𝓤) (X : RattleType) (L : L
   unfolding part_of
   close_pointers a ws c long seen so = let a' : Inside.Denot = remade a ws in
       let Rest : SProp 𝓤 =
-      ⟦ rest_at full_share ms 0 (a.pointers, (a.alloc, (a.announced, tt))) b o 0 ⟧
+      ⟦ rest_at full_share ms 0 (a.pointers, (a.alloc, (a.announced, (a.made, tt)))) b o 0 ⟧
       ∗ PartsBack 𝓛 full_share [] ms b o in
       let Rest' : SProp 𝓤 =
       ⟦ rest_at full_share ns 0 (a.pointers.pointers, tt) b (o + 0) 0 ⟧
@@ -132,7 +132,7 @@ module _ {M : Type 1} {𝓤 : Ura M} (𝓛 : Logic 𝓤) (X : RattleType) (L : L
       use2 𝓛 (‵ (part_at Row full_share a'.pointers b (o + 0)))
       (field_back 𝓛 full_share [] ns (ws, tt) b (o + 0) 0) $
       move ! (0 ∷ 1 ∷ []) $
-      use2 𝓛 (‵ (part_at Inside full_share a' b o)) (field_back 𝓛 full_share [] ms (a'.pointers, (a'.alloc, (a'.announced, tt))) b o 0) $
+      use2 𝓛 (‵ (part_at Inside full_share a' b o)) (field_back 𝓛 full_share [] ms (a'.pointers, (a'.alloc, (a'.announced, (a'.made, tt)))) b o 0) $
       by ! (Plain-in Table Inside (view_owns Inside (Contents R.Denot) Table.coded view good) 𝓛
       full_share c a'
       (view_made Inside (Contents R.Denot) Table.coded view good 𝓛 c a' (seen, so)) b o)

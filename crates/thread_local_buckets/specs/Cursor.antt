@@ -6,7 +6,7 @@ use Rattle.thread_local_base.specs.Buckets.{Contents, row, values}
 use Rattle.thread_local_base.specs.Rows.{value_in}
 use Rattle.thread_local_base.specs.Walk.{walk}
 use Rattle.thread_local_base.specs.Owner.{NoneBelow}
-use Rattle.thread_local_buckets.specs.Announced.{AreAhead}
+use Rattle.thread_local_buckets.specs.Announced.{AreAhead, HasNone}
 use Rattle.thread_local_buckets.specs.declared.cursor.RawIter.{RawIter}
 use Rattle.thread_local_buckets.specs.declared.cursor.OwnerCursor.{OwnerCursor}
 
@@ -48,7 +48,7 @@ pub record IsAt {V : Type 0} (contents : Contents V) (raw : RawIter) (rest : ℕ
 -- the walk has as many values to come as the cursor says
 pub record IsOwnerWalk {V : Type 0} (contents : Contents V) (cursor : OwnerCursor) : Type 0 where
   pub at : IsAt contents cursor.raw cursor.rest
-  pub announced : AreAhead contents cursor.left (cursor.raw.bucket + 1)
+  pub announced : AreAhead (HasNone contents) cursor.left (cursor.raw.bucket + 1)
   pub counted : values_left cursor ≡ length (walk (values contents))
   pub few : values_left cursor < 2 ^ 63
   pub fits : cursor.raw.yielded + cursor.later < 2 ^ 63

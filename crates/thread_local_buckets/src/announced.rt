@@ -1,10 +1,10 @@
-//! Words of announced buckets, a bit each, and how a loop takes one bucket after another out of them.
+//! Words of buckets, a bit each, and how a loop takes one bucket after another out of them.
 ghost use Rattle.std.specs.Prelude.{◌≡◌, ◌^◌, ◌<◌, false};
 ghost use Rattle.thread_local_base.specs.Bits.{IsLowestSet, IsWordBut};
 
-/// A bit for each announced bucket. It is a struct, since threads share it as a struct of one field.
+/// A bit for each bucket of a table. It is a struct, since threads share it as a struct of one field.
 #[derive(Clone, Copy)]
-pub struct AnnouncedBuckets {
+pub struct BucketBits {
     pub bits: u64,
 }
 

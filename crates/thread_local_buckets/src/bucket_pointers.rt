@@ -3,13 +3,13 @@ ghost use Rattle.std.specs.Prelude.{◌≡◌, ℕ, ◌+◌, ◌*◌, ◌/◌, �
 ghost use Rattle.thread_local_base.specs.Bits.{is_set};
 ghost use Rattle.thread_local_base.specs.Buckets.{row, stands, no_contents, IsTable};
 ghost use Rattle.thread_local_base.specs.Rows.{value_in, with_row, with_slot, empty_row};
-ghost use Rattle.thread_local_buckets.specs.Announced.{Announces};
+ghost use Rattle.thread_local_buckets.specs.Announced.{Covers};
 ghost use Rattle.thread_local_buckets.specs.Cursor.{AreFlagsAt};
 ghost use Rattle.thread_local_buckets.specs.Slots.{flag_word_at};
 
 use crate::announced::FIRST_SEVEN;
 use crate::pointer_array::PointerArray;
-use crate::{AnnouncedBuckets, Block, FlagSource, flag_word_at};
+use crate::{Block, BucketBits, FlagSource, flag_word_at};
 use std::alloc::{AllocError, Global};
 use std::marker::Model;
 use std::mem::forget;
@@ -20,22 +20,25 @@ mod counting;
 mod lends;
 mod placing;
 
-/// The pointers of a table, one for each of its buckets, the heap that their blocks come from, and the
-/// word of the announced buckets. Contracts see the contents.
+/// The pointers of a table, one for each of its buckets, the heap that their blocks come from, and two
+/// words of buckets. Contracts see the contents.
 ///
 /// Only `ensure_bucket` takes memory, and no call takes a lock. A value's drop may wait: `clear` and
 /// `publish_or_drop` drop values. Dropping the pointers drops every value and frees every block.
 pub struct BucketPointers<T> {
     pointers: PointerArray<T>,
     alloc: Global,
-    /// A bit for each announced bucket. Each bucket that stands is announced, and so are the first seven.
-    announced: AnnouncedBuckets,
+    /// The announced buckets: each that holds a value, and the first seven.
+    announced: BucketBits,
+    /// The buckets that were made here. Each other one that stands is announced.
+    made: BucketBits,
 }
 
 impl<T> Model for BucketPointers<T> {
     ghost use Rattle.thread_local_base.specs.Buckets.{Contents, IsTable};
     ghost use Rattle.thread_local_base.specs.Code.{contents_coded};
-    ghost use Rattle.thread_local_buckets.specs.Announced.{Announces};
+    ghost use Rattle.std.specs.Prelude.{bit_or};
+    ghost use Rattle.thread_local_buckets.specs.Announced.{Announces, Covers};
     ghost use Rattle.thread_local_buckets.specs.Pointers.{contents_of};
 
     ghost Value = { Contents T };
@@ -44,7 +47,10 @@ impl<T> Model for BucketPointers<T> {
 
     ghost view = { λ w. contents_of w.pointers };
 
-    ghost invariant = { λ w. IsTable (contents_of w.pointers) × Announces w.announced.bits (contents_of w.pointers) };
+    ghost invariant = { λ w.
+        IsTable (contents_of w.pointers)
+        × Announces w.announced.bits (contents_of w.pointers)
+        × Covers (bit_or w.announced.bits w.made.bits) (contents_of w.pointers) };
 }
 
 impl<T> BucketPointers<T> {
@@ -57,18 +63,20 @@ impl<T> BucketPointers<T> {
                 pointers: Default::default(),
             },
             alloc,
-            announced: AnnouncedBuckets { bits: FIRST_SEVEN },
+            announced: BucketBits { bits: FIRST_SEVEN },
+            made: BucketBits { bits: 0 },
         }
     }
 
-    /// The word of the announced buckets, a bit each.
+    /// A word with a bit for each bucket that stands. Announced buckets have one, too.
     #[inline]
-    pub fn announced(&mut self) -> u64
-        ensures announced { Announces result self.old }
+    pub fn standing(&mut self) -> u64
+        ensures covers { Covers result self.old }
+        ensures some { 0 < result }
         ensures table { IsTable self.old }
         ensures same { self.new ≡ self.old }
     {
-        self.announced.bits
+        self.announced.bits | self.made.bits
     }
 
     /// Stores `flags` for a slot's chunk, and then moves the slot's value out. `flags` are the
@@ -106,6 +114,7 @@ impl<T: Drop> Drop for BucketPointers<T> {
             pointers,
             alloc: _,
             announced: _,
+            made: _,
         } = self;
         // Each is null.
         forget(pointers);

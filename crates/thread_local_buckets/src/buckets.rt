@@ -191,7 +191,7 @@ impl<T> Buckets<T> {
         ensures same { self.new ≡ self.old }
     {
         let mut slots = 0;
-        let mut left = self.pointers.announced();
+        let mut left = self.pointers.standing();
         'buckets: while left != 0 {
             let (bucket, size) = take_first_bucket(&mut left);
             if self.pointers.stands(bucket) {

@@ -19,7 +19,7 @@ mod iter_mut;
 mod loan;
 pub mod pointer_array;
 
-pub use announced::{AnnouncedBuckets, take_first, take_first_bucket};
+pub use announced::{BucketBits, take_first, take_first_bucket};
 pub use block::Block;
 pub use bucket_pointer::BucketPointer;
 pub use bucket_pointers::BucketPointers;

@@ -1,44 +1,48 @@
 -- A load of the word of announced buckets finds the bucket of each token that a list has. Assumes
 -- `Logic`.
-use Rattle.std.proofs.Common.{◌≡◌, ℕ, zero, suc, ◌+◌, ◌<◌, ◌≤◌, Bool, true, false, List, [], ◌∷◌, length, refl, subst, arith}
+use Rattle.std.proofs.Common.{◌≡◌, ℕ, zero, suc, ◌+◌, ◌<◌, ◌≤◌, Bool, true, false, List, [], ◌∷◌, length, refl, sym, ◌∙◌, subst, arith}
+use Rattle.std.proofs.lemmas.Bool.{false≢true}
 use seplogic.Ra.Ura.{Ura}
-use base.Logic.{SProp, guard, upd, upd_i}
+use base.Logic.{SProp, guard, upd, upd_i, apply∗}
 use base.Fml.{Lft, Share, Fml, ftrue, fsep, fex, flft, fbor}
 use prog.Model.{Model}
 use contract.Running.{Running}
 use types.Logic.{Logic}
-use types.Kit.{‵, ◌⊛◌, given, later, pick, learn, check, suffices, ◌$◌, ◌∵◌, !, qed, move}
+use types.Kit.{‵, raw, ◌⊛◌, given, later, assume, pick, learn, check, suffices, ◌$◌, ◌∵◌, !, qed, move}
 use types.Kit.{keep, drop, split, split3, fsplit, fsplit3, fjoin, fjoin3, fpick, fpack, rewrite, await, updating, now, use1, use2, use3, done}
 use denote.RattleType.{RattleType}
-use denote.RawPtr.{Ptr, block_ptr, null_ptr}
+use denote.RawPtr.{Ptr, block_ptr, null_ptr, block_of, count_of}
 use denote.Memory.{shared_of, each_shared}
 use denote.Steps.{nothing}
 use Rattle.std.specs.Sync.RawAtomic.{asks, always}
 use Rattle.std.specs.Sync.RawAtomic.Pointer.{cell}
 use Rattle.thread_local_base.proofs.Walking.{lends_token, returns_token}
-use Rattle.thread_local_base.specs.Bits.{is_set}
+use Rattle.thread_local_base.specs.Bits.{is_set, is_set_in}
+use Rattle.thread_local_buckets.specs.Slots.{each, value_offset}
 use Rattle.thread_local_base.specs.Fact.{fact}
 use Rattle.thread_local_base.specs.SharedWord.{word_invariant}
 use Rattle.thread_local_base.proofs.SharedWord.{stepped}
 use Rattle.thread_local_base.proofs.Signs.{signs}
 use Rattle.thread_local_ids.specs.TokenViews.{TokenView}
 use Rattle.thread_local_ids.specs.TokenLists.{NoneIn, tell_each}
-use Rattle.thread_local_shared_buckets.specs.Announcing.{Announcing, BeginsWithFirst, announced, lies_with_word}
+use Rattle.thread_local_shared_buckets.specs.Announcing.{Announcing, BeginsWithFirst, announced, announced_unless, lies_with_word}
 use Rattle.thread_local_shared_buckets.specs.Shared.{BucketView, Turn, StandingBlock, len, first, all_unborn, standing, beside_pointer}
-use Rattle.thread_local_shared_buckets.specs.Shared.{bucket_invariant, grown}
+use Rattle.thread_local_shared_buckets.specs.Shared.{bucket_invariant, numbered_slot, announced_where, NoneSet}
 use Rattle.thread_local_shared_buckets.specs.TableView.{TableView, bucket_view}
 use Rattle.thread_local_shared_buckets.specs.contracts.shared_bucket.SharedBucket as shared_bucket
-use Rattle.thread_local_shared_buckets.proofs.AnnouncingLaws.{shows, first_set, none_past}
-use Rattle.thread_local_shared_buckets.proofs.Inside.{quietly}
+use Rattle.thread_local_shared_buckets.proofs.AnnouncingLaws.{shows, first_set, none_past, announced_twice}
+use Rattle.thread_local_shared_buckets.proofs.Inside.{quietly, Under, block_in}
+use Rattle.thread_local_shared_buckets.proofs.ChunkLooks.{each_learns, Known, known}
 use Rattle.thread_local_shared_buckets.proofs.Lists.{AreOf}
-use Rattle.thread_local_shared_buckets.proofs.Loads.{NoneThere, unborn_unlisted, grown_twice}
+use Rattle.thread_local_shared_buckets.proofs.Loads.{NoneThere, unborn_unlisted}
 
 module _ {M : Type 1} {𝓤 : Ura M} (𝓛 : Logic 𝓤) (R : RattleType) (tokens : List (TokenView R.Denot)) where
   open 𝓛 use {H, A}
-  open signs 𝓛 use {⟦◌⟧, ◌⊢◌, ◌∗◌}
+  open signs 𝓛 use {⟦◌⟧, ◌⊢◌, ◌∗◌, ◌-∗◌}
 
   infix 26 ◌⊢◌
   infixr 35 ◌∗◌
+  infixr 30 ◌-∗◌
   abbrev Telling : Fml
   Telling = tell_each R tokens
 
@@ -65,6 +69,54 @@ module _ {M : Type 1} {𝓤 : Ura M} (𝓛 : Logic 𝓤) (R : RattleType) (token
     none_in : NoneThere 𝓛 R d t tokens → NoneIn d.sharing d.bucket tokens
     none_in absent name k x low same i near at = absent i near name k x low same (omega (arith, at))
 
+    -- what a block tells is said beside it
+    abbrev Out : SProp 𝓤 → SProp 𝓤
+    Out P = ⟦ Telling ⟧ -∗ (P ∗ ⟦ Telling ⟧ ∗ ⟦ sure d ⟧)
+
+    lifted : (P Q X : SProp 𝓤) → P ∗ X ⊢ Q → Out P ∗ X ⊢ Out Q
+    lifted P Q X law =
+        qed 𝓛 (raw (Out P) ∷ raw X ∷ []) ∵ assume ! (‵ Telling) $
+        use2 𝓛 (raw P ⊛ ‵ Telling ⊛ ‵ (sure d)) (apply∗ 𝓤 ⟦ Telling ⟧ (P ∗ ⟦ Telling ⟧ ∗ ⟦ sure d ⟧)) $ split3 ! $
+        move ! (0 ∷ 3 ∷ []) $ use2 𝓛 (raw Q) law $ done !
+
+    module _ (s : StandingBlock) (long : length s.names ≡ len R d) (ns : List ℕ) where
+      abbrev Numbered : ℕ → ℕ → Fml
+      Numbered = numbered_slot R t (block_of s.at) s.block_life d.sharing d.table (first R d) (count_of s.at) ns
+
+      abbrev Slots : Fml
+      Slots = each Numbered s.names 0
+
+      -- its flags tell which
+      flags_sure : (set : Bool) → ⟦ announced_unless d.word d.bucket (NoneSet ns) set ⟧ ∗ ⟦ Slots ⟧ ∗ ⟦ Telling ⟧
+          ⊢ ⟦ fsep (announced_where d ns) Slots ⟧ ∗ ⟦ Telling ⟧ ∗ ⟦ sure d ⟧
+      flags_sure true =
+          let Known : Fml = announced d.word d.bucket in
+          qed 𝓛 (‵ Known ∷ ‵ Slots ∷ ‵ Telling ∷ []) ∵ use1 𝓛 (‵ Known ⊛ ‵ Known) (announced_twice 𝓛 d.word d.bucket) $ split ! $
+          fpack ! Bool (sure_by d) true $ move ! (1 ∷ []) $ fpack ! Bool (announced_unless d.word d.bucket (NoneSet ns)) true $
+          move ! (0 ∷ 2 ∷ []) $ fjoin ! $ move ! (0 ∷ 2 ∷ 1 ∷ []) $ done !
+      flags_sure false =
+          let At : ℕ → Type 0 = λ i. Known 𝓛 R d t (block_of s.at) s.block_life tokens (is_set_in ns i) (i + first R d) in
+          let Bare : Type 0 = (is_set d.word.made d.bucket ≡ true) × NoneSet ns in
+          qed 𝓛 (‵ (announced_unless d.word d.bucket (NoneSet ns) false) ∷ ‵ Slots ∷ ‵ Telling ∷ []) ∵ fpick ! (λ so. drop ! $
+          use2 𝓛 (given ((i : ℕ) → i < length s.names → At (i + 0)) (‵ Slots ⊛ ‵ Telling))
+          (each_learns 𝓛 Numbered Telling At s.names 0 (λ η i.
+          known 𝓛 R d t (block_of s.at) s.block_life tokens (is_set_in ns i) (i + first R d) (value_offset R (count_of s.at) i) η)) $
+          learn ! (λ shows. split ! $
+          let none : NoneThere 𝓛 R d t tokens = λ i near name k x low same at.
+          let so_at : At i = (let is : i + 0 ≡ i = omega arith in subst At is (shows i (subst (λ (m : ℕ). i < m) (sym long) near))) in
+          absurd (false≢true (sym (so.1 i) ∙ so_at name k x low same at)) in
+          nothing ! $ fpack ! (NoneIn d.sharing d.bucket tokens) (λ _. ftrue) (none_in none) $ fpack ! Bool (sure_by d) false $
+          nothing ! $ fpack ! Bare (λ _. ftrue) so $ fpack ! Bool (announced_unless d.word d.bucket (NoneSet ns)) false $
+          move ! (0 ∷ 2 ∷ []) $ fjoin ! $ move ! (0 ∷ 2 ∷ 1 ∷ []) $ done !))
+
+      in_row : ⟦ Under 𝓛 R d t 0 0 s (block_of s.at) refl ns ⟧ ⊢ Out ⟦ fex (List ℕ) (Under 𝓛 R d t 0 0 s (block_of s.at) refl) ⟧
+      in_row =
+          qed 𝓛 (‵ (Under 𝓛 R d t 0 0 s (block_of s.at) refl ns) ∷ []) ∵ assume ! (‵ Telling) $ move ! (1 ∷ []) $ fsplit3 ! $
+          -- [that they are words of flags; the words; the slots with what the flags show; what the tokens tell]
+          move ! (2 ∷ []) $ fsplit ! $ fpick ! (λ set. move ! (0 ∷ 1 ∷ 4 ∷ []) $
+          use3 𝓛 (‵ (fsep (announced_where d ns) Slots) ⊛ ‵ Telling ⊛ ‵ (sure d)) (flags_sure set) $ split3 ! $
+          move ! (3 ∷ 4 ∷ 0 ∷ []) $ fjoin3 ! $ fpack ! (List ℕ) (Under 𝓛 R d t 0 0 s (block_of s.at) refl) ns $ done !)
+
     -- the pointer tells which
     sees_at : (p : Ptr) → ⟦ beside_pointer R d t p ⟧ ∗ ⟦ Telling ⟧
         ⊢ ⟦ beside_pointer R d t p ⟧ ∗ ⟦ Telling ⟧ ∗ ⟦ sure d ⟧
@@ -77,15 +129,15 @@ module _ {M : Type 1} {𝓤 : Ura M} (𝓛 : Logic 𝓤) (R : RattleType) (token
         -- [it is sure; the slots; what the tokens tell; which block stands]
         move ! (3 ∷ 1 ∷ []) $ nothing ! $ fpack ! (d.reserved ≡ false) (λ _. ftrue) free $ fjoin3 ! $
         move ! (0 ∷ 2 ∷ 1 ∷ []) $ done !))
-    sees_at (block_ptr b o) =
-        let p : Ptr = block_ptr b o in
-        qed 𝓛 (‵ (beside_pointer R d t p) ∷ ‵ Telling ∷ []) ∵ fpick ! (λ z. fsplit ! $ move ! (1 ∷ []) $ fsplit ! $ fsplit3 ! $
-        -- [what the name says now, and for good; what the block shows; the rest; a fact; what the tokens tell]
-        move ! (2 ∷ []) $ use1 𝓛 (‵ (grown d) ⊛ ‵ (grown d)) (grown_twice 𝓛 d) $ split ! $ fsplit ! $ drop ! $
-        fpack ! Bool (sure_by d) true $
-        -- [it is sure; what the block shows; what the name says now, and for good; the rest; a fact; what the tokens tell]
-        move ! (2 ∷ 3 ∷ 1 ∷ []) $ fjoin3 ! $ move ! (0 ∷ 2 ∷ []) $ fjoin ! $ move ! (2 ∷ 0 ∷ []) $ fjoin ! $
-        fpack ! (StandingBlock × Share) (standing R d t p) z $ move ! (0 ∷ 2 ∷ 1 ∷ []) $ done !)
+    sees_at (block_ptr x y) =
+        let p : Ptr = block_ptr x y in
+        qed 𝓛 (‵ (beside_pointer R d t p) ∷ ‵ Telling ∷ []) ∵ fpick ! (λ z.
+        use1 𝓛 (raw (Out ⟦ standing R d t p z ⟧))
+        (block_in 𝓛 R d t 0 0 z.0 (block_of z.0.at) refl Out lifted (λ ns long. in_row z.0 long ns) p z.1) $
+        move ! (1 ∷ 0 ∷ []) $
+        use2 𝓛 (‵ (standing R d t p z) ⊛ ‵ Telling ⊛ ‵ (sure d))
+        (apply∗ 𝓤 ⟦ Telling ⟧ (⟦ standing R d t p z ⟧ ∗ ⟦ Telling ⟧ ∗ ⟦ sure d ⟧)) $ split3 ! $
+        fpack ! (StandingBlock × Share) (standing R d t p) z $ done !)
 
     sees : (b o : ℕ) → ⟦ bucket_invariant R d t b o ⟧ ∗ ⟦ Telling ⟧
         ⊢ upd 𝓤 (⟦ bucket_invariant R d t b o ⟧ ∗ ⟦ Telling ⟧ ∗ ⟦ sure d ⟧)

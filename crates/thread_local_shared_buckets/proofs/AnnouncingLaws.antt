@@ -20,12 +20,12 @@ use Rattle.thread_local_base.specs.Fact.{fact}
 use Rattle.thread_local_base.specs.SharedWord.{word_invariant}
 use Rattle.thread_local_base.proofs.SharedWord.{stepped}
 use Rattle.thread_local_base.proofs.Signs.{signs}
-use Rattle.thread_local_base.proofs.Word.{set_bit}
+use Rattle.thread_local_base.proofs.Word.{set_bit, same_bit as unchanged}
 use Rattle.thread_local_ids.specs.Told.{untold_in}
 use Rattle.thread_local_ids.specs.Sharings.{later_of}
 use Rattle.thread_local_ids.proofs.ToldElements.{told_dup, tells_it, never_told, source, source_new, all_drawn, New}
 use Rattle.thread_local_shared_buckets.specs.Announcing.{Announcing, told_of, announced_by, announced, lies_with_bit, lies_with_bits}
-use Rattle.thread_local_shared_buckets.specs.Announcing.{lies_with_word}
+use Rattle.thread_local_shared_buckets.specs.Announcing.{lies_with_word, announced_unless, announced_or}
 
 -- of a bit that is set as a bit of that name, and of another
 same_bit : (bit : ℕ) (old : Bool) → (if bit == bit then true else old) ≡ true
@@ -233,25 +233,56 @@ module _ {M : Type 1} {𝓤 : Ura M} (𝓛 : Logic 𝓤) where
       qed 𝓛 (‵ (untold_in (Some γ) bit) ∷ []) ∵ drop ! $ nothing ! $ fpack ! (true ≡ true) (λ _. ftrue) refl $ done !
   one_begins γ bit false = qed 𝓛 (‵ (untold_in (Some γ) bit) ∷ []) ∵ done !
 
-  bits_begin : (γ : GName) (n count : ℕ)
-      → ⟦ bits_untold γ count ⟧ ⊢ ⟦ lies_with_bits (record { name = γ; begun = n }) n count ⟧
-  bits_begin γ n zero = qed 𝓛 (‵ ftrue ∷ []) ∵ done !
-  bits_begin γ n (suc c) =
-      let m : Announcing = record { name = γ; begun = n } in
-      qed 𝓛 (‵ (bits_untold γ (suc c)) ∷ []) ∵ fsplit ! $
-      use1 𝓛 (‵ (lies_with_bit γ c (is_set n c) (is_set n c))) (one_begins γ c (is_set n c)) $ move ! (1 ∷ []) $
-      use1 𝓛 (‵ (lies_with_bits m n c)) (bits_begin γ n c) $ move ! (1 ∷ 0 ∷ []) $ fjoin ! $ done !
+  module _ (γ : GName) (n made : ℕ) where
+    abbrev pub beginning : Announcing
+    beginning = record { name = γ; begun = n; made = made }
 
-  pub begins : (γ : GName) (n : ℕ) → is_set n 63 ≡ false
-      → ⟦ bits_untold γ 63 ⟧ ⊢ ⟦ lies_with_word (record { name = γ; begun = n }) n ⟧
-  begins γ n none =
-      qed 𝓛 (‵ (bits_untold γ 63) ∷ []) ∵
-      use1 𝓛 (‵ (lies_with_bits (record { name = γ; begun = n }) n 63)) (bits_begin γ n 63) $
-      nothing ! $ fpack ! (is_set n 63 ≡ false) (λ _. ftrue) none $ fjoin ! $ done !
+    bits_begin : (count : ℕ) → ⟦ bits_untold γ count ⟧ ⊢ ⟦ lies_with_bits beginning n count ⟧
+    bits_begin zero = qed 𝓛 (‵ ftrue ∷ []) ∵ done !
+    bits_begin (suc c) =
+        qed 𝓛 (‵ (bits_untold γ (suc c)) ∷ []) ∵ fsplit ! $
+        use1 𝓛 (‵ (lies_with_bit γ c (is_set n c) (is_set n c))) (one_begins γ c (is_set n c)) $ move ! (1 ∷ []) $
+        use1 𝓛 (‵ (lies_with_bits beginning n c)) (bits_begin c) $ move ! (1 ∷ 0 ∷ []) $ fjoin ! $ done !
+
+    pub begins : is_set n 63 ≡ false → ⟦ bits_untold γ 63 ⟧ ⊢ ⟦ lies_with_word beginning n ⟧
+    begins none =
+        qed 𝓛 (‵ (bits_untold γ 63) ∷ []) ∵ use1 𝓛 (‵ (lies_with_bits beginning n 63)) (bits_begin 63) $
+        nothing ! $ fpack ! (is_set n 63 ≡ false) (λ _. ftrue) none $ fjoin ! $ done !
+
+  -- what holds where a bucket isn't announced may follow from other facts
+  unless_so : (m : Announcing) (bucket : ℕ) (P Q : Type 0) → (P → Q) → (t : Bool)
+      → ⟦ announced_unless m bucket P t ⟧ ⊢ ⟦ announced_or m bucket Q ⟧
+  unless_so m bucket P Q so true = qed 𝓛 (‵ (announced m bucket) ∷ []) ∵ fpack ! Bool (announced_unless m bucket Q) true $ done !
+  unless_so m bucket P Q so false =
+      qed 𝓛 (‵ (announced_unless m bucket P false) ∷ []) ∵ fpick ! (λ is.
+      fpack ! ((is_set m.made bucket ≡ true) × Q) (λ _. ftrue) (is.0, so is.1) $ fpack ! Bool (announced_unless m bucket Q) false $ done !)
+
+  pub announced_so : (m : Announcing) (bucket : ℕ) (P Q : Type 0) → (P → Q) → ⟦ announced_or m bucket P ⟧ ⊢ ⟦ announced_or m bucket Q ⟧
+  announced_so m bucket P Q so = qed 𝓛 (‵ (announced_or m bucket P) ∷ []) ∵ fpick ! (λ t. by ! (unless_so m bucket P Q so t))
+
+  -- what a load of the word sees of a bucket, by whether its bit is set
+  abbrev pub seen_of : Announcing → ℕ → Bool → Fml
+  seen_of m bit true = announced m bit
+  seen_of m bit false = ftrue
+
+  glimpsed : (m : Announcing) (n bit : ℕ) → bit < 63 → (set : Bool) → is_set n bit ≡ set
+      → ⟦ lies_with_word m n ⟧ ⊢ upd 𝓤 (⟦ lies_with_word m n ⟧ ∗ ⟦ seen_of m bit set ⟧)
+  glimpsed m n bit low true is = raised m n n bit low (unchanged n bit true is)
+  glimpsed m n bit low false is =
+      qed 𝓛 (‵ (lies_with_word m n) ∷ []) ∵ suffices ! _ (upd_i 𝓤 (⟦ lies_with_word m n ⟧ ∗ ⟦ ftrue ⟧)) $ nothing ! $
+      move ! (1 ∷ 0 ∷ []) $ done !
 
   module _ (m : Announcing) (b o : ℕ) (κ : Lft) (q : Share) where
     abbrev I : Fml
     I = word_invariant (lies_with_word m) b (o + 0)
+
+    -- the atomic load that sees a bucket's bit
+    pub sees : (bit : ℕ) → bit < 63
+        → A.inv (fbor κ I) ∗ (A.lft κ q ∗ ⟦ ftrue ⟧)
+        ⊢ asks 𝓛 (block_ptr b (o + 0)) (λ n. n) always (λ n. fsep (flft κ q) (seen_of m bit (is_set n bit)))
+    sees bit low =
+        stepped 𝓛 (lies_with_word m) b (o + 0) κ q (λ n. n) (λ n. seen_of m bit (is_set n bit)) ftrue (λ n.
+        qed 𝓛 (‵ (lies_with_word m n) ∷ ‵ ftrue ∷ []) ∵ keep ! (0 ∷ []) $ by ! (glimpsed m n bit low (is_set n bit) refl))
 
     -- the atomic step that sets the bit of a bucket
     pub sets : (bit mask : ℕ) → bit < 63 → mask ≡ 1 * 2 ^ bit % 2 ^ 64

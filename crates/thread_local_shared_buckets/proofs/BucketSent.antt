@@ -18,12 +18,20 @@ use Rattle.thread_local_shared_buckets.specs.Shared.{BucketView, Turn, StandingB
 use Rattle.thread_local_shared_buckets.specs.Shared.{tracked_value, pinned_and_told, by, holds, stays, lies_with_slot, shared_slot}
 use Rattle.thread_local_shared_buckets.specs.Shared.{numbered_slot, slots_side, all_unborn, rests, slots_rest, block_rests}
 use Rattle.thread_local_shared_buckets.specs.Shared.{block_stands, beside_pointer, kept, loaded, row_owns, at_rest, len}
-use Rattle.thread_local_shared_buckets.specs.Shared.{first, shown_by, grown, if_set, seen_value, seen_slot, seen_owns}
+use Rattle.thread_local_shared_buckets.specs.Shared.{first, shown_by, grown, announced_where, NoneSet, if_set, seen_value, seen_slot, seen_owns}
+use Rattle.thread_local_shared_buckets.specs.Announcing.{Announcing, announced_unless}
 use Rattle.thread_local_shared_buckets.proofs.AnnouncingSent.{announced_keyless}
 use Rattle.thread_local_buckets.proofs.Sent.{token_keyless, each_keyless, place_keyless, back_keyless}
 
 pub grown_keyless : (d : BucketView) → Keyless (grown d)
-grown_keyless d = (reached_keyless d.table (shown_by d), announced_keyless d.word d.bucket)
+grown_keyless d = reached_keyless d.table (shown_by d)
+
+unless_keyless : (m : Announcing) (bucket : ℕ) (P : Type 0) (t : Bool) → Keyless (announced_unless m bucket P t)
+unless_keyless m bucket P true = announced_keyless m bucket
+unless_keyless m bucket P false = λ _. tt
+
+where_keyless : (d : BucketView) (ns : List ℕ) → Keyless (announced_where d ns)
+where_keyless d ns = unless_keyless d.word d.bucket (NoneSet ns)
 
 module _ (R : RattleType) (s : IsSend R) where
   words_keyless : (n b o : ℕ) (ns : List ℕ) → Keyless (each (flags_at R n b o) ns 0)
@@ -85,7 +93,10 @@ module _ (R : RattleType) (s : IsSend R) where
       let o : ℕ = count_of p in (
         (λ ns. (
           (λ _. tt),
-          (words_keyless (len R d) b o ns, slots_keyless t b z.block_life d.sharing d.table (first R d) o z.names ns),
+          (
+            words_keyless (len R d) b o ns,
+            (where_keyless d ns, slots_keyless t b z.block_life d.sharing d.table (first R d) o z.names ns),
+          ),
         )),
         back_keyless R s b o (len R d),
       )
@@ -118,9 +129,9 @@ module _ (R : RattleType) (s : IsSend R) where
     slots_rest_keyless sharing k n (suc i) b o ns,
   )
 
-  block_rests_keyless : (sharing : Option GName) (k n b o : ℕ) → Keyless (block_rests R sharing k n b o)
-  block_rests_keyless sharing k n b o = (
-    (λ ns. ((λ _. tt), (words_keyless n b o ns, slots_rest_keyless sharing k n 0 b o ns))),
+  block_rests_keyless : (d : BucketView) (k n b o : ℕ) → Keyless (block_rests R d.sharing k (announced_where d) n b o)
+  block_rests_keyless d k n b o = (
+    (λ ns. ((λ _. tt), (words_keyless n b o ns, (where_keyless d ns, slots_rest_keyless d.sharing k n 0 b o ns)))),
     back_keyless R s b o n,
   )
 
@@ -129,7 +140,7 @@ module _ (R : RattleType) (s : IsSend R) where
   at_rest_keyless d (block_ptr b o) = (
     (λ _. tt),
     (
-      block_rests_keyless d.sharing (first R d) (len R d) b o,
+      block_rests_keyless d (first R d) (len R d) b o,
       (token_keyless (block_ty R (len R d)) (block_ptr b o), grown_keyless d),
     ),
   )

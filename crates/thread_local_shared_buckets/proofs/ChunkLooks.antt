@@ -121,6 +121,49 @@ module _ {M : Type 1} {𝓤 : Ura M} (𝓛 : Logic 𝓤) where
       learn ! (λ all. split ! $ check ! (all_from P (length xs) j one all) $
       move ! (2 ∷ 0 ∷ []) $ fjoin ! $ done !))
 
+  -- what a slot shows to a list of tokens
+  module _ (R : RattleType) (d : BucketView) (t : Turn) (b ν : ℕ) (tokens : List (TokenView R.Denot)) where
+    abbrev Tokens : Fml
+    Tokens = tell_each R tokens
+
+    abbrev OneAs : Bool → ℕ → ℕ → GName → Option R.Denot × Who → Fml
+    OneAs = shared_slot_as R t b ν d.sharing d.table
+
+    abbrev One : Bool → ℕ → ℕ → GName → Fml
+    One = shared_slot R t b ν d.sharing d.table
+
+    -- a token of the slot's id knows that the flag is set
+    abbrev pub Known : Bool → ℕ → Type 0
+    Known set k = AllOf d.sharing (λ p. p.id ≡ k → set ≡ true) tokens
+
+    known_as : (set : Bool) (k e : ℕ) (η : GName) (v : Option R.Denot) (w : Who)
+        → ⟦ OneAs set k e η (v, w) ⟧ ∗ ⟦ Tokens ⟧ ⊢ guard 𝓤 (Known set k) (⟦ OneAs set k e η (v, w) ⟧ ∗ ⟦ Tokens ⟧)
+    known_as set k e η None w =
+        let Untold : Fml = untold_in d.sharing k in
+        let Says : Type 0 = AllOf d.sharing (λ p. p.id ≡ k → ◌≡◌ {A = Option R.Denot} None (Some p.value)) tokens in
+        qed 𝓛 (‵ (OneAs set k e η (None, w)) ∷ ‵ Tokens ∷ []) ∵ fsplit3 ! $ fpick ! (λ unset. drop ! $
+        -- [what stays; who has it; what the tokens tell]
+        fsplit ! $ move ! (1 ∷ 3 ∷ []) $
+        use2 𝓛 (given Says (‵ Untold ⊛ ‵ Tokens)) (slot_agrees 𝓛 R d.sharing k None tokens) $
+        learn ! (λ says. split ! $
+        check ! (λ named i x low same at. absurd (none-some _ (says named i x low same at))) $
+        -- [untold; what the tokens tell; the right; who has it]
+        move ! (2 ∷ 0 ∷ []) $ fjoin ! $ move ! (0 ∷ 2 ∷ []) $ nothing ! $
+        fpack ! (set ≡ false) (λ _. ftrue) unset $ fjoin3 ! $ done !))
+    known_as set k e η (Some x) w =
+        qed 𝓛 (‵ (OneAs set k e η (Some x, w)) ∷ ‵ Tokens ∷ []) ∵ fsplit3 ! $ fpick ! (λ is.
+        check ! (λ named i y low same at. is) $
+        fpack ! (set ≡ true) (λ _. ftrue) is $ fjoin3 ! $ done !)
+
+    pub known : (set : Bool) (k e : ℕ) (η : GName)
+        → ⟦ One set k e η ⟧ ∗ ⟦ Tokens ⟧ ⊢ guard 𝓤 (Known set k) (⟦ One set k e η ⟧ ∗ ⟦ Tokens ⟧)
+    known set k e η =
+        qed 𝓛 (‵ (One set k e η) ∷ ‵ Tokens ∷ []) ∵ fsplit ! $ move ! (1 ∷ []) $ fpick ! (λ z.
+        move ! (0 ∷ 2 ∷ []) $
+        use2 𝓛 (given (Known set k) (‵ (OneAs set k e η z) ⊛ ‵ Tokens)) (known_as set k e η z.0 z.1) $
+        learn ! (λ so. split ! $ check ! so $ fpack ! (Option R.Denot × Who) (OneAs set k e η) z $
+        move ! (2 ∷ 0 ∷ []) $ fjoin ! $ done !))
+
   module _ (R : RattleType) (L : Laws R) (j : Shareable R) (d : BucketView) (t : Turn)
       (wb wo : ℕ) (s : StandingBlock) (b : ℕ) (at_b : block_of s.at ≡ b) (c : ℕ)
       (near : c * 64 < len R d) (tokens : List (TokenView R.Denot)) where
@@ -189,38 +232,6 @@ module _ {M : Type 1} {𝓤 : Ura M} (𝓛 : Logic 𝓤) where
         split ! $ fpack ! (Option R.Denot × Who) (SlotAs set k e η) z $ move ! (2 ∷ 0 ∷ []) $
         fjoin ! $ done !)
 
-    -- a token of the slot's id knows that the flag is set
-    abbrev Known : Bool → ℕ → Type 0
-    Known set k = AllOf d.sharing (λ p. p.id ≡ k → set ≡ true) tokens
-
-    known_as : (set : Bool) (k e : ℕ) (η : GName) (v : Option R.Denot) (w : Who)
-        → ⟦ SlotAs set k e η (v, w) ⟧ ∗ ⟦ Telling ⟧ ⊢ guard 𝓤 (Known set k) (⟦ SlotAs set k e η (v, w) ⟧ ∗ ⟦ Telling ⟧)
-    known_as set k e η None w =
-        let Untold : Fml = untold_in d.sharing k in
-        let Says : Type 0 = AllOf d.sharing (λ p. p.id ≡ k → ◌≡◌ {A = Option R.Denot} None (Some p.value)) tokens in
-        qed 𝓛 (‵ (SlotAs set k e η (None, w)) ∷ ‵ Telling ∷ []) ∵ fsplit3 ! $ fpick ! (λ unset. drop ! $
-        -- [what stays; who has it; what the tokens tell]
-        fsplit ! $ move ! (1 ∷ 3 ∷ []) $
-        use2 𝓛 (given Says (‵ Untold ⊛ ‵ Telling)) (slot_agrees 𝓛 R d.sharing k None tokens) $
-        learn ! (λ says. split ! $
-        check ! (λ named i x low same at. absurd (none-some _ (says named i x low same at))) $
-        -- [untold; what the tokens tell; the right; who has it]
-        move ! (2 ∷ 0 ∷ []) $ fjoin ! $ move ! (0 ∷ 2 ∷ []) $ nothing ! $
-        fpack ! (set ≡ false) (λ _. ftrue) unset $ fjoin3 ! $ done !))
-    known_as set k e η (Some x) w =
-        qed 𝓛 (‵ (SlotAs set k e η (Some x, w)) ∷ ‵ Telling ∷ []) ∵ fsplit3 ! $ fpick ! (λ is.
-        check ! (λ named i y low same at. is) $
-        fpack ! (set ≡ true) (λ _. ftrue) is $ fjoin3 ! $ done !)
-
-    known : (set : Bool) (k e : ℕ) (η : GName)
-        → ⟦ Slot set k e η ⟧ ∗ ⟦ Telling ⟧ ⊢ guard 𝓤 (Known set k) (⟦ Slot set k e η ⟧ ∗ ⟦ Telling ⟧)
-    known set k e η =
-        qed 𝓛 (‵ (Slot set k e η) ∷ ‵ Telling ∷ []) ∵ fsplit ! $ move ! (1 ∷ []) $ fpick ! (λ z.
-        move ! (0 ∷ 2 ∷ []) $
-        use2 𝓛 (given (Known set k) (‵ (SlotAs set k e η z) ⊛ ‵ Telling)) (known_as set k e η z.0 z.1) $
-        learn ! (λ so. split ! $ check ! so $ fpack ! (Option R.Denot × Who) (SlotAs set k e η) z $
-        move ! (2 ∷ 0 ∷ []) $ fjoin ! $ done !))
-
     -- 2. All slots of the block, and the word of the chunk.
 
     -- what is copied of the slots, under these words
@@ -260,12 +271,13 @@ module _ {M : Type 1} {𝓤 : Ura M} (𝓛 : Logic 𝓤) where
         let Row : Fml = each Numbered s.names 0 in
         let At : ℕ → Type 0 = λ i. AllOf d.sharing (λ p. p.id ≡ i + first R d → is_set_in ns i ≡ true) tokens in
         qed 𝓛 (‵ (Slots ns) ∷ []) ∵ assume ! (‵ Telling) $ move ! (1 ∷ []) $ fsplit3 ! $ fpick ! (λ are. drop ! $
-        -- [the words; the slots; what the tokens tell]
-        move ! (1 ∷ 2 ∷ []) $
+        move ! (1 ∷ []) $ fsplit ! $
+        -- [what the flags show; the slots; the words; what the tokens tell]
+        move ! (1 ∷ 3 ∷ []) $
         use2 𝓛 (given ((i : ℕ) → i < length s.names → At (i + 0)) (‵ Row ⊛ ‵ Telling))
         (each_learns Numbered Telling At s.names 0 (λ η i.
-        known (is_set_in ns i) (i + first R d) (value_offset R o i) η)) $
-        learn ! (λ shows. split ! $ move ! (1 ∷ []) $ drop ! $ move ! (1 ∷ []) $
+        known R d t b s.block_life tokens (is_set_in ns i) (i + first R d) (value_offset R o i) η)) $
+        learn ! (λ shows. split ! $ move ! (1 ∷ []) $ drop ! $ move ! (2 ∷ 0 ∷ []) $
         let shown : ShowTokens ns = λ i low. (let same : i + 0 ≡ i = omega arith in
         subst At same (shows i (subst (λ (m : ℕ). i < m) (sym long) low))) in
         let inside : c < length ns = subst (λ (m : ℕ). c < m) (sym are.0) (let n : c * 64 < len R d = near in omega arith) in
@@ -285,7 +297,8 @@ module _ {M : Type 1} {𝓤 : Ura M} (𝓛 : Logic 𝓤) where
         use1 𝓛 (raw (Put 𝓛 Fs ns 0 c c n)) (all_e 𝓤 (Put 𝓛 Fs ns 0 c c) n) $
         move ! (1 ∷ 0 ∷ []) $
         use2 𝓛 (‵ Words) (apply∗ 𝓤 ⟦ Flags n ⟧ ⟦ Words ⟧) $
-        rewrite ! 0 (λ (ms : List ℕ). ‵ (each Fs ms 0)) (set-get_or ns c 0) refl $ nothing ! $
+        rewrite ! 0 (λ (ms : List ℕ). ‵ (each Fs ms 0)) (set-get_or ns c 0) refl $
+        move ! (2 ∷ 1 ∷ []) $ fjoin ! $ move ! (1 ∷ 0 ∷ []) $ nothing ! $
         fpack ! (AreFlagWords R (len R d) ns) (λ _. ftrue) are $ fjoin3 ! $
         fpack ! (List ℕ) Slots ns $ done !))
 

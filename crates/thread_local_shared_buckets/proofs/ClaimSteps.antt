@@ -1,7 +1,7 @@
 -- The steps of a claim under its bucket's invariant: ghost steps, and atomic ones on the word that
 -- has the slot's flag. Assumes `Logic`.
 use Rattle.std.proofs.Common.{◌≡◌, ℕ, ◌+◌, ◌*◌, ◌/◌, ◌%◌, ◌^◌, ◌<◌, Bool, true, false, [], ◌∷◌, refl, ap, ◌∙◌}
-use Rattle.std.proofs.Common.{lit<, Option, None, Some, is_some}
+use Rattle.std.proofs.Common.{lit<, Option, None, Some, is_some, sym}
 use Rattle.std.proofs.lemmas.Nat.{mod_below}
 use base.Stored.{Gv}
 use seplogic.Ra.Ura.{Ura}
@@ -9,7 +9,7 @@ use base.Logic.{SProp, ex, guard, upd, upd_i}
 use base.Fml.{GName, Share, Fml, fsep, fbor, flft, ftrue, fex}
 use types.Logic.{Logic}
 use types.Kit.{‵, raw, ◌⊛◌, given, settle, suffices, show, check, frame, ◌$◌, ◌∵◌, !, qed, by, move, split, split3}
-use types.Kit.{fjoin, fpack, learn, use2, use3, done}
+use types.Kit.{fjoin, fpack, fsplit, learn, rewrite, use0, use2, use3, done}
 use denote.RattleType.{RattleType}
 use denote.Steps.{nothing}
 use denote.RawPtr.{Ptr, block_ptr, count_of}
@@ -22,6 +22,8 @@ use Rattle.thread_local_base.specs.Bits.{is_set}
 use Rattle.thread_local_base.proofs.Word.{add_shifted, same_bit}
 use Rattle.thread_local_shared_buckets.specs.Shared.{name_at, Who, free, claimed, len}
 use Rattle.thread_local_shared_buckets.specs.Claims.{claims_side, IsTold}
+use Rattle.thread_local_shared_buckets.specs.Announcing.{announced}
+use Rattle.thread_local_shared_buckets.proofs.Inside as inside
 use Rattle.thread_local_shared_buckets.proofs.SlotSteps as general
 use Rattle.thread_local_shared_buckets.proofs.Moves as moves
 use Rattle.thread_local_base.proofs.Signs.{signs}
@@ -111,7 +113,8 @@ module _ {M : Type 1} {𝓤 : Ura M} (𝓛 : Logic 𝓤) (R : RattleType) (slot 
           qed 𝓛 (‵ (Stays v) ∷ ‵ (Had v claimed) ∷ ‵ (Holds u) ∷ []) ∵
           show ! (Turned q (λ n. n) (Finds l) n v) (v, claimed) $
           check ! (fits, same_bit n (i % 64) (is_some v) is) $ frame ! $ frame ! $
-          nothing ! $ fpack ! (IsTold l (is_set n (i % 64)) u) (λ _. ftrue) told $ fjoin ! $
+          use0 𝓛 (‵ (general.raised 𝓛 R slot (is_set n (i % 64)) (is_some v))) (inside.unraised 𝓛 R slot (is_set n (i % 64)) (is_some v) is) $
+          move ! (1 ∷ 0 ∷ []) $ nothing ! $ fpack ! (IsTold l (is_set n (i % 64)) u) (λ _. ftrue) told $ fjoin ! $
           fpack ! (Option R.Denot) (λ u'. fsep (fact (IsTold l (is_set n (i % 64)) u')) (Holds u'))
           u $
           done !
@@ -145,16 +148,17 @@ module _ {M : Type 1} {𝓤 : Ura M} (𝓛 : Logic 𝓤) (R : RattleType) (slot 
   pub publishes : (q : Share) (left : Option Gv) (same : Belongs d.sharing d.table) (x : R.Denot)
       → A.inv (fbor t.life I)
       ∗ (A.lft t.life q
-      ∗ (⟦ Which ⟧ ∗ ⟦ moves.Offer 𝓛 R t b s.block_life d.sharing d.table k e η left same x ⟧))
+      ∗ (⟦ Which ⟧ ∗ ⟦ fsep (announced d.word d.bucket) (moves.Offer 𝓛 R t b s.block_life d.sharing d.table k e η left same x) ⟧))
       ⊢ asks 𝓛 chunk_word with_flag always (λ _. fsep (flft t.life q) (moves.Gain 𝓛 R t b s.block_life d.sharing d.table k e η left same x))
   publishes q left same x =
       let Gained : Fml = moves.Gain 𝓛 R t b s.block_life d.sharing d.table k e η left same x in
       let Gains : ℕ → Fml = λ _. Gained in
       let Offered : Fml = moves.Offer 𝓛 R t b s.block_life d.sharing d.table k e η left same x in
-      general.stepped_by 𝓛 R slot q with_flag Gains Offered
+      general.stepped_by 𝓛 R slot q with_flag Gains (fsep (announced d.word d.bucket) Offered)
       (λ n fits v w is.
       let F : Option R.Denot × Who → SProp 𝓤 = Turned q with_flag Gains n v in
-      qed 𝓛 (‵ (Stays v) ∷ ‵ (Had v w) ∷ ‵ Offered ∷ []) ∵
+      qed 𝓛 (‵ (Stays v) ∷ ‵ (Had v w) ∷ ‵ (fsep (announced d.word d.bucket) Offered) ∷ []) ∵ move ! (2 ∷ []) $ fsplit ! $
+      move ! (2 ∷ 3 ∷ 1 ∷ []) $
       use3 𝓛
       (raw
       (upd 𝓤 (guard 𝓤 (v ≡ None) (⟦ Stays (Some x) ⟧ ∗ ⟦ Had (Some x) claimed ⟧ ∗ ⟦ Gained ⟧))))
@@ -162,6 +166,9 @@ module _ {M : Type 1} {𝓤 : Ura M} (𝓛 : Logic 𝓤) (R : RattleType) (slot 
       settle 𝓛 (ex 𝓤 F)
       (given (v ≡ None) (‵ (Stays (Some x)) ⊛ ‵ (Had (Some x) claimed) ⊛ ‵ Gained)) $
       suffices ! _ (upd_i 𝓤 (ex 𝓤 F)) $ learn ! (λ none. split3 ! $
+      -- [what stays; who has it; what is gained; that the bucket is announced]
+      move ! (3 ∷ []) $ rewrite ! 0 (λ (a : Bool). ‵ (general.raised 𝓛 R slot a true)) (sym (is ∙ ap is_some none)) refl $
+      move ! (1 ∷ 2 ∷ 3 ∷ 0 ∷ []) $
       show ! F (Some x, claimed) $
       check ! (
         mod_below (n + flag) (2 ^ 64) (lit< tt),

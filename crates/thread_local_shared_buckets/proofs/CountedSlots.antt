@@ -2,7 +2,7 @@
 -- announced buckets behind them. Those of some ids are met, whose buckets stand.
 use Rattle.std.proofs.Common.{◌≡◌, ◌≤◌, ◌<◌, ◌+◌, ◌-◌, ◌*◌, ◌^◌, ℕ, Bool, true, false, refl, sym, subst, bit_and}
 use Rattle.std.proofs.Common.{◌≢◌, ◌∙◌, add-one, ap, arith, pow_mono, pow_pos, ⊎_elim}
-use Rattle.std.specs.Prelude.{max, nat_lt}
+use Rattle.std.specs.Prelude.{max, nat_lt, ⊤}
 use Rattle.std.specs.Int.{w64, bit_not}
 use Rattle.std.proofs.Math.Nat.{two-pow-succ, le-max_right}
 use Rattle.std.proofs.lemmas.Bool.{ltb-true, cases_lt, ne_eqb, false≢true}
@@ -11,16 +11,20 @@ use Rattle.thread_local_base.specs.Owned.{AreOfFirstBuckets}
 use Rattle.thread_local_base.specs.Place.{id_at, bucket_of}
 use Rattle.thread_local_base.proofs.Word.{is_set-zero}
 use Rattle.thread_local_buckets.specs.Announced.{AreAhead}
-use Rattle.thread_local_buckets.proofs.Passing.{no_rows, Takes, takes, AreAhead-of_none, others_kept}
+use Rattle.thread_local_buckets.proofs.Passing.{Takes, takes, AreAhead-behind, others_kept}
 use Rattle.thread_local_shared_buckets.specs.Shared.{ids_shown}
 use Rattle.thread_local_shared_buckets.proofs.RoomForTokens.{HasRoom, first_slots, same_slots, more_slots}
+
+-- nothing is known of the buckets that aren't in a word
+abbrev Unknown : ℕ → Type 0
+Unknown bucket = ⊤
 
 -- so many slots are counted of the buckets before the first that is left, with those of these ids
 -- there. The buckets of the others of these ids are left
 pub record Counted (In : ℕ → Type 0) (reserved left slots : ℕ) : Type 0 where
   pub from : ℕ
   pub in_table : from ≤ 63
-  pub ahead : AreAhead {V = ℕ} no_rows left from
+  pub ahead : AreAhead Unknown left from
   pub most : slots ≤ 2 ^ from - 1
   pub all : reserved ≤ slots
   pub others : (id : ℕ) → In id → from ≤ bucket_of id → is_set left (bucket_of id) ≡ true
@@ -35,8 +39,8 @@ begins In reserved word first none_past announced =
     record {
       from = first.buckets;
       in_table = first.in_table;
-      ahead = subst (λ (n : ℕ). AreAhead {V = ℕ} no_rows (bit_and word (bit_not w64 n)) first.buckets) (sym all)
-          (AreAhead-of_none word first.buckets first.in_table none_past);
+      ahead = subst (λ (n : ℕ). AreAhead Unknown (bit_and word (bit_not w64 n)) first.buckets) (sym all)
+          (AreAhead-behind Unknown word first.buckets first.in_table record { others = λ _ _ _. tt; none_past = none_past });
       most = omega (arith, all);
       all = omega arith;
       others = λ id told behind.
@@ -66,8 +70,8 @@ all_counted so none id told =
 
 module _ (In : ℕ → Type 0) (in_table : (id : ℕ) → In id → bucket_of id < 63) (reserved left rest slots bucket : ℕ)
     (so : Counted In reserved left slots) (low : IsLowestSet left bucket) (but : IsWordBut rest left bucket false) where
-  taken : Takes {V = ℕ} no_rows rest so.from bucket
-  taken = takes no_rows left rest so.from bucket so.ahead low but
+  taken : Takes Unknown rest so.from bucket
+  taken = takes Unknown left rest so.from bucket so.ahead low but
 
   -- all that is counted lies before the bucket
   few : slots ≤ 2 ^ bucket - 1

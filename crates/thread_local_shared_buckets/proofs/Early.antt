@@ -7,7 +7,7 @@ use base.Logic.{SProp, ex, all, upd, upd_i, id⊢, apply∗}
 use base.Fml.{GName, Share, Fml, ftrue, fsep, fbor}
 use types.Logic.{Logic}
 use types.Kit.{‵, raw, ◌⊛◌, some, given, pick, drop, frame, assume, suffices, ◌$◌, ◌∵◌, !, qed, by, move, keep, split}
-use types.Kit.{split3, rewrite, group, fsplit, fsplit3, fjoin, fjoin3, fpick, fpack, learn, use1, use2, use3, done}
+use types.Kit.{split3, rewrite, group, fsplit, fsplit3, fjoin, fjoin3, fpick, fpack, learn, use0, use1, use2, use3, done}
 use denote.RattleType.{RattleType}
 use denote.RawPtr.{Ptr, block_ptr, null_ptr, block_of, count_of}
 use Rattle.std.specs.Sync.RawAtomic.Pointer.{cell}
@@ -26,7 +26,7 @@ use Rattle.thread_local_shared_buckets.proofs.Inside as inside
 use Rattle.thread_local_shared_buckets.proofs.SlotSteps as steps
 use Rattle.thread_local_shared_buckets.proofs.Moves as moves
 use Rattle.thread_local_base.proofs.Signs.{signs}
-use Rattle.thread_local_shared_buckets.proofs.Inside.{placed}
+use Rattle.thread_local_shared_buckets.proofs.Inside.{SlotAt, placed}
 
 module _ {M : Type 1} {𝓤 : Ura M} (𝓛 : Logic 𝓤) (R : RattleType) where
   open 𝓛 use {H, A}
@@ -170,7 +170,8 @@ module _ {M : Type 1} {𝓤 : Ura M} (𝓛 : Logic 𝓤) (R : RattleType) where
         let bit : ℕ = i % 64 in
         let S : Option R.Denot → Fml = stays R t b s.block_life d.sharing k e η in
         let D : Option R.Denot → Who → Fml = lies_with_slot R t b s.block_life d.sharing d.table k e η in
-        let Flags : ℕ → Fml = inside.Flags 𝓛 R (placed d t wb wo s i k e b l at_k refl refl) in
+        let at_slot : SlotAt R = placed d t wb wo s i k e b l at_k refl refl in
+        let Flags : ℕ → Fml = inside.Flags 𝓛 R at_slot in
         let Slot : Bool → Fml = inside.Slot 𝓛 R (placed d t wb wo s i k e b l at_k refl refl) in
         let Back : (n : ℕ) → Next n bit → SProp 𝓤 = inside.Back 𝓛 R (placed d t wb wo s i k e b l at_k refl refl) ⟦ I ⟧ in
         qed 𝓛 (some (λ (n : ℕ).
@@ -185,7 +186,8 @@ module _ {M : Type 1} {𝓤 : Ura M} (𝓛 : Logic 𝓤) (R : RattleType) where
         (moves.early_gives_up 𝓛 R t b s.block_life d.sharing d.table k e η z.0 z.1) $
         learn ! (λ none. split3 ! $
         -- [what stands; who has it; the right; the loan; the word; the way back]
-        move ! (4 ∷ 3 ∷ 0 ∷ 1 ∷ 5 ∷ []) $ group ! 5 $
+        use0 𝓛 (‵ (inside.raised 𝓛 R at_slot (is_set n bit) (is_some z.0))) (inside.unraised 𝓛 R at_slot (is_set n bit) (is_some z.0) is) $
+        move ! (5 ∷ 4 ∷ 1 ∷ 2 ∷ 6 ∷ 0 ∷ []) $ group ! 6 $
         use1 𝓛 (‵ I) (steps.again 𝓛 R (placed d t wb wo s i k e b l at_k refl refl) n n (z.0, free) fits
         (same_bit n bit (is_some z.0) is)) $
         done !)))))

@@ -1,15 +1,15 @@
 -- What the buckets of a table at rest show, by the rows of their slots: of the ids that were held at
 -- once, and that buckets are announced. Assumes `Logic`.
 use Rattle.std.proofs.Common.{◌≡◌, ◌∙◌, ℕ, zero, suc, ◌+◌, ◌^◌, ◌<◌, ◌≤◌, ◌==◌, Bool, true, false, List, [], ◌∷◌, length, refl}
-use Rattle.std.proofs.Common.{sym, ap, subst, arith, Option, Some, if◌then◌else◌, eqb, pow_pos}
+use Rattle.std.proofs.Common.{sym, ap, subst, arith, Option, None, Some, if◌then◌else◌, eqb, pow_pos}
 use Rattle.std.specs.Prelude.{slice_index_or, nat_lt}
-use Rattle.std.proofs.lemmas.Bool.{eqb-true, eqb-false, eq-eqb, lt-ltb, ltb-true}
+use Rattle.std.proofs.lemmas.Bool.{eqb-true, eqb-false, eq-eqb, lt-ltb, ltb-true, false≢true}
 use seplogic.Ra.Ura.{Ura}
 use base.Fml.{Fml, ftrue, fsep}
-use base.Logic.{ent, emp, guard, id⊢}
+use base.Logic.{ent, emp, guard}
 use types.Logic.{Logic, sem}
 use types.Kit.{‵, ◌⊛◌, given, learn, check, ◌$◌, ◌∵◌, !, qed, move, keep, use0, use1, use2, use3, split3, fsplit, fsplit3}
-use types.Kit.{fjoin, fjoin3, rewrite, drop, done}
+use types.Kit.{fjoin, fjoin3, fpick, fpack, rewrite, drop, done}
 use denote.RattleType.{RattleType}
 use denote.Steps.{nothing}
 use Rattle.thread_local_base.specs.Bits.{is_set}
@@ -20,7 +20,7 @@ use Rattle.thread_local_ids.specs.Rights.{reached_owns}
 use Rattle.thread_local_ids.specs.Told.{all_told_or_untold, whole_row, rows_telling}
 use Rattle.thread_local_ids.specs.Sharings.{later_of}
 use Rattle.thread_local_ids.proofs.ReachedElements.{reached_none, reached_less}
-use Rattle.thread_local_shared_buckets.specs.Announcing.{Announcing, announced, lies_with_word}
+use Rattle.thread_local_shared_buckets.specs.Announcing.{Announcing, announced, announced_unless, announced_or, lies_with_word}
 use Rattle.thread_local_shared_buckets.proofs.AnnouncingLaws.{shows, begun_announced}
 use Rattle.thread_local_shared_buckets.specs.Shared.{BucketView, ids_shown, shown_by, grown}
 use Rattle.thread_local_shared_buckets.specs.TableView.{TableView, bucket_view}
@@ -96,7 +96,7 @@ only_reserved_stand owned reserved same kept =
 -- ---- what a row shows
 -- no word of announced buckets, for what doesn't depend on it
 abbrev no_word : Announcing
-no_word = record { name = 0; begun = 0 }
+no_word = record { name = 0; begun = 0; made = 0 }
 
 abbrev unworded : TableView → ℕ → BucketView
 unworded s b = bucket_view s no_word b
@@ -121,15 +121,23 @@ shown_reached d id i ids at held =
 abbrev ByNumber : ℕ → ℕ → (ℕ → ℕ → Type 0) → Type 0
 ByNumber n b P = (i j : ℕ) → j ≡ i + b → i < n → P i j
 
--- each of these buckets that stands has its bit set in this word
-abbrev pub AllSet : {V : Type 0} → ℕ → ℕ → List (List (Option V)) → Type 0
-AllSet n b rows = ByNumber (length rows) b (λ i j. 0 < length (slice_index_or rows i []) → is_set n j ≡ true)
+-- no slot of the row has a value
+abbrev pub IsBare : {V : Type 0} → List (Option V) → Type 0
+IsBare cs = (i : ℕ) → slice_index_or cs i None ≡ None
 
-set_from : {V : Type 0} (n b : ℕ) (cs : List (Option V)) (rows : List (List (Option V)))
-    → (0 < length cs → is_set n b ≡ true) → AllSet n (suc b) rows → AllSet n b (cs ∷ rows)
-set_from n b cs rows first others zero j at near =
-    λ some. let is : b ≡ j = omega (arith, at) in subst (λ k. is_set n k ≡ true) is (first some)
-set_from n b cs rows first others (suc i) j at near = others i j (omega (arith, at)) (omega (arith, near))
+-- where a bucket stands whose bit isn't set in the first word, an owner made it, by the second, and it has no value
+abbrev pub IsSetFor : {V : Type 0} → ℕ → ℕ → ℕ → List (Option V) → Type 0
+IsSetFor n made bucket cs = 0 < length cs → is_set n bucket ≡ false → (is_set made bucket ≡ true) × IsBare cs
+
+-- the same of the buckets from this one on
+abbrev pub AllSet : {V : Type 0} → ℕ → ℕ → ℕ → List (List (Option V)) → Type 0
+AllSet n made b rows = ByNumber (length rows) b (λ i j. IsSetFor n made j (slice_index_or rows i []))
+
+set_from : {V : Type 0} (n made b : ℕ) (cs : List (Option V)) (rows : List (List (Option V)))
+    → IsSetFor n made b cs → AllSet n made (suc b) rows → AllSet n made b (cs ∷ rows)
+set_from n made b cs rows first others zero j at near =
+    let is : b ≡ j = omega (arith, at) in subst (λ k. IsSetFor n made k cs) is first
+set_from n made b cs rows first others (suc i) j at near = others i j (omega (arith, at)) (omega (arith, near))
 
 module _ (R : RattleType) where
   abbrev Slots : Type 0
@@ -144,10 +152,10 @@ module _ (R : RattleType) where
   rows_grown s b [] = ftrue
   rows_grown s b (cs ∷ rows) = fsep (row_grown (unworded s b) cs) (rows_grown s (suc b) rows)
 
-  -- a bucket is announced if it stands, by its row
+  -- a bucket that stands is announced, by its row, or an owner made it and it has no value
   abbrev pub row_announced : Announcing → ℕ → Slots → Fml
   row_announced m b [] = ftrue
-  row_announced m b (c ∷ cs) = announced m b
+  row_announced m b (c ∷ cs) = announced_or m b (IsBare (c ∷ cs))
 
   -- the same of the rows from this bucket on
   abbrev pub rows_announced : Announcing → ℕ → List Slots → Fml
@@ -172,9 +180,10 @@ module _ {M : Type 1} {𝓤 : Ura M} (𝓛 : Logic 𝓤) (R : RattleType) where
   infixr 35 ◌∗◌
   -- a block that stands shows what its bucket's row does
   pub whole_grown : (d : BucketView) (cs : Slots R) → 0 < length cs
-      → ⟦ grown d ⟧ ⊢ ⟦ fsep (row_grown R d cs) (row_announced R d.word d.bucket cs) ⟧
+      → ⟦ grown d ⟧ ∗ ⟦ announced_or d.word d.bucket (IsBare cs) ⟧ ⊢ ⟦ fsep (row_grown R d cs) (row_announced R d.word d.bucket cs) ⟧
   whole_grown d [] some = absurd (omega arith)
-  whole_grown d (c ∷ cs) some = id⊢ 𝓤 _
+  whole_grown d (c ∷ cs) some =
+      qed 𝓛 (‵ (grown d) ∷ ‵ (announced_or d.word d.bucket (IsBare (c ∷ cs))) ∷ []) ∵ fjoin ! $ done !
 
   pub known_apart : (s : TableView) (m : Announcing) (b : ℕ) (rows : List (Slots R))
       → ⟦ rows_known R s m b rows ⟧
@@ -200,14 +209,21 @@ module _ {M : Type 1} {𝓤 : Ura M} (𝓛 : Logic 𝓤) (R : RattleType) where
       move ! (4 ∷ 2 ∷ 0 ∷ []) $ fjoin3 ! $ move ! (3 ∷ 2 ∷ 1 ∷ []) $
       use3 𝓛 (‵ (rows_known R s m (suc b) rows)) (known_together s m (suc b) rows) $ move ! (1 ∷ 0 ∷ []) $ fjoin ! $ done !
 
-  -- a bucket that stands is announced where its bit was set when the sharing began
-  row_set : (m : Announcing) (b : ℕ) (cs : Slots R) → (0 < length cs → is_set m.begun b ≡ true)
-      → emp 𝓤 ⊢ ⟦ row_announced R m b cs ⟧
-  row_set m b [] set = qed 𝓛 [] ∵ nothing ! $ done !
-  row_set m b (c ∷ cs) set =
-      qed 𝓛 [] ∵ nothing ! $ use1 𝓛 (‵ (announced m b)) (begun_announced 𝓛 m b (set (omega arith))) $ done !
+  -- a bucket is announced where its bit was set when the sharing began
+  by_begun : (m : Announcing) (b : ℕ) (P : Type 0) (t : Bool) → is_set m.begun b ≡ t
+      → (is_set m.begun b ≡ false → (is_set m.made b ≡ true) × P)
+      → emp 𝓤 ⊢ ⟦ announced_or m b P ⟧
+  by_begun m b P true is clear =
+      qed 𝓛 [] ∵ nothing ! $ use1 𝓛 (‵ (announced m b)) (begun_announced 𝓛 m b is) $ fpack ! Bool (announced_unless m b P) true $ done !
+  by_begun m b P false is clear =
+      qed 𝓛 [] ∵ nothing ! $ fpack ! ((is_set m.made b ≡ true) × P) (λ _. ftrue) (clear is) $
+      fpack ! Bool (announced_unless m b P) false $ done !
 
-  pub rows_set : (m : Announcing) (b : ℕ) (rows : List (Slots R)) → AllSet m.begun b rows
+  row_set : (m : Announcing) (b : ℕ) (cs : Slots R) → IsSetFor m.begun m.made b cs → emp 𝓤 ⊢ ⟦ row_announced R m b cs ⟧
+  row_set m b [] set = qed 𝓛 [] ∵ nothing ! $ done !
+  row_set m b (c ∷ cs) set = by_begun m b (IsBare (c ∷ cs)) (is_set m.begun b) refl (set (omega arith))
+
+  pub rows_set : (m : Announcing) (b : ℕ) (rows : List (Slots R)) → AllSet m.begun m.made b rows
       → emp 𝓤 ⊢ ⟦ rows_announced R m b rows ⟧
   rows_set m b [] set = qed 𝓛 [] ∵ nothing ! $ done !
   rows_set m b (cs ∷ rows) set =
@@ -216,30 +232,42 @@ module _ {M : Type 1} {𝓤 : Ura M} (𝓛 : Logic 𝓤) (R : RattleType) where
       (rows_set m (suc b) rows (λ i j e near. set (suc i) j (omega (arith, e)) (omega (arith, near)))) $
       use0 𝓛 (‵ (row_announced R m b cs)) (row_set m b cs (set 0 b (omega arith) (omega arith))) $ fjoin ! $ done !
 
-  -- the bits of the buckets that stand are set
+  -- the bits of the buckets that are announced are set
   row_shows : (m : Announcing) (n b : ℕ) (cs : Slots R) → b < 63
       → ⟦ lies_with_word m n ⟧ ∗ ⟦ row_announced R m b cs ⟧
-      ⊢ guard 𝓤 (0 < length cs → is_set n b ≡ true) ⟦ lies_with_word m n ⟧
+      ⊢ guard 𝓤 (IsSetFor n m.made b cs) ⟦ lies_with_word m n ⟧
   row_shows m n b [] low =
       qed 𝓛 (‵ (lies_with_word m n) ∷ ‵ ftrue ∷ []) ∵ check ! (λ some. absurd (omega arith)) $ keep ! (0 ∷ []) $ done !
-  row_shows m n b (c ∷ cs) low =
-      qed 𝓛 (‵ (lies_with_word m n) ∷ ‵ (announced m b) ∷ []) ∵
-      use2 𝓛 (given (is_set n b ≡ true) (‵ (lies_with_word m n))) (shows 𝓛 m n b low) $ learn ! (λ is.
-      check ! (λ some. is) $ done !)
+  row_shows m n b (c ∷ cs) low = by_case
+    where
+      by : (t : Bool) → ⟦ lies_with_word m n ⟧ ∗ ⟦ announced_unless m b (IsBare (c ∷ cs)) t ⟧
+          ⊢ guard 𝓤 (IsSetFor n m.made b (c ∷ cs)) ⟦ lies_with_word m n ⟧
+      by true =
+          qed 𝓛 (‵ (lies_with_word m n) ∷ ‵ (announced m b) ∷ []) ∵
+          use2 𝓛 (given (is_set n b ≡ true) (‵ (lies_with_word m n))) (shows 𝓛 m n b low) $ learn ! (λ is.
+          check ! (λ some out. absurd (false≢true (sym out ∙ is))) $ done !)
+      by false =
+          qed 𝓛 (‵ (lies_with_word m n) ∷ ‵ (announced_unless m b (IsBare (c ∷ cs)) false) ∷ []) ∵ move ! (1 ∷ []) $ fpick ! (λ so.
+          drop ! $ check ! (λ some out. so) $ done !)
+
+      by_case : ⟦ lies_with_word m n ⟧ ∗ ⟦ row_announced R m b (c ∷ cs) ⟧ ⊢ guard 𝓤 (IsSetFor n m.made b (c ∷ cs)) ⟦ lies_with_word m n ⟧
+      by_case =
+          qed 𝓛 (‵ (lies_with_word m n) ∷ ‵ (row_announced R m b (c ∷ cs)) ∷ []) ∵ move ! (1 ∷ []) $ fpick ! (λ t.
+          move ! (1 ∷ 0 ∷ []) $ use2 𝓛 (given (IsSetFor n m.made b (c ∷ cs)) (‵ (lies_with_word m n))) (by t) $ learn ! (λ set.
+          check ! set $ done !))
 
   pub rows_show : (m : Announcing) (n b : ℕ) (rows : List (Slots R)) → length rows + b ≤ 63
       → ⟦ lies_with_word m n ⟧ ∗ ⟦ rows_announced R m b rows ⟧
-      ⊢ guard 𝓤 (AllSet n b rows) ⟦ lies_with_word m n ⟧
+      ⊢ guard 𝓤 (AllSet n m.made b rows) ⟦ lies_with_word m n ⟧
   rows_show m n b [] few =
       qed 𝓛 (‵ (lies_with_word m n) ∷ ‵ ftrue ∷ []) ∵ check ! (λ i j e near. absurd (omega (arith, near))) $ keep ! (0 ∷ []) $ done !
   rows_show m n b (cs ∷ rows) few =
-      let Set : Type 0 = 0 < length cs → is_set n b ≡ true in
       qed 𝓛 (‵ (lies_with_word m n) ∷ ‵ (rows_announced R m b (cs ∷ rows)) ∷ []) ∵ move ! (1 ∷ []) $ fsplit ! $
       -- [the first is announced; the others; what lies with the word]
       move ! (2 ∷ 0 ∷ []) $
-      use2 𝓛 (given Set (‵ (lies_with_word m n))) (row_shows m n b cs (omega (arith, few))) $ learn ! (λ first.
-      use2 𝓛 (given (AllSet n (suc b) rows) (‵ (lies_with_word m n))) (rows_show m n (suc b) rows (omega (arith, few))) $
-      learn ! (λ others. check ! (set_from n b cs rows first others) $ done !))
+      use2 𝓛 (given (IsSetFor n m.made b cs) (‵ (lies_with_word m n))) (row_shows m n b cs (omega (arith, few))) $ learn ! (λ first.
+      use2 𝓛 (given (AllSet n m.made (suc b) rows) (‵ (lies_with_word m n))) (rows_show m n (suc b) rows (omega (arith, few))) $
+      learn ! (λ others. check ! (set_from n m.made b cs rows first others) $ done !))
 
   -- rows show nothing where no bucket stands that would
   pub none_grown : (s : TableView) (b : ℕ) (rows : List (Slots R))

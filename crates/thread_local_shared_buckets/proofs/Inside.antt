@@ -1,13 +1,13 @@
 -- Takes one slot of a standing block, with the word that has its flag, out of the bucket's
 -- invariant, and puts both back. Assumes `Logic`.
-use Rattle.std.proofs.Common.{◌≡◌, ◌≢◌, ℕ, zero, suc, ◌+◌, ◌/◌, ◌%◌, ◌^◌, ◌<◌, Bool, List, [], ◌∷◌, length, length-set}
+use Rattle.std.proofs.Common.{◌≡◌, ◌≢◌, ℕ, zero, suc, ◌+◌, ◌/◌, ◌%◌, ◌^◌, ◌<◌, Bool, true, false, List, [], ◌∷◌, length, length-set}
 use Rattle.std.proofs.Common.{set, get_or, refl, sym, ap, ◌∙◌, subst, arith, ⊎_elim}
-use Rattle.std.proofs.lemmas.Bool.{cases_eq, ne_eqb, eq-eqb}
+use Rattle.std.proofs.lemmas.Bool.{cases_eq, ne_eqb, eq-eqb, false≢true}
 use Rattle.std.proofs.lemmas.List.{get_or-set_same, get_or-set_other}
 use Rattle.std.specs.Prelude.{slice_index}
 use seplogic.Ra.Ura.{Ura}
 use mathlib.Core.List.{not-mem-nil}
-use base.Logic.{SProp, upd, ex, all, all_e, guard, upd_i, apply∗, id⊢}
+use base.Logic.{SProp, emp, upd, ex, all, all_e, guard, upd_i, apply∗, id⊢}
 use base.Stored.{Gv, gnil, gcons}
 use base.Fml.{Lft, GName, Share, Fml, ftrue, fsep, fex, fauth, fres, fbor, flft, finv, fnamed}
 use types.Logic.{Logic}
@@ -26,7 +26,8 @@ use Rattle.thread_local_buckets.proofs.Each.{Put, each_at, each_turned}
 use Rattle.thread_local_buckets.proofs.Flags.{in_chunks}
 use Rattle.thread_local_shared_buckets.specs.Shared.{name_at, BucketView, Turn, StandingBlock, standing_coded}
 use Rattle.thread_local_shared_buckets.specs.Shared.{block_code, shared_slot, numbered_slot, AreFlagWords, slots_under}
-use Rattle.thread_local_shared_buckets.specs.Shared.{len, first, Sized, settled, standing, beside_pointer}
+use Rattle.thread_local_shared_buckets.specs.Announcing.{announced, announced_unless}
+use Rattle.thread_local_shared_buckets.specs.Shared.{len, first, Sized, settled, standing, beside_pointer, announced_where, NoneSet}
 use Rattle.thread_local_shared_buckets.specs.Shared.{bucket_invariant}
 use Rattle.thread_local_base.proofs.Signs.{signs}
 
@@ -145,7 +146,7 @@ module _ {M : Type 1} {𝓤 : Ura M} (𝓛 : Logic 𝓤) where
     abbrev pub Under : List ℕ → Fml
     Under ns =
         slots_under R (len R d) b start (λ ms.
-        each (numbered_slot R t b s.block_life d.sharing d.table (first R d) start ms) s.names 0)
+        fsep (announced_where d ms) (each (numbered_slot R t b s.block_life d.sharing d.table (first R d) start ms) s.names 0))
         ns
 
     module _ (Out : SProp 𝓤 → SProp 𝓤) (lifted : (P Q X : SProp 𝓤) → P ∗ X ⊢ Q → Out P ∗ X ⊢ Out Q)
@@ -160,8 +161,7 @@ module _ {M : Type 1} {𝓤 : Ura M} (𝓛 : Logic 𝓤) where
           let S : Fml = settled R d t s in
           let Body : ℕ × ℕ → Fml = λ z.
           fsep (fex (List ℕ) (slots_under R (len R d) z.0 z.1 (λ ns.
-          each (numbered_slot R t z.0 s.block_life d.sharing d.table (first R d) z.1 ns)
-          s.names 0)))
+          fsep (announced_where d ns) (each (numbered_slot R t z.0 s.block_life d.sharing d.table (first R d) z.1 ns) s.names 0))))
           (back R z.0 z.1 (len R d)) in
           qed 𝓛 (‵ Q ∷ []) ∵ fsplit ! $ fpick ! (λ h.
           let same : ◌≡◌ {A = ℕ × ℕ} (block_of p, count_of p) (b, start) =
@@ -222,9 +222,20 @@ module _ {M : Type 1} {𝓤 : Ura M} (𝓛 : Logic 𝓤) where
     abbrev pub Flags : ℕ → Fml
     Flags n = word b (word_offset R (len R d) (count_of s.at) (i / 64)) n
 
+    -- what whoever sets a flag shows, by the flag before and after: that the bucket is announced
+    abbrev pub raised : Bool → Bool → Fml
+    raised false true = announced d.word d.bucket
+    raised true after = ftrue
+    raised false false = ftrue
+
+    pub unraised : (before after : Bool) → before ≡ after → emp 𝓤 ⊢ ⟦ raised before after ⟧
+    unraised true after same = qed 𝓛 [] ∵ nothing ! $ done !
+    unraised false false same = qed 𝓛 [] ∵ nothing ! $ done !
+    unraised false true same = cc
+
     -- the way back: the word is whole again, and only this slot's bit of it may have changed
     abbrev pub Back : SProp 𝓤 → (n : ℕ) → Next n (i % 64) → SProp 𝓤
-    Back P n y = (⟦ Flags y.word ⟧ ∗ ⟦ Slot y.set ⟧) -∗ P
+    Back P n y = (⟦ Flags y.word ⟧ ∗ ⟦ Slot y.set ⟧ ∗ ⟦ raised (is_set n (i % 64)) y.set ⟧) -∗ P
 
     -- the word and the slot, taken out of what holds them
     abbrev pub Out : SProp 𝓤 → ℕ → SProp 𝓤
@@ -260,6 +271,26 @@ module _ {M : Type 1} {𝓤 : Ura M} (𝓛 : Logic 𝓤) where
         (value_offset R o m) η ⟧)
         (sym (turned_there R (len R d) i ns inside y m apart)) (id⊢ 𝓤 _)
 
+    -- the flags show the same once one of them has turned
+    still_shown : (ns ms : List ℕ) (a before after : Bool) → is_set_in ns i ≡ before → is_set_in ms i ≡ after
+        → ((j : ℕ) → j ≢ i → is_set_in ms j ≡ is_set_in ns j)
+        → ⟦ announced_unless d.word d.bucket (NoneSet ns) a ⟧ ∗ ⟦ raised before after ⟧ ⊢ ⟦ announced_where d ms ⟧
+    still_shown ns ms true before after was is others =
+        qed 𝓛 (‵ (announced d.word d.bucket) ∷ ‵ (raised before after) ∷ []) ∵ keep ! (0 ∷ []) $
+        fpack ! Bool (announced_unless d.word d.bucket (NoneSet ms)) true $ done !
+    still_shown ns ms false true after was is others =
+        qed 𝓛 (‵ (announced_unless d.word d.bucket (NoneSet ns) false) ∷ ‵ (raised true after) ∷ []) ∵ fpick ! (λ so.
+        absurd (false≢true (sym (so.1 i) ∙ was)))
+    still_shown ns ms false false true was is others =
+        qed 𝓛 (‵ (announced_unless d.word d.bucket (NoneSet ns) false) ∷ ‵ (announced d.word d.bucket) ∷ []) ∵ keep ! (1 ∷ []) $
+        fpack ! Bool (announced_unless d.word d.bucket (NoneSet ms)) true $ done !
+    still_shown ns ms false false false was is others =
+        qed 𝓛 (‵ (announced_unless d.word d.bucket (NoneSet ns) false) ∷ ‵ ftrue ∷ []) ∵ fpick ! (λ so. drop ! $
+        let none : NoneSet ms = λ j. ⊎_elim (λ (same : j ≡ i). ap (is_set_in ms) same ∙ is) (λ (apart : j ≢ i). others j apart ∙ so.1 j)
+        (cases_eq j i) in
+        fpack ! ((is_set d.word.made d.bucket ≡ true) × NoneSet ms) (λ _. ftrue) (so.0, none) $
+        fpack ! Bool (announced_unless d.word d.bucket (NoneSet ms)) false $ done !)
+
     in_row : (ns : List ℕ) → length s.names ≡ len R d → ⟦ Slots ns ⟧ ⊢ ex 𝓤 (Out ⟦ fex (List ℕ) Slots ⟧)
     in_row ns long =
         let c : ℕ = i / 64 in
@@ -267,7 +298,7 @@ module _ {M : Type 1} {𝓤 : Ura M} (𝓛 : Logic 𝓤) where
         let Fs : ℕ → ℕ → Fml = flags_at R (len R d) b o in
         let IsOpened : ℕ → SProp 𝓤 = Out ⟦ fex (List ℕ) Slots ⟧ in
         let name : ℕ = get_or s.names i 0 in
-        qed 𝓛 (‵ (Slots ns) ∷ []) ∵ fsplit3 ! $ fpick ! (λ are. drop ! $
+        qed 𝓛 (‵ (Slots ns) ∷ []) ∵ fsplit3 ! $ fpick ! (λ are. drop ! $ move ! (1 ∷ []) $ fsplit ! $ move ! (2 ∷ 1 ∷ []) $
         let inside : c < length ns =
         subst (λ (m : ℕ). c < m) (sym are.0)
         (in_chunks (len R d) i (subst (λ (m : ℕ). i < m) long low)) in
@@ -280,22 +311,29 @@ module _ {M : Type 1} {𝓤 : Ura M} (𝓛 : Logic 𝓤) where
         (λ y. Numbered (T y)) s.names 0 i i 0 (omega arith) low
         (λ y η m apart. apart_same ns inside y η m apart)) $ split ! $
         rewrite ! 0 (λ (G : Fml). ‵ G) (numbered_is ns) refl $
-        -- [the slot; its way back; the word; its way back]
+        -- [the slot; its way back; the word; its way back; what the flags show]
         show ! IsOpened n $ check ! (are.1 c) $ move ! (2 ∷ 0 ∷ []) $ frame ! $ frame ! $
         for_each ! (Back ⟦ fex (List ℕ) Slots ⟧ n) (λ y.
         let W : SProp 𝓤 = ⟦ each Fs (T y) 0 ⟧ in
-        assume ! (‵ (Flags y.word) ⊛ ‵ (Slot y.set)) $ split ! $ move ! (3 ∷ []) $
+        let set : Bool = is_set_in ns i in
+        assume ! (‵ (Flags y.word) ⊛ ‵ (Slot y.set) ⊛ ‵ (raised set y.set)) $ split3 ! $
+        -- [the word; the slot; what raises the flag; the slot's way back; the word's; what the flags show]
+        move ! (5 ∷ []) $ fpick ! (λ a. move ! (0 ∷ 3 ∷ []) $
+        use2 𝓛 (‵ (announced_where d (T y)))
+        (still_shown ns (T y) a set y.set refl (turned_here R (len R d) i ns inside y) (turned_there R (len R d) i ns inside y)) $
+        -- [what the flags show; the word; the slot; the slot's way back; the word's]
+        move ! (4 ∷ 1 ∷ 2 ∷ 3 ∷ []) $
         use1 𝓛 (raw (Put 𝓛 Fs ns 0 c c y.word)) (all_e 𝓤 (Put 𝓛 Fs ns 0 c c) y.word) $
         move ! (1 ∷ 0 ∷ []) $
         use2 𝓛 (‵ (each Fs (T y) 0)) (apply∗ 𝓤 ⟦ Flags y.word ⟧ W) $ move ! (2 ∷ []) $
         use1 𝓛 (raw (Later y)) (all_e 𝓤 Later y) $ move ! (2 ∷ []) $
         rewrite ! 0 (λ (u : Bool). ‵ (Slot u)) (sym (turned_here R (len R d) i ns inside y)) refl $
         rewrite ! 0 (λ (G : Fml). ‵ G) (sym (numbered_is (T y))) refl $
-        use2 𝓛 (‵ (Row (T y))) (apply∗ 𝓤 ⟦ Numbered (T y) name i ⟧ ⟦ Row (T y) ⟧) $ move ! (1 ∷ 0 ∷ []) $
+        use2 𝓛 (‵ (Row (T y))) (apply∗ 𝓤 ⟦ Numbered (T y) name i ⟧ ⟦ Row (T y) ⟧) $ move ! (2 ∷ 0 ∷ []) $ fjoin ! $ move ! (1 ∷ 0 ∷ []) $
         nothing ! $
         fpack ! (AreFlagWords R (len R d) (T y)) (λ _. ftrue)
         (turned_flags R (len R d) i ns inside y (subst (λ (m : ℕ). i < m) long low) are) $
-        fjoin3 ! $ fpack ! (List ℕ) Slots (T y) $ done !))
+        fjoin3 ! $ fpack ! (List ℕ) Slots (T y) $ done !)))
 
     -- the same, taken out of more than what holds them
     pub lifted : (P Q X : SProp 𝓤) → P ∗ X ⊢ Q → ex 𝓤 (Out P) ∗ X ⊢ ex 𝓤 (Out Q)
@@ -306,8 +344,8 @@ module _ {M : Type 1} {𝓤 : Ura M} (𝓛 : Logic 𝓤) where
         ∷ raw X ∷ []) ∵
         pick ! (λ n. learn ! (λ fits. split3 ! $
         show ! (Out Q) n $ check ! fits $ frame ! $ frame ! $ for_each ! (Back Q n) (λ y.
-        let T : SProp 𝓤 = ⟦ Flags y.word ⟧ ∗ ⟦ Slot y.set ⟧ in
-        assume ! (‵ (Flags y.word) ⊛ ‵ (Slot y.set)) $
+        let T : SProp 𝓤 = ⟦ Flags y.word ⟧ ∗ ⟦ Slot y.set ⟧ ∗ ⟦ raised (is_set n (i % 64)) y.set ⟧ in
+        assume ! (‵ (Flags y.word) ⊛ ‵ (Slot y.set) ⊛ ‵ (raised (is_set n (i % 64)) y.set)) $
         move ! (1 ∷ []) $ use1 𝓛 (raw (Back P n y)) (all_e 𝓤 (Back P n) y) $ move ! (1 ∷ 0 ∷ []) $
         use2 𝓛 (raw P) (apply∗ 𝓤 T P) $ by ! law)))
 

@@ -25,8 +25,6 @@ use Rattle.thread_local_ids.proofs.ReachedElements.{reached_twice}
 use Rattle.thread_local_ids.specs.TokenViews.{TokenView}
 use Rattle.thread_local_ids.specs.TokenLists.{AllOf, tell_each}
 use Rattle.thread_local_ids.proofs.TokenListLaws.{slot_agrees}
-use Rattle.thread_local_shared_buckets.specs.Announcing.{announced}
-use Rattle.thread_local_shared_buckets.proofs.AnnouncingLaws.{announced_twice}
 use Rattle.thread_local_shared_buckets.proofs.ChunkLooks.{all_from}
 use Rattle.thread_local_shared_buckets.specs.Shared.{BucketView, Turn, StandingBlock, block_code, Sized, len, first, shown_by, grown}
 use Rattle.thread_local_shared_buckets.specs.Shared.{all_unborn, standing, beside_pointer, bucket_invariant, loaded}
@@ -106,18 +104,6 @@ module _ {M : Type 1} {𝓤 : Ura M} (𝓛 : Logic 𝓤) (R : RattleType) (d : B
   pub forgets : ent 𝓤 (sem 𝓛 (tell_each R tokens)) (sem 𝓛 ftrue)
   forgets = qed 𝓛 (‵ (tell_each R tokens) ∷ []) ∵ drop ! $ nothing ! $ done !
 
--- what a block shows can be had twice
-pub grown_twice : {M : Type 1} {𝓤 : Ura M} (𝓛 : Logic 𝓤) (d : BucketView)
-    → ent 𝓤 (sem 𝓛 (grown d)) (sep 𝓤 (sem 𝓛 (grown d)) (sem 𝓛 (grown d)))
-grown_twice 𝓛 d =
-    let Held : Fml = reached_owns d.table (shown_by d) in
-    let Known : Fml = announced d.word d.bucket in
-    qed 𝓛 (‵ (grown d) ∷ []) ∵ fsplit ! $
-    use1 𝓛 (‵ Held ⊛ ‵ Held) (reached_twice 𝓛 d.table (shown_by d)) $ split ! $ move ! (2 ∷ []) $
-    use1 𝓛 (‵ Known ⊛ ‵ Known) (announced_twice 𝓛 d.word d.bucket) $ split ! $
-    -- [that it is announced, twice; how many ids were held, twice]
-    move ! (2 ∷ 0 ∷ []) $ fjoin ! $ move ! (2 ∷ 1 ∷ []) $ fjoin ! $ done !
-
 module _ {M : Type 1} {𝓤 : Ura M} (𝓛 : Logic 𝓤) (R : RattleType) (d : BucketView) (t : Turn) where
   open 𝓛 use {H, A}
   open signs 𝓛 use {⟦◌⟧, ◌⊢◌, ◌∗◌}
@@ -142,7 +128,7 @@ module _ {M : Type 1} {𝓤 : Ura M} (𝓛 : Logic 𝓤) (R : RattleType) (d : B
       let ν : Lft = z.0.block_life ∷ [] in
       qed 𝓛 (‵ (standing R d t p z) ∷ []) ∵ fsplit ! $ fpick ! (λ so. drop ! $ fsplit3 ! $
       fsplit3 ! $ move ! (2 ∷ []) $
-      use1 𝓛 (‵ (grown d) ⊛ ‵ (grown d)) (grown_twice 𝓛 d) $ split ! $
+      use1 𝓛 (‵ (grown d) ⊛ ‵ (grown d)) (reached_twice 𝓛 d.table (shown_by d)) $ split ! $
       move ! (3 ∷ []) $ res_dup ! $ move ! (5 ∷ []) $
       use1 𝓛 (‵ (flft ν (left z.1)) ⊛ ‵ (flft ν (right z.1))) (𝓛.lfts.lft_split ν z.1) $ split ! $
       -- [the left half; the right; which, twice; what it shows, twice; its authority; the slots
@@ -158,10 +144,10 @@ module _ {M : Type 1} {𝓤 : Ura M} (𝓛 : Logic 𝓤) (R : RattleType) (d : B
   pub shows_held : (p : Ptr) (z : StandingBlock × Share) → ⟦ part p z ⟧ ⊢ ⟦ part p z ⟧ ∗ ⟦ reached_owns d.table (shown_by d) ⟧
   shows_held p z =
       let Held : Fml = reached_owns d.table (shown_by d) in
-      qed 𝓛 (‵ (part p z) ∷ []) ∵ fsplit3 ! $ move ! (2 ∷ []) $ fsplit ! $ move ! (1 ∷ []) $ fsplit ! $
+      qed 𝓛 (‵ (part p z) ∷ []) ∵ fsplit3 ! $ move ! (2 ∷ []) $ fsplit ! $ move ! (1 ∷ []) $
       use1 𝓛 (‵ Held ⊛ ‵ Held) (reached_twice 𝓛 d.table (shown_by d)) $ split ! $
-      -- [how many, twice; that it is announced; the token; the fact; which block]
-      move ! (1 ∷ 2 ∷ []) $ fjoin ! $ move ! (2 ∷ 0 ∷ []) $ fjoin ! $ move ! (3 ∷ 0 ∷ []) $ fjoin ! $ move ! (2 ∷ 0 ∷ []) $ fjoin ! $ done !
+      -- [how many, twice; the token; the fact; which block]
+      move ! (2 ∷ 0 ∷ []) $ fjoin ! $ move ! (3 ∷ 0 ∷ []) $ fjoin ! $ move ! (2 ∷ 0 ∷ []) $ fjoin ! $ done !
 
   -- giving the part up for good makes the block last as long as the reader's lifetime
   pub reaches : (κ : Lft) (p : Ptr) (z : StandingBlock × Share)

@@ -43,7 +43,8 @@ use Rattle.thread_local_shared_buckets.specs.Shared.{BucketView, Turn, StandingB
 use Rattle.thread_local_shared_buckets.specs.Shared.{value_code, pinned, opened, tracked_value, age, holds, lies_with_slot, shared_slot_as}
 use Rattle.thread_local_shared_buckets.specs.Shared.{by as lent_by}
 use Rattle.thread_local_shared_buckets.specs.Shared.{numbered_slot, AreFlagWords, slots_under, slots_stand, block_stands}
-use Rattle.thread_local_shared_buckets.specs.Shared.{slots_side, all_unborn, Sized, len, first, standing, beside_pointer, grown}
+use Rattle.thread_local_shared_buckets.specs.Shared.{slots_side, all_unborn, Sized, len, first, standing, beside_pointer, grown, NoneSet}
+use Rattle.thread_local_shared_buckets.specs.Announcing.{announced, announced_unless}
 use Rattle.thread_local_shared_buckets.specs.Shared.{bucket_invariant}
 use Rattle.thread_local_ids.specs.Told.{untold_in, tells}
 use Rattle.thread_local_ids.specs.Sharings.{Belongs, left_after}
@@ -584,6 +585,7 @@ module _ {M : Type 1} {𝓤 : Ura M} (𝓛 : Logic 𝓤) (R : RattleType) (t : T
       -- the block's slots are born under the turn, the claim's for whoever has its pass
       born_block : (p : Ptr) (ν : ℕ) (z : Names) → Lies p z
           → ⟦ all_unborn R d.sharing d.table t n (first R d) ⟧ ∗ ⟦ idle p ν z ⟧ ∗ ⟦ right_owns t.pass id ⟧ ∗ ⟦ Note ⟧
+          ∗ ⟦ announced d.word d.bucket ⟧
           ⊢ upd 𝓤 (⟦ fsep (block_stands R d t p (block_as p ν z)) (heap_token τ p) ⟧
           ∗ ⟦ Won ⟧)
       born_block p ν z so =
@@ -596,7 +598,7 @@ module _ {M : Type 1} {𝓤 : Ura M} (𝓛 : Logic 𝓤) (R : RattleType) (t : T
           let Unborn : ℕ → ℕ → Fml = λ m j. all_unborn R d.sharing d.table t m j in
           let from_first : k ≡ 0 + k = omega arith in
           let next : suc id ≡ suc at + k = omega arith in
-          qed 𝓛 (‵ (Unborn n k) ∷ ‵ (idle p ν z) ∷ ‵ (right_owns t.pass id) ∷ ‵ Note ∷ []) ∵
+          qed 𝓛 (‵ (Unborn n k) ∷ ‵ (idle p ν z) ∷ ‵ (right_owns t.pass id) ∷ ‵ Note ∷ ‵ (announced d.word d.bucket) ∷ []) ∵
           use1 𝓛 (‵ (Unborn at k) ⊛ ‵ (Unborn (suc rest) id)) (unborn_apart d.sharing d.table n at (suc rest) k id many refl) $ split ! $
           move ! (1 ∷ []) $ fsplit ! $
           -- [the claim's slot, unborn; the slots behind, unborn; the slots before, unborn; the block; the pass]
@@ -626,9 +628,10 @@ module _ {M : Type 1} {𝓤 : Ura M} (𝓛 : Logic 𝓤) (R : RattleType) (t : T
           behind_clear R v at rest ns are.1 j (j + suc at) refl)) $
           -- [the slots behind; before; the claim's; what the claim gets; the words; the ends]
           move ! (2 ∷ 0 ∷ []) $ fjoin ! $ move ! (1 ∷ 0 ∷ []) $
-          use2 𝓛 (‵ (slots_stand R d t p s ns))
+          use2 𝓛 (‵ (each N s.names 0))
           (each_joined 𝓛 N z.before (z.here ∷ z.behind) 0 at (omega (arith, so.before))) $
-          -- [the slots; what its claim gets; the words; the ends]
+          -- [the slots; what its claim gets; the words; the ends; that the bucket is announced]
+          move ! (4 ∷ []) $ fpack ! Bool (announced_unless d.word d.bucket (NoneSet ns)) true $ move ! (0 ∷ 1 ∷ []) $ fjoin ! $
           move ! (2 ∷ []) $ rewrite ! 0 (λ (m : ℕ). ‵ (each (flags_at R m b o) ns 0)) as_many refl $ move ! (0 ∷ 1 ∷ []) $
           fjoin ! $ nothing ! $ fpack ! (AreFlagWords R n ns) (λ _. ftrue) (flag_words R v at rest ns are.1 n many are.0) $
           fjoin ! $ fpack ! (List ℕ) (slots_under R n b o (slots_stand R d t p s)) ns $
@@ -664,24 +667,30 @@ module _ {M : Type 1} {𝓤 : Ura M} (𝓛 : Logic 𝓤) (R : RattleType) (t : T
         is_as : IsAs
         is_as = (refl, names_long new z so, so.sized)
 
+        -- how many ids were held at once, and that the bucket is announced
+        abbrev Shown : Fml
+        Shown = fsep (grown d) (announced d.word d.bucket)
+
         -- what the exchange finds in the pointer
         abbrev Finds : Ptr → Type 1
-        Finds p = ⟦ cell b o p ⟧ ∗ ⟦ beside_pointer R d t p ⟧ ∗ ⟦ private new ν z ⟧ ∗ ⟦ grown d ⟧ ∗ ⟦ Ticket ⟧ ⊢ ex 𝓤 F
+        Finds p = ⟦ cell b o p ⟧ ∗ ⟦ beside_pointer R d t p ⟧ ∗ ⟦ private new ν z ⟧ ∗ ⟦ Shown ⟧ ∗ ⟦ Ticket ⟧ ⊢ ex 𝓤 F
 
         -- no block was installed: this one is
         found_none : Finds null_ptr
         found_none = let m = block_code s in let γ : GName = t.which in let G : SProp 𝓤 = ⟦ J ⟧ ∗ ⟦ won null_ptr ⟧ in
             qed 𝓛
-            (‵ (cell b o null_ptr) ∷ ‵ (beside_pointer R d t null_ptr) ∷ ‵ (private new ν z) ∷ ‵ (grown d) ∷ ‵ Ticket ∷ []) ∵
+            (‵ (cell b o null_ptr) ∷ ‵ (beside_pointer R d t null_ptr) ∷ ‵ (private new ν z) ∷ ‵ Shown ∷ ‵ Ticket ∷ []) ∵
             show ! F (null_ptr, true) $ frame ! $
             use0 𝓛 (‵ (alike null_ptr null_ptr true)) (alike_null 𝓛 null_ptr (lit< tt)) $ frame ! $
             assume ! (‵ (cell b o new)) $ move ! (1 ∷ []) $ fsplit3 ! $ drop ! $
             use1 𝓛 (raw (upd 𝓤 (A.obs γ m ∗ A.auth γ m))) (𝓛.names.name_set_upd γ gnil gnil m) $
             settle 𝓛 G (‵ (fobs γ m) ⊛ ‵ (fauth γ m)) $ split ! $
             -- [what the name says now; its authority; what waits; the pointer; the private block; what it shows; the pass]
-            use1 𝓛 (‵ (fres γ m)) (𝓛.names.obs-res γ m) $ move ! (1 ∷ 0 ∷ 5 ∷ []) $ fjoin3 ! $ move ! (3 ∷ []) $ fsplit ! $
-            -- [its own token; the block; settled; what waits; the pointer; the ticket]
-            move ! (5 ∷ []) $ fsplit ! $ move ! (5 ∷ 3 ∷ 0 ∷ 1 ∷ []) $ group ! 4 $
+            use1 𝓛 (‵ (fres γ m)) (𝓛.names.obs-res γ m) $ move ! (5 ∷ []) $ fsplit ! $ move ! (3 ∷ 2 ∷ 0 ∷ []) $ fjoin3 ! $
+            -- [settled; that it is announced; what waits; the pointer; the private block; the ticket]
+            move ! (4 ∷ []) $ fsplit ! $ move ! (6 ∷ []) $ fsplit ! $
+            -- [the pass; its note; its own token; the block; settled; that it is announced; what waits; the pointer]
+            move ! (6 ∷ 3 ∷ 0 ∷ 1 ∷ 5 ∷ []) $ group ! 5 $
             use1 𝓛 (raw (upd 𝓤 (⟦ fsep (block_stands R d t new s) (heap_token τ new) ⟧ ∗ ⟦ Won ⟧))) (born_block new ν z so) $
             settle 𝓛 G (‵ (fsep (block_stands R d t new s) (heap_token τ new)) ⊛ ‵ Won) $
             suffices ! _ (upd_i 𝓤 G) $ split ! $
@@ -699,7 +708,7 @@ module _ {M : Type 1} {𝓤 : Ura M} (𝓛 : Logic 𝓤) (R : RattleType) (t : T
         found_other : (pb po : ℕ) → Finds (block_ptr pb po)
         found_other pb po =
             let p : Ptr = block_ptr pb po in
-            qed 𝓛 (‵ (cell b o p) ∷ ‵ (beside_pointer R d t p) ∷ ‵ (private new ν z) ∷ ‵ (grown d) ∷ ‵ Ticket ∷ []) ∵
+            qed 𝓛 (‵ (cell b o p) ∷ ‵ (beside_pointer R d t p) ∷ ‵ (private new ν z) ∷ ‵ Shown ∷ ‵ Ticket ∷ []) ∵
             keep ! (0 ∷ 1 ∷ 2 ∷ 4 ∷ []) $ show ! F (p, false) $ frame ! $ fpick ! (λ y. fsplit ! $ fpick ! (λ h. drop ! $
             nothing ! $ fpack ! ((y.0.at ≡ p) × (length y.0.names ≡ n) × Sized R n p) (λ _. ftrue) h $ fjoin ! $
             use1 𝓛 (‵ (standing R d t p (y.0, left y.1)) ⊛ ‵ (part 𝓛 R d t p (y.0, right y.1)))
@@ -715,10 +724,10 @@ module _ {M : Type 1} {𝓤 : Ura M} (𝓛 : Logic 𝓤) (R : RattleType) (t : T
         found null_ptr = found_none
         found (block_ptr pb po) = found_other pb po
 
-        pub offers : A.inv (fbor t.life J) ∗ (A.lft t.life q ∗ (⟦ private new ν z ⟧ ∗ ⟦ grown d ⟧ ∗ ⟦ Ticket ⟧))
+        pub offers : A.inv (fbor t.life J) ∗ (A.lft t.life q ∗ (⟦ private new ν z ⟧ ∗ ⟦ Shown ⟧ ∗ ⟦ Ticket ⟧))
             ⊢ compares 𝓛 (block_ptr b o) null_ptr new (λ p. fsep (flft t.life q) (won p))
             (λ p. fsep (flft t.life q) (lost p))
         offers =
-            opened_to_compare 𝓛 t.life q J b o null_ptr new won lost (⟦ private new ν z ⟧ ∗ ⟦ grown d ⟧ ∗ ⟦ Ticket ⟧)
-            (qed 𝓛 (‵ J ∷ ‵ (private new ν z) ∷ ‵ (grown d) ∷ ‵ Ticket ∷ []) ∵ suffices ! _ (upd_i 𝓤 (ex 𝓤 F)) $ fpick ! (λ p.
+            opened_to_compare 𝓛 t.life q J b o null_ptr new won lost (⟦ private new ν z ⟧ ∗ ⟦ Shown ⟧ ∗ ⟦ Ticket ⟧)
+            (qed 𝓛 (‵ J ∷ ‵ (private new ν z) ∷ ‵ Shown ∷ ‵ Ticket ∷ []) ∵ suffices ! _ (upd_i 𝓤 (ex 𝓤 F)) $ fpick ! (λ p.
             fsplit ! $ by ! (found p)))

@@ -11,7 +11,7 @@ use base.Fml.{GName, Fml, ftrue, fsep, fex}
 use base.Logic.{SProp, ex, guard, id⊢, guard_i}
 use contract.Monad.{fact_use}
 use types.Logic.{Logic}
-use types.Kit.{‵, some, given, later, split, use2, use3, ◌⊛◌, ◌$◌, ◌∵◌, !, qed, move, keep, drop, use0, use1, fsplit, fsplit3}
+use types.Kit.{‵, some, given, later, split, split3, use2, use3, ◌⊛◌, ◌$◌, ◌∵◌, !, qed, move, keep, drop, use0, use1, fsplit, fsplit3}
 use types.Kit.{fjoin, fjoin3, fpick, fpack, pick, learn, check, show, await, updating, now, rewrite, done}
 use denote.RattleType.{RattleType}
 use denote.RawPtr.{Ptr, block_ptr, null_ptr, InBlock, Testable}
@@ -20,16 +20,19 @@ use denote.Param.Laws.{Laws}
 use Rattle.std.specs.declared.alloc.Global.{Global}
 use Rattle.std.specs.contracts.impls.GlobalAllocator.TheImpl.{ghosts}
 use Rattle.std.proofs.GlobalToken.{dealloc_token-Testable}
+use Rattle.thread_local_base.proofs.TakingLaws.{shows_none}
 use Rattle.thread_local_base.specs.Bits.{is_set_in}
 use Rattle.thread_local_buckets.specs.Slots.{heap_token, chunks, each, AreFlags, flags_at, slot_value, block_ty, Fits}
 use Rattle.thread_local_buckets.specs.Slots.{value_offset, content_at, slot, flags_own, back}
 use Rattle.thread_local_buckets.specs.PointerOwns.{pointer_owns}
 use Rattle.thread_local_shared_buckets.specs.Shared.{BucketView, AreFlagWords, slots_under, slot_rests_as, slot_rests}
-use Rattle.thread_local_shared_buckets.specs.Shared.{slots_rest, Sized, len, first, at_rest}
+use Rattle.thread_local_shared_buckets.specs.Shared.{slots_rest, Sized, len, first, at_rest, announced_where, NoneSet}
+use Rattle.thread_local_shared_buckets.specs.Announcing.{announced_or}
+use Rattle.thread_local_shared_buckets.proofs.AnnouncingLaws.{announced_so}
 use Rattle.thread_local_ids.specs.Told.{told_or_untold, all_told_or_untold, whole_row}
 use Rattle.thread_local_ids.specs.Rights.{reached_owns}
 use Rattle.thread_local_ids.proofs.ReachedElements.{reached_none}
-use Rattle.thread_local_shared_buckets.proofs.GrownLaws.{row_grown, row_announced, row_known, whole_grown}
+use Rattle.thread_local_shared_buckets.proofs.GrownLaws.{row_grown, row_announced, row_known, whole_grown, IsBare}
 use Rattle.thread_local_shared_buckets.proofs.Rested.{redeems}
 use Rattle.thread_local_shared_buckets.specs.Fit.{Fit}
 use Rattle.thread_local_base.proofs.Signs.{signs}
@@ -209,46 +212,56 @@ module _ {M : Type 1} {𝓤 : Ura M} (𝓛 : Logic 𝓤) (R : RattleType) (L : L
     Tells cs = row_known R d cs
 
     abbrev Slotted : ℕ → ℕ → Fml
-    Slotted b o = fex (List ℕ) (slots_under R n b o (slots_rest R d.sharing k n 0 b o))
+    Slotted b o = fex (List ℕ) (slots_under R n b o (λ ns. fsep (announced_where d ns) (slots_rest R d.sharing k n 0 b o ns)))
+
+    -- that the bucket is announced, or that an owner made it and it has no value
+    abbrev Announced : List C → Fml
+    Announced cs = announced_or d.word d.bucket (IsBare cs)
 
     abbrev Redeemed : ℕ → ℕ → List C → SProp 𝓤
-    Redeemed b o cs = guard 𝓤 (length cs ≡ n) (⟦ Slots b o cs ⟧ ∗ ⟦ all_told_or_untold R d.sharing k cs ⟧)
+    Redeemed b o cs = guard 𝓤 (length cs ≡ n) (⟦ Slots b o cs ⟧ ∗ ⟦ all_told_or_untold R d.sharing k cs ⟧ ∗ ⟦ Announced cs ⟧)
 
     redeems_block : (b o : ℕ) → ⟦ Slotted b o ⟧ ⊢ H.⇛ (ex 𝓤 (Redeemed b o))
     redeems_block b o =
         let at : 0 + k ≡ k = omega arith in
         qed 𝓛 (‵ (Slotted b o) ∷ []) ∵ updating ! $ fpick ! (λ ns. fsplit3 ! $ fpick ! (λ are.
-        drop ! $ move ! (1 ∷ []) $
+        drop ! $ move ! (1 ∷ []) $ fsplit ! $ move ! (1 ∷ []) $
         use1 𝓛 (later (some (λ (cs : List C).
         given ((length cs ≡ n) × Told ns 0 cs)
         (‵ (each (slot R b o) cs 0) ⊛ ‵ (all_told_or_untold R d.sharing (0 + k) cs)))))
         (redeems_slots d.sharing k b o ns n 0) $
         await ! tt $ pick ! (λ cs. learn ! (λ so. split ! $
-        -- [the slots; what is told of them; the words]
-        move ! (2 ∷ []) $
+        -- [the slots; what is told of them; what the flags show; the words]
+        move ! (3 ∷ []) $
         rewrite ! 0 (λ (m : ℕ). ‵ (each (flags_at R m b o) ns 0)) (sym so.0) refl $ nothing ! $
         move ! (1 ∷ 0 ∷ []) $ fjoin ! $
         nothing ! $
         fpack ! ((length ns + 0 ≡ chunks (length cs)) × AreFlags ns cs) (λ _. ftrue)
         (are_flags R n ns cs so.0 are so.1) $
         fjoin ! $ fpack ! (List ℕ) (flags_own R b o cs 0) ns $ fjoin ! $
-        move ! (1 ∷ []) $ rewrite ! 0 (λ (m : ℕ). ‵ (all_told_or_untold R d.sharing m cs)) at refl $
-        move ! (1 ∷ 0 ∷ []) $ now ! $ show ! (Redeemed b o) cs $ check ! so.0 $ done !))))
+        move ! (1 ∷ []) $ rewrite ! 0 (λ (m : ℕ). ‵ (all_told_or_untold R d.sharing m cs)) at refl $ move ! (2 ∷ []) $
+        let flags = (are_flags R n ns cs so.0 are so.1).1.flags in
+        use1 𝓛 (‵ (Announced cs)) (announced_so 𝓛 d.word d.bucket (NoneSet ns) (IsBare cs)
+        (λ none j. shows_none (slot_value cs j) (sym (flags j) ∙ none j))) $
+        move ! (2 ∷ 1 ∷ 0 ∷ []) $ now ! $ show ! (Redeemed b o) cs $ check ! so.0 $ done !))))
 
     rests_block : (b o : ℕ) (cs : List C) → length cs ≡ n
-        → ⟦ Slots b o cs ⟧ ∗ ⟦ all_told_or_untold R d.sharing k cs ⟧ ⊢ ⟦ Slotted b o ⟧
+        → ⟦ Slots b o cs ⟧ ∗ ⟦ all_told_or_untold R d.sharing k cs ⟧ ∗ ⟦ Announced cs ⟧ ⊢ ⟦ Slotted b o ⟧
     rests_block b o cs long =
         let at : k ≡ 0 + k = omega arith in
-        qed 𝓛 (‵ (Slots b o cs) ∷ ‵ (all_told_or_untold R d.sharing k cs) ∷ []) ∵ fsplit ! $ fpick ! (λ ns.
+        qed 𝓛 (‵ (Slots b o cs) ∷ ‵ (all_told_or_untold R d.sharing k cs) ∷ ‵ (Announced cs) ∷ []) ∵ fsplit ! $ fpick ! (λ ns.
         fsplit3 ! $ fpick ! (λ are. drop ! $ move ! (1 ∷ []) $ drop ! $
-        -- [the words; the slots; what is told of them]
+        -- [the words; the slots; what is told of them; that the bucket is announced]
         move ! (2 ∷ []) $ rewrite ! 0 (λ (m : ℕ). ‵ (all_told_or_untold R d.sharing m cs)) at refl $ move ! (2 ∷ 0 ∷ []) $
         use2 𝓛 (‵ (slots_rest R d.sharing k (length cs) 0 b o ns))
         (rests_slots d.sharing k b o ns cs 0 (told_flags ns cs are.1)) $
-        rewrite ! 0 (λ (m : ℕ). ‵ (slots_rest R d.sharing k m 0 b o ns)) long refl $
-        move ! (1 ∷ 0 ∷ []) $ rewrite ! 0 (λ (m : ℕ). ‵ (each (flags_at R m b o) ns 0)) long refl $
+        rewrite ! 0 (λ (m : ℕ). ‵ (slots_rest R d.sharing k m 0 b o ns)) long refl $ move ! (2 ∷ []) $
+        use1 𝓛 (‵ (announced_where d ns)) (announced_so 𝓛 d.word d.bucket (IsBare cs) (NoneSet ns)
+        (λ bare j. are.1.flags j ∙ ap is_some (bare j))) $
+        move ! (0 ∷ 1 ∷ []) $ fjoin ! $ move ! (1 ∷ 0 ∷ []) $ rewrite ! 0 (λ (m : ℕ). ‵ (each (flags_at R m b o) ns 0)) long refl $
         nothing ! $ fpack ! (AreFlagWords R n ns) (λ _. ftrue) (are_words R n ns cs long are) $
-        fjoin3 ! $ fpack ! (List ℕ) (slots_under R n b o (slots_rest R d.sharing k n 0 b o)) ns $
+        fjoin3 ! $ 
+        fpack ! (List ℕ) (slots_under R n b o (λ z. fsep (announced_where d z) (slots_rest R d.sharing k n 0 b o z))) ns $
         done !))
 
     plain_slots : (b o : ℕ) (c : C) (cs : List C) → length (c ∷ cs) ≡ n → Sized R n (block_ptr b o)
@@ -287,14 +300,14 @@ module _ {M : Type 1} {𝓤 : Ura M} (𝓛 : Logic 𝓤) (R : RattleType) (L : L
         qed 𝓛 (‵ (at_rest R d p) ∷ []) ∵ updating ! $ fsplit3 ! $ fpick ! (λ so. drop ! $ fsplit ! $
         move ! (2 ∷ []) $ fsplit ! $ move ! (2 ∷ 3 ∷ 0 ∷ 1 ∷ []) $
         use1 𝓛 (later (some (λ (cs : List C).
-        given (length cs ≡ n) (‵ (Slots b o cs) ⊛ ‵ (all_told_or_untold R d.sharing k cs)))))
+        given (length cs ≡ n) (‵ (Slots b o cs) ⊛ ‵ (all_told_or_untold R d.sharing k cs) ⊛ ‵ (Announced cs)))))
         (redeems_block b o) $
-        await ! tt $ pick ! (λ cs. learn ! (λ long. split ! $
-        -- [the slots; what is told of them; the way back; the right to free; what the block shows]
-        move ! (0 ∷ 2 ∷ 3 ∷ []) $
+        await ! tt $ pick ! (λ cs. learn ! (λ long. split3 ! $
+        -- [the slots; what is told of them; that the bucket is announced; the way back; the right to free; what the block shows]
+        move ! (0 ∷ 3 ∷ 4 ∷ []) $
         use3 𝓛 (‵ (pointer_owns R heap_token p cs)) (plain_block b o cs long so) $ move ! (1 ∷ []) $
-        use1 𝓛 (‵ (Telling cs)) (tells_whole cs long) $ move ! (2 ∷ []) $
-        use1 𝓛 (‵ (fsep (row_grown R d cs) (row_announced R d.word d.bucket cs))) (whole_grown 𝓛 R d cs (has_slots cs long)) $
+        use1 𝓛 (‵ (Telling cs)) (tells_whole cs long) $ move ! (3 ∷ 2 ∷ []) $
+        use2 𝓛 (‵ (fsep (row_grown R d cs) (row_announced R d.word d.bucket cs))) (whole_grown 𝓛 R d cs (has_slots cs long)) $
         move ! (1 ∷ 0 ∷ []) $ fjoin ! $ move ! (1 ∷ 0 ∷ []) $
         now ! $ show ! (Plain p) cs $ check ! (inr long) $ done !)))
 
@@ -319,10 +332,10 @@ module _ {M : Type 1} {𝓤 : Ura M} (𝓛 : Logic 𝓤) (R : RattleType) (L : L
         move ! (1 ∷ []) $ rewrite ! 0 (λ (m : ℕ). ‵ (back R b o m)) fit refl $ move ! (2 ∷ []) $
         rewrite ! 0 (λ (m : ℕ). ‵ (heap_token (block_ty R m) p)) fit refl $
         use1 𝓛 (given (Testable p) (‵ (heap_token (block_ty R n) p))) (tested (block_ty R n) p) $
-        learn ! (λ test. move ! (3 ∷ 2 ∷ []) $ fjoin ! $ move ! (3 ∷ []) $ fsplit ! $ move ! (2 ∷ 0 ∷ []) $
-        -- [the words and the slots; what is told; what the row shows; the right to free; the way
-        -- back]
-        use2 𝓛 (‵ (Slotted b o)) (rests_block b o all fit) $ move ! (0 ∷ 3 ∷ []) $ fjoin ! $
+        learn ! (λ test. move ! (3 ∷ 2 ∷ []) $ fjoin ! $ move ! (3 ∷ []) $ fsplit3 ! $ move ! (3 ∷ 0 ∷ 2 ∷ []) $
+        -- [the words and the slots; what is told; that the bucket is announced; how many ids were held; the right to free; the
+        -- way back]
+        use3 𝓛 (‵ (Slotted b o)) (rests_block b o all fit) $ move ! (0 ∷ 3 ∷ []) $ fjoin ! $
         move ! (2 ∷ 1 ∷ []) $ fjoin ! $ move ! (1 ∷ 0 ∷ []) $
         nothing ! $ fpack ! (Sized R n p) (λ _. ftrue) (tt, test, subst (Fits R) fit so.1) $ fjoin3 ! $ done !))
 

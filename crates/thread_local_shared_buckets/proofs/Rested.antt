@@ -321,34 +321,34 @@ module _ {M : Type 1} {𝓤 : Ura M} (𝓛 : Logic 𝓤) where
               move ! (2 ∷ 0 ∷ []) $ fjoin ! $ now ! $ show ! (Woken ts (suc n) i) (η ∷ names) $ check ! (ap suc long) $ done !)))
 
         -- a standing block: the slots of these names, of which the first is for the id k
-        abbrev pub Block : ℕ → ℕ → ℕ → ℕ → List ℕ → Fml
-        Block table k n o names =
+        abbrev pub Block : (List ℕ → Fml) → ℕ → ℕ → ℕ → ℕ → List ℕ → Fml
+        Block shown table k n o names =
             fsep (fex (List ℕ) (slots_under R n b o
-            (λ ns. each (numbered_slot R t b ν sharing table k o ns) names 0)))
+            (λ ns. fsep (shown ns) (each (numbered_slot R t b ν sharing table k o ns) names 0))))
             (back R b o n)
 
-        abbrev pub BlockWoken : Toks → ℕ → ℕ → ℕ → ℕ → List ℕ → SProp 𝓤
-        BlockWoken ts table k n o names = guard 𝓤 (length names ≡ n) (⟦ Block table k n o names ⟧ ∗ lfts 𝓛 ts)
+        abbrev pub BlockWoken : Toks → (List ℕ → Fml) → ℕ → ℕ → ℕ → ℕ → List ℕ → SProp 𝓤
+        BlockWoken ts shown table k n o names = guard 𝓤 (length names ≡ n) (⟦ Block shown table k n o names ⟧ ∗ lfts 𝓛 ts)
 
         -- a block that lay at rest comes under the turn
-        pub wakes_block : (ts : Toks) → Incl (span ts) R.lives → Incl (span ts) κ → Judged R → (table k n o : ℕ)
-            → ⟦ block_rests R sharing k n b o ⟧ ∗ ⟦ all_tokens k ⟧ ∗ lfts 𝓛 ts
-            ⊢ H.⇛ (ex 𝓤 (BlockWoken ts table k n o))
-        wakes_block ts inc sp j table k n o = let same : k ≡ 0 + k = omega arith in
-            qed 𝓛 (‵ (block_rests R sharing k n b o) ∷ ‵ (all_tokens k) ∷ raw (lfts 𝓛 ts) ∷ []) ∵
-            updating ! $ fsplit ! $ fpick ! (λ ns. fsplit3 ! $ move ! (4 ∷ []) $
+        pub wakes_block : (ts : Toks) → Incl (span ts) R.lives → Incl (span ts) κ → Judged R → (shown : List ℕ → Fml) (table k n o : ℕ)
+            → ⟦ block_rests R sharing k shown n b o ⟧ ∗ ⟦ all_tokens k ⟧ ∗ lfts 𝓛 ts
+            ⊢ H.⇛ (ex 𝓤 (BlockWoken ts shown table k n o))
+        wakes_block ts inc sp j shown table k n o = let same : k ≡ 0 + k = omega arith in
+            qed 𝓛 (‵ (block_rests R sharing k shown n b o) ∷ ‵ (all_tokens k) ∷ raw (lfts 𝓛 ts) ∷ []) ∵
+            updating ! $ fsplit ! $ fpick ! (λ ns. fsplit3 ! $ move ! (2 ∷ []) $ fsplit ! $ move ! (5 ∷ []) $
             rewrite ! 0 (λ (m : ℕ). ‵ (all_tokens m)) same refl $
-            -- [the tokens; that they are words of flags; the words; the slots; the way back; the
-            -- lifetimes]
-            move ! (3 ∷ 0 ∷ 5 ∷ []) $
+            -- [the tokens; what the flags show; the slots; that they are words of flags; the words; the
+            -- way back; the lifetimes]
+            move ! (2 ∷ 0 ∷ 6 ∷ []) $
             use3 𝓛 (later (some (λ (names : List ℕ).
             given (length names ≡ n) (‵ (Slots table k o ns names 0) ⊛ raw (lfts 𝓛 ts)))))
             (wakes_slots table k o ns ts inc sp j n 0) $
             await ! tt $
-            pick ! (λ names. learn ! (λ long. split ! $ move ! (2 ∷ 3 ∷ 0 ∷ []) $ fjoin3 ! $
-            fpack ! (List ℕ) (slots_under R n b o (λ z. Slots table k o z names 0)) ns $
+            pick ! (λ names. learn ! (λ long. split ! $ move ! (2 ∷ 0 ∷ []) $ fjoin ! $ move ! (2 ∷ 3 ∷ 0 ∷ []) $ fjoin3 ! $
+            fpack ! (List ℕ) (slots_under R n b o (λ z. fsep (shown z) (Slots table k o z names 0))) ns $
             move ! (0 ∷ 2 ∷ []) $ fjoin ! $
-            now ! $ show ! (BlockWoken ts table k n o) names $ check ! long $ done !)))
+            now ! $ show ! (BlockWoken ts shown table k n o) names $ check ! long $ done !)))
 
         owed : (k e : ℕ) (η : GName) (v : Option R.Denot)
             → A.dead κ ∗ ⟦ flent κ (tracked_value R b e η) ⟧ ∗ ⟦ stays R t b ν sharing k e η v ⟧
@@ -392,16 +392,16 @@ module _ {M : Type 1} {𝓤 : Ura M} (𝓛 : Logic 𝓤) where
             frame ! $ move ! (1 ∷ 0 ∷ []) $ by ! (rests_slots table k o ns names (suc i))
 
         -- a block goes to rest once the turn is over
-        pub rests_block : (table k n o : ℕ) (names : List ℕ) → length names ≡ n
-            → A.dead κ ∗ ⟦ Block table k n o names ⟧ ⊢ ⟦ block_rests R sharing k n b o ⟧
-        rests_block table k n o names long =
-            qed 𝓛 (‵ (fdead κ) ∷ ‵ (Block table k n o names) ∷ []) ∵ move ! (1 ∷ []) $ fsplit ! $
-            fpick ! (λ ns. fsplit3 ! $
-            -- [that they are words of flags; the words; the slots; the way back; dead]
-            move ! (4 ∷ 2 ∷ []) $
+        pub rests_block : (shown : List ℕ → Fml) (table k n o : ℕ) (names : List ℕ) → length names ≡ n
+            → A.dead κ ∗ ⟦ Block shown table k n o names ⟧ ⊢ ⟦ block_rests R sharing k shown n b o ⟧
+        rests_block shown table k n o names long =
+            qed 𝓛 (‵ (fdead κ) ∷ ‵ (Block shown table k n o names) ∷ []) ∵ move ! (1 ∷ []) $ fsplit ! $
+            fpick ! (λ ns. fsplit3 ! $ move ! (2 ∷ []) $ fsplit ! $
+            -- [what the flags show; the slots; that they are words of flags; the words; the way back; dead]
+            move ! (5 ∷ 1 ∷ []) $
             use2 𝓛 (‵ (slots_rest R sharing k (length names) 0 b o ns))
             (rests_slots table k o ns names 0) $
             rewrite ! 0 (λ (m : ℕ). ‵ (slots_rest R sharing k m 0 b o ns)) long refl $
-            move ! (1 ∷ 2 ∷ 0 ∷ []) $ fjoin3 ! $
-            fpack ! (List ℕ) (slots_under R n b o (slots_rest R sharing k n 0 b o)) ns $ fjoin ! $
+            move ! (1 ∷ 0 ∷ []) $ fjoin ! $ move ! (1 ∷ 2 ∷ 0 ∷ []) $ fjoin3 ! $
+            fpack ! (List ℕ) (slots_under R n b o (λ z. fsep (shown z) (slots_rest R sharing k n 0 b o z))) ns $ fjoin ! $
             done !)

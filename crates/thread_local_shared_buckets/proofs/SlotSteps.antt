@@ -6,7 +6,7 @@ use base.Logic.{SProp, ex, all, all_e, guard, upd, upd_i, via, apply∗}
 use base.Fml.{GName, Share, Fml, ftrue, fsep, fres, fbor, flft, flent}
 use types.Logic.{Logic}
 use types.Kit.{settle, ‵, raw, ◌⊛◌, given, some, show, frame, assume, suffices, ◌$◌, ◌∵◌, !, qed, move, drop, split}
-use types.Kit.{split3, pick, fsplit, fsplit3, fjoin, fpick, fpack, join, group, learn, use1, use2, use3, done}
+use types.Kit.{split3, pick, fsplit, fsplit3, fjoin, fpick, fpack, group, learn, use0, use1, use2, use3, done}
 use denote.RattleType.{RattleType}
 use denote.RawPtr.{block_ptr, count_of}
 use denote.Steps.{nothing}
@@ -47,6 +47,9 @@ module _ {M : Type 1} {𝓤 : Ura M} (𝓛 : Logic 𝓤) (R : RattleType) (slot 
   abbrev pub Flags : ℕ → Fml
   Flags n = inside.Flags 𝓛 R slot n
 
+  abbrev pub raised : Bool → Bool → Fml
+  raised = inside.raised 𝓛 R slot
+
   abbrev pub Stays : Option R.Denot → Fml
   Stays v = stays R t b s.block_life d.sharing k e η v
 
@@ -72,17 +75,18 @@ module _ {M : Type 1} {𝓤 : Ura M} (𝓛 : Logic 𝓤) (R : RattleType) (slot 
   -- the slot and its word are put back
   pub again : (n m : ℕ) (z : Option R.Denot × Who) → m < 2 ^ 64
       → IsWordBut m n (i % 64) (is_some z.0)
-      → ⟦ Flags m ⟧ ∗ ⟦ Lent ⟧ ∗ ⟦ Stays z.0 ⟧ ∗ ⟦ Had z.0 z.1 ⟧ ∗ all 𝓤 (Back n) ⊢ ⟦ I ⟧
+      → ⟦ Flags m ⟧ ∗ ⟦ Lent ⟧ ∗ ⟦ Stays z.0 ⟧ ∗ ⟦ Had z.0 z.1 ⟧ ∗ all 𝓤 (Back n) ∗ ⟦ raised (is_set n (i % 64)) (is_some z.0) ⟧ ⊢ ⟦ I ⟧
   again n m z fits but =
       let set : Bool = is_some z.0 in
       let y : Next n (i % 64) = record { word = m; set = set; fits = fits; but = but } in
-      let T : SProp 𝓤 = ⟦ Flags m ⟧ ∗ ⟦ Slot set ⟧ in
-      qed 𝓛 (‵ (Flags m) ∷ ‵ Lent ∷ ‵ (Stays z.0) ∷ ‵ (Had z.0 z.1) ∷ raw (all 𝓤 (Back n)) ∷ []) ∵
+      let Raised : Fml = raised (is_set n (i % 64)) set in
+      let T : SProp 𝓤 = ⟦ Flags m ⟧ ∗ ⟦ Slot set ⟧ ∗ ⟦ Raised ⟧ in
+      qed 𝓛 (‵ (Flags m) ∷ ‵ Lent ∷ ‵ (Stays z.0) ∷ ‵ (Had z.0 z.1) ∷ raw (all 𝓤 (Back n)) ∷ ‵ Raised ∷ []) ∵
       move ! (2 ∷ 3 ∷ []) $ fjoin ! $ nothing ! $ fpack ! (set ≡ is_some z.0) (λ _. ftrue) refl $
       fjoin ! $
       fpack ! (Option R.Denot × Who)
       (shared_slot_as R t b s.block_life d.sharing d.table set k e η) z $
-      move ! (2 ∷ 0 ∷ []) $ fjoin ! $ move ! (1 ∷ 0 ∷ []) $ join ! $ move ! (1 ∷ []) $
+      move ! (2 ∷ 0 ∷ []) $ fjoin ! $ move ! (1 ∷ 0 ∷ 3 ∷ []) $ group ! 3 $ move ! (1 ∷ []) $
       use1 𝓛 (raw (Back n y)) (all_e 𝓤 (Back n) y) $ move ! (1 ∷ 0 ∷ []) $ use2 𝓛 (‵ I) (apply∗ 𝓤 T ⟦ I ⟧) $ done !
 
   -- a ghost step
@@ -102,7 +106,8 @@ module _ {M : Type 1} {𝓤 : Ura M} (𝓛 : Logic 𝓤) (R : RattleType) (slot 
       use3 𝓛 (some (λ (w : Who). ‵ (Stays z.0) ⊛ ‵ (Had z.0 w) ⊛ raw Q)) (law z.0 z.1) $
       pick ! (λ w. split3 ! $
       -- [what stays; who has it; Q; the loan; the word; the way back]
-      move ! (4 ∷ 3 ∷ 0 ∷ 1 ∷ 5 ∷ []) $ group ! 5 $
+      use0 𝓛 (‵ (raised (is_set n (i % 64)) (is_some z.0))) (inside.unraised 𝓛 R slot (is_set n (i % 64)) (is_some z.0) told) $
+      move ! (5 ∷ 4 ∷ 1 ∷ 2 ∷ 6 ∷ 0 ∷ []) $ group ! 6 $
       use1 𝓛 (‵ I) (again n n (z.0, w) fits (same_bit n (i % 64) (is_some z.0) told)) $ done !))))))
 
   -- an atomic step on the word of flags, which may change this slot's flag
@@ -110,7 +115,7 @@ module _ {M : Type 1} {𝓤 : Ura M} (𝓛 : Logic 𝓤) (R : RattleType) (slot 
     abbrev pub Turned : ℕ → Option R.Denot → Option R.Denot × Who → SProp 𝓤
     Turned n v z =
         guard 𝓤 ((f n < 2 ^ 64) × IsWordBut (f n) n (i % 64) (is_some z.0))
-        (⟦ Stays z.0 ⟧ ∗ ⟦ Had z.0 z.1 ⟧ ∗ ⟦ after n ⟧)
+        (⟦ Stays z.0 ⟧ ∗ ⟦ Had z.0 z.1 ⟧ ∗ ⟦ after n ⟧ ∗ ⟦ raised (is_set n (i % 64)) (is_some z.0) ⟧)
 
     pub stepped_by : (X : Fml)
         → ((n : ℕ) → n < 2 ^ 64 → (v : Option R.Denot) (w : Who) → is_set n (i % 64) ≡ is_some v
@@ -135,11 +140,11 @@ module _ {M : Type 1} {𝓤 : Ura M} (𝓛 : Logic 𝓤) (R : RattleType) (slot 
         move ! (0 ∷ 1 ∷ 5 ∷ []) $ use3 𝓛 (raw (upd 𝓤 (ex 𝓤 (Turned n z.0)))) (law n fits z.0 z.1 told) $
         settle 𝓛 Then (some (λ (y : Option R.Denot × Who).
         given ((f n < 2 ^ 64) × IsWordBut (f n) n (i % 64) (is_some y.0))
-        (‵ (Stays y.0) ⊛ ‵ (Had y.0 y.1) ⊛ ‵ (after n)))) $
+        (‵ (Stays y.0) ⊛ ‵ (Had y.0 y.1) ⊛ ‵ (after n) ⊛ ‵ (raised (is_set n (i % 64)) (is_some y.0))))) $
         suffices ! _ (upd_i 𝓤 Then) $
-        pick ! (λ y. learn ! (λ next. split3 ! $
-        -- [what stays; who has it; what is gained; the loan; the word; the way back]
-        move ! (4 ∷ 3 ∷ 0 ∷ 1 ∷ 5 ∷ []) $ group ! 5 $ use1 𝓛 (‵ I) (again n (f n) y next.0 next.1) $ done !)))))))
+        pick ! (λ y. learn ! (λ next. split3 ! $ move ! (2 ∷ []) $ split ! $
+        -- [what is gained; what raises the flag; what stays; who has it; the loan; the word; the way back]
+        move ! (5 ∷ 4 ∷ 2 ∷ 3 ∷ 6 ∷ 1 ∷ []) $ group ! 6 $ use1 𝓛 (‵ I) (again n (f n) y next.0 next.1) $ done !)))))))
 
     -- such a step that needs no update of its own
     pub stepped : (X : Fml)

@@ -31,7 +31,7 @@ use Rattle.std.proofs.cell.Inside.{spread, gather}
 use Rattle.thread_local_base.specs.Judged.{Judged}
 use Rattle.thread_local_base.specs.Fact.{fact}
 use Rattle.thread_local_shared_buckets.specs.Shared.{BucketView, Turn, StandingBlock, block_code, block_stands}
-use Rattle.thread_local_shared_buckets.specs.Shared.{block_rests, Sized, len, first, all_unborn, pending, standing}
+use Rattle.thread_local_shared_buckets.specs.Shared.{block_rests, Sized, len, first, all_unborn, pending, standing, announced_where}
 use Rattle.thread_local_shared_buckets.specs.Shared.{beside_pointer, bucket_invariant, kept, at_rest, bucket_shares}
 use Rattle.thread_local_shared_buckets.specs.contracts.shared_bucket.SharedBucket as C
 use Rattle.thread_local_buckets.specs.Slots.{empty_slots}
@@ -81,8 +81,8 @@ module _ {M : Type 1} {𝓤 : Ura M} (𝓛 : Logic 𝓤) where
         use1 𝓛 (‵ (fdead κ))
         (𝓛.lfts.dead-incl κ t.life (meet_⊑_right (s.0.block_life ∷ []) t.life)) $
         move ! (0 ∷ 1 ∷ []) $
-        use2 𝓛 (‵ (block_rests R d.sharing (first R d) (len R d) b o))
-        (rests_block 𝓛 t R L b s.0.block_life d.sharing d.table (first R d) (len R d) o
+        use2 𝓛 (‵ (block_rests R d.sharing (first R d) (announced_where d) (len R d) b o))
+        (rests_block 𝓛 t R L b s.0.block_life d.sharing (announced_where d) d.table (first R d) (len R d) o
         s.0.names so.1) $
         -- [the block; the right to free; settled; its own token]
         move ! (2 ∷ []) $ fsplit3 ! $ keep ! (4 ∷ 2 ∷ 3 ∷ []) $ fjoin ! $ move ! (1 ∷ 0 ∷ []) $
@@ -138,7 +138,7 @@ module _ {M : Type 1} {𝓤 : Ura M} (𝓛 : Logic 𝓤) where
           (‵ (block_stands R d t p record { at = p; block_life = ν; names = names })
           ⊛ (‵ (flft (ν ∷ []) full_share) ⊛ ‵ (flft μ r))))))
           (wakes_block 𝓛 t R L b ν d.sharing ((ν ∷ [], full_share) ∷ (μ, r) ∷ [])
-          (Incl-trans (meet_⊑_right (ν ∷ []) μ) inc) (meet_within (ν ∷ []) κ μ sp) j d.table
+          (Incl-trans (meet_⊑_right (ν ∷ []) μ) inc) (meet_within (ν ∷ []) κ μ sp) j (announced_where d) d.table
           (first R d) (len R d) o) $
           await ! tt $ pick ! (λ names. learn ! (λ long. split ! $ move ! (1 ∷ []) $ split ! $
           -- [its own token; μ's token; the block; the right to free; pending]

@@ -1,7 +1,7 @@
 -- Turns shared buckets at rest into an owner's buckets and back: the machine values are the same.
 -- Assumes `Logic`.
 use Rattle.std.proofs.Common.{map, suc, ◌≡◌, ℕ, ◌+◌, ◌<◌, ◌^◌, w64, List, [], ◌∷◌, ◌++◌, length, refl, sym, ap, ◌∙◌, subst}
-use Rattle.std.proofs.Common.{arith, Bool, Option, None, Some, true, false, ◌==◌}
+use Rattle.std.proofs.Common.{arith, Bool, Option, None, Some, true, false, bit_or, ◌==◌}
 use seplogic.Ra.Ura.{Ura}
 use mir.Val.{Val, vint, vstruct, vcons, vnil, of_list}
 use base.Fml.{Fml, ftrue, ffalse, fsep}
@@ -24,7 +24,7 @@ use denote.Param.Laws.{Laws}
 use Rattle.std.proofs.cell.Inside.{one}
 use denote.Struct.Struct.{Struct, Shape, within}
 use Rattle.std.specs.contracts.alloc.Global as heap
-use Rattle.std.proofs.lemmas.Bool.{ltb-true, lt-ltb}
+use Rattle.std.proofs.lemmas.Bool.{false≢true}
 use Rattle.thread_local_base.specs.Bits.{is_set}
 use Rattle.thread_local_base.specs.Buckets.{Contents, row, IsTable}
 use Rattle.thread_local_base.specs.Owned.{Owned, AreOfFirstBuckets, IsOwned}
@@ -33,12 +33,13 @@ use Rattle.thread_local_buckets.specs.Slots.{heap_token}
 use Rattle.thread_local_buckets.specs.PointerOwns.{pointer_owns}
 use Rattle.thread_local_buckets.specs.contracts.bucket_pointer.BucketPointer as plain
 use Rattle.thread_local_buckets.proofs.bucket_pointer.BucketPointer.TheLaws as plain'
-use Rattle.thread_local_buckets.specs.Announced.{Announces}
-use Rattle.thread_local_buckets.specs.contracts.announced.AnnouncedBuckets as bits
-use Rattle.thread_local_buckets.proofs.announced.AnnouncedBuckets.TheLaws as bits'
-use Rattle.thread_local_shared_buckets.specs.Announcing.{Announcing, BeginsWithFirst, lies_with_word}
+use Rattle.thread_local_buckets.specs.Announced.{Announces, Covers}
+use Rattle.thread_local_buckets.proofs.Announcing.{in_neither, not_in, set_unless}
+use Rattle.thread_local_buckets.specs.contracts.announced.BucketBits as bits
+use Rattle.thread_local_buckets.proofs.announced.BucketBits.TheLaws as bits'
+use Rattle.thread_local_shared_buckets.specs.Announcing.{Announcing, BeginsWithFirst, AreMade, lies_with_word}
 use Rattle.thread_local_shared_buckets.specs.contracts.announcements.Announcements as shared_word
-use Rattle.thread_local_shared_buckets.proofs.AnnouncingLaws.{bits_untold, new_rights, rights_new, first_set, none_past, begins}
+use Rattle.thread_local_shared_buckets.proofs.AnnouncingLaws.{bits_untold, new_rights, rights_new, first_set, none_past, begins, beginning}
 use Rattle.thread_local_shared_buckets.specs.Shared.{BucketView, at_rest}
 use Rattle.thread_local_ids.specs.Told.{rows_telling, rows_tell, book_owns}
 use Rattle.thread_local_ids.specs.Sharings.{later_of}
@@ -65,7 +66,7 @@ use Rattle.thread_local_shared_buckets.proofs.Lists.{are_owned, fit_all, table_b
 use Rattle.thread_local_shared_buckets.proofs.Lists.{table_seen}
 use Rattle.thread_local_shared_buckets.specs.Grown.{only_reserved}
 use Rattle.thread_local_shared_buckets.proofs.GrownLaws.{row_known, rows_known, rows_grown, rows_announced, AllSet, known_apart}
-use Rattle.thread_local_shared_buckets.proofs.GrownLaws.{known_together, rows_show, rows_set}
+use Rattle.thread_local_shared_buckets.proofs.GrownLaws.{known_together, rows_show, rows_set, IsSetFor, IsBare}
 use Rattle.thread_local_shared_buckets.proofs.GrownLaws.{none_grown, less_grown, nothing_shown, lent_shown, view_again, grown_in}
 use Rattle.thread_local_shared_buckets.proofs.Redeemed.{redeems_bucket, rests_bucket}
 use Rattle.thread_local_base.proofs.Signs.{signs}
@@ -263,7 +264,7 @@ module _ {M : Type 1} {𝓤 : Ura M} (𝓛 : Logic 𝓤) (R : RattleType) (L : L
   abbrev Heap : RattleType
   Heap = heap.the_row
 
-  -- the word of announced buckets: an owner's, and one that threads share
+  -- a word of buckets: an owner's, and that of announced ones which threads share
   abbrev Bits : RattleType
   Bits = bits.the_row
 
@@ -275,7 +276,9 @@ module _ {M : Type 1} {𝓤 : Ura M} (𝓛 : Logic 𝓤) (R : RattleType) (L : L
   abbrev PointersOf : Plain.Denot → Type 0
   PointersOf c =
       (x : (all_pointers.TheInside.the_row R).Denot)
-      × ((contents_of x.pointers ≡ c) × (IsTable (contents_of x.pointers) × Announces x.announced.bits (contents_of x.pointers)))
+      × ((contents_of x.pointers ≡ c)
+      × (IsTable (contents_of x.pointers) × Announces x.announced.bits (contents_of x.pointers)
+      × Covers (bit_or x.announced.bits x.made.bits) (contents_of x.pointers)))
 
   abbrev OwnedOf : Owner.Denot → Type 0
   OwnedOf y =
@@ -288,7 +291,8 @@ module _ {M : Type 1} {𝓤 : Ura M} (𝓛 : Logic 𝓤) (R : RattleType) (L : L
       (x : (all_shared.TheInside.the_row R).Denot)
       × ((table_view_of x.pointers.pointers.pointers x.reserved ≡ s)
       × (AreBuckets x.pointers.pointers.pointers x.pointers.announced x.reserved
-      × BeginsWithFirst x.pointers.announced × AreOfFirstBuckets x.reserved))
+      × BeginsWithFirst x.pointers.announced × AreOfFirstBuckets x.reserved
+      × AreMade x.pointers.announced x.pointers.made.bits))
 
   -- what is told of the slots of an owner's buckets, if they are shared as this says
   abbrev pub AllTold : TableView → Owner.Denot → Fml
@@ -311,39 +315,61 @@ module _ {M : Type 1} {𝓤 : Ura M} (𝓛 : Logic 𝓤) (R : RattleType) (L : L
   abbrev pub Out : TableView → List Val → Owner.Denot → SProp 𝓤
   Out s vs y = guard 𝓤 (Judged R × (y.reserved ≡ s.reserved)) (⟦ Owner.own_val y vs ⟧ ∗ ⟦ AllTold s y ⟧ ∗ ⟦ Shown s y ⟧)
 
-  -- a word that a sharing ends with announces what stands
-  ends_announced : (m : Announcing) (n : ℕ) (c : Contents R.Denot) → IsTable c → BeginsWithFirst m
-      → ⟦ lies_with_word m n ⟧ ∗ ⟦ rows_announced R m 0 c.rows ⟧ ⊢ guard 𝓤 (Announces n c) ⟦ ftrue ⟧
-  ends_announced m n c table first =
+  bare_slot : {V : Type 0} (cs : List (Option V)) → (0 < length cs → IsBare cs) → IsBare cs
+  bare_slot [] bare i = refl
+  bare_slot (c ∷ cs) bare i = bare (omega arith) i
+
+  nil_unless : {X : Type 0} (xs : List X) → (0 < length xs → ⊥) → xs ≡ []
+  nil_unless [] never = refl
+  nil_unless (x ∷ xs) never = absurd (never (omega arith))
+
+  -- the words that a sharing ends with announce what holds a value, and cover what stands
+  ends_announced : (s : TableView) (m : Announcing) (n made : ℕ) (c : Contents R.Denot) → IsTable c → BeginsWithFirst m → AreMade m made
+      → ⟦ lies_with_word m n ⟧ ∗ ⟦ rows_announced R m 0 c.rows ⟧ ⊢ guard 𝓤 (Announces n c × Covers (bit_or n made) c) ⟦ ftrue ⟧
+  ends_announced s m n made c table first are =
       let long : length c.rows ≡ 63 = table.buckets in
       qed 𝓛 (‵ (lies_with_word m n) ∷ ‵ (rows_announced R m 0 c.rows) ∷ []) ∵
-      use2 𝓛 (given (AllSet n 0 c.rows) (‵ (lies_with_word m n))) (rows_show 𝓛 R m n 0 c.rows (omega (arith, long))) $
+      use2 𝓛 (given (AllSet n m.made 0 c.rows) (‵ (lies_with_word m n))) (rows_show 𝓛 R m n 0 c.rows (omega (arith, long))) $
       learn ! (λ all.
-      use1 𝓛 (given ((bit : ℕ) → bit < 7 → is_set n bit ≡ true) (‵ (lies_with_word m n)))
-      (first_set 𝓛 m n 7 (omega arith) first) $ learn ! (λ seven.
+      use1 𝓛 (given ((b : ℕ) → b < 7 → is_set n b ≡ true) (‵ (lies_with_word m n))) (first_set 𝓛 m n 7 (omega arith) first) $ learn ! (λ seven.
       use1 𝓛 (given (is_set n 63 ≡ false) (‵ (lies_with_word m n))) (none_past 𝓛 m n) $ learn ! (λ none.
-      check ! (record {
-        first = seven;
-        standing = λ b low there.
-            let at : b ≡ b + 0 = omega arith in
-            all b b at (omega (arith, low, long)) (ltb-true 0 (length (row c b)) there);
-        none_past = none;
-      }) $
+      let set : (b : ℕ) → b < 63 → IsSetFor n m.made b (row c b) = λ b low.
+      let at : b ≡ b + 0 = omega arith in all b b at (omega (arith, low, long)) in
+      check ! (
+        record {
+          first = seven;
+          holding = record {
+            others = λ b low out i. bare_slot (row c b) (λ some. (set b low some out).1) i;
+            none_past = none;
+          };
+        },
+        record {
+          others = λ b low out.
+              let neither = in_neither n made b out in
+              nil_unless (row c b) (λ some.
+              false≢true (sym neither.1 ∙ ap (λ (w : ℕ). is_set w b) (sym are.same) ∙ (set b low some neither.0).0));
+          none_past = not_in n made 63 none are.none_past;
+        },
+      ) $
       drop ! $ nothing ! $ done !)))
 
-  -- and the other way round: what stands is announced in a sharing that begins with the word
-  begins_announced : (γ n : ℕ) (c : Contents R.Denot) → IsTable c → Announces n c
+  -- and the other way round, in a sharing that begins with the words
+  begins_announced : (s : TableView) (γ n made : ℕ) (c : Contents R.Denot) → IsTable c → Announces n c → Covers (bit_or n made) c
       → ⟦ bits_untold γ 63 ⟧
-      ⊢ ⟦ lies_with_word (record { name = γ; begun = n }) n ⟧ ∗ ⟦ rows_announced R (record { name = γ; begun = n }) 0 c.rows ⟧
-  begins_announced γ n c table is =
-      let m : Announcing = record { name = γ; begun = n } in
+      ⊢ ⟦ lies_with_word (beginning 𝓛 γ n made) n ⟧ ∗ ⟦ rows_announced R (beginning 𝓛 γ n made) 0 c.rows ⟧
+  begins_announced s γ n made c table announces covers =
+      let m : Announcing = beginning 𝓛 γ n made in
       let long : length c.rows ≡ 63 = table.buckets in
-      qed 𝓛 (‵ (bits_untold γ 63) ∷ []) ∵ use1 𝓛 (‵ (lies_with_word m n)) (begins 𝓛 γ n is.none_past) $
+      qed 𝓛 (‵ (bits_untold γ 63) ∷ []) ∵ use1 𝓛 (‵ (lies_with_word m n)) (begins 𝓛 γ n made announces.holding.none_past) $
       use0 𝓛 (‵ (rows_announced R m 0 c.rows))
-      (rows_set 𝓛 R m 0 c.rows (λ i j at near some.
+      (rows_set 𝓛 R m 0 c.rows (λ i j at near.
       let same : i ≡ j = omega (arith, at) in
-      subst (λ (k : ℕ). is_set n k ≡ true) same
-      (is.standing i (omega (arith, near, long)) (lt-ltb 0 (length (row c i)) some)))) $
+      let low : i < 63 = omega (arith, near, long) in
+      subst (λ (k : ℕ). IsSetFor n made k (row c i)) same (λ some out. (
+        set_unless made i (λ clear.
+            let none = ap length (covers.others i low (not_in n made i out clear)) in omega (arith, some, none)),
+        announces.holding.others i low out,
+      )))) $
       move ! (1 ∷ 0 ∷ []) $ done !
 
   pub turns_plain : (s : TableView) (vs : List Val) → ⟦ Shared.own_val s vs ⟧ ⊢ H.⇛ (ex 𝓤 (Out s vs))
@@ -368,8 +394,9 @@ module _ {M : Type 1} {𝓤 : Ura M} (𝓛 : Logic 𝓤) (R : RattleType) (L : L
       -- [the word; what lies with it; its type; the heap; nothing; what is told; what they show; they are announced; the array;
       -- its value; nothing; the pointers' value; the struct's value; the number; nothing]
       move ! (1 ∷ 7 ∷ []) $
-      use2 𝓛 (given (Announces bits y.contents) (‵ ftrue))
-      (ends_announced m bits y.contents owned.table h.1.1.1) $ learn ! (λ announces. drop ! $
+      let made : ℕ = h.0.pointers.made.bits in
+      use2 𝓛 (given (Announces bits y.contents × Covers (bit_or bits made) y.contents) (‵ ftrue))
+      (ends_announced s m bits made y.contents owned.table h.1.1.1 h.1.1.3) $ learn ! (λ words. drop ! $
       -- [the word; its type; the heap; nothing; what is told; what they show; the array; its value; nothing; the pointers'
       -- value; the struct's value; the number; nothing]
       move ! (7 ∷ 6 ∷ 8 ∷ []) $ fjoin3 ! $
@@ -379,15 +406,20 @@ module _ {M : Type 1} {𝓤 : Ura M} (𝓛 : Logic 𝓤) (R : RattleType) (L : L
       move ! (3 ∷ 1 ∷ 4 ∷ []) $ move ! (1 ∷ 2 ∷ []) $ fjoin ! $ move ! (1 ∷ 0 ∷ []) $ fjoin ! $
       -- [the heap with the word; the line; its type; what is told; what they show; the pointers' value; ..]
       move ! (5 ∷ 1 ∷ 0 ∷ []) $ fjoin3 ! $
-      fpack ! (Valss (Line ∷ Heap ∷ Bits ∷ []))
-      (within (shape_with (Line ∷ Heap ∷ Bits ∷ []))
-      (record { pointers = ws }, (h.0.pointers.alloc, (record { bits = bits }, tt))) vss.0)
+      fpack ! (Valss (Line ∷ Heap ∷ Bits ∷ Bits ∷ []))
+      (within (shape_with (Line ∷ Heap ∷ Bits ∷ Bits ∷ []))
+      (record { pointers = ws }, (h.0.pointers.alloc, (record { bits = bits }, (h.0.pointers.made, tt)))) vss.0)
       uss $
       nothing ! $ move ! (1 ∷ 0 ∷ []) $ fjoin ! $
       fpack ! (PointersOf y.contents)
       (λ a. fsep ((all_pointers.TheInside.the_row R).own_val a.0 vss.0) ftrue) (
-        record { pointers = record { pointers = ws }; alloc = h.0.pointers.alloc; announced = record { bits = bits } },
-        (refl, (owned.table, announces)),
+        record {
+          pointers = record { pointers = ws };
+          alloc = h.0.pointers.alloc;
+          announced = record { bits = bits };
+          made = h.0.pointers.made;
+        },
+        (refl, (owned.table, words.0, words.1)),
       ) $
       -- [the pointers; its type; what is told; what they show; the struct's value; the number; nothing]
       move ! (4 ∷ 0 ∷ 5 ∷ []) $ fjoin3 ! $
@@ -408,7 +440,8 @@ module _ {M : Type 1} {𝓤 : Ura M} (𝓛 : Logic 𝓤) (R : RattleType) (L : L
       fsplit3 ! $ move ! (1 ∷ []) $ fpick ! (λ tss. fsplit3 ! $
       let ws : List W.Denot = h'.0.pointers.pointers in
       let bits : ℕ = h'.0.announced.bits in
-      let m : Announcing = record { name = γ; begun = bits } in
+      let made : ℕ = h'.0.made.bits in
+      let m : Announcing = beginning 𝓛 γ bits made in
       let ds : List BucketView = table_buckets s m in
       let c : Contents R.Denot = record { rows = map slots ws } in
       let e : h.0.reserved ≡ s.reserved = ap (λ (o : Owned R.Denot). o.reserved) h.1.0 ∙ sym same in
@@ -417,10 +450,11 @@ module _ {M : Type 1} {𝓤 : Ura M} (𝓛 : Logic 𝓤) (R : RattleType) (L : L
       (λ i. record { contents = sym h'.1.0 i; reserved = e i }) h.1.1 in
       let rows : y.contents ≡ c = ap (λ (o : Owned R.Denot). o.contents) (sym h.1.0) ∙ sym h'.1.0 in
       let is : Announces bits c = h'.1.1.1 in
+      let covers : Covers (bit_or bits made) c = h'.1.1.2 in
       -- [the array's value; the array; nothing; the pointers' value; the heap with the word; nothing; the struct's value; the
       -- number; nothing; the rights; what they show; what is told]
       move ! (9 ∷ []) $
-      use1 𝓛 (‵ (lies_with_word m bits) ⊛ ‵ (rows_announced R m 0 c.rows)) (begins_announced γ bits c h'.1.1.0 is) $ split ! $
+      use1 𝓛 (‵ (lies_with_word m bits) ⊛ ‵ (rows_announced R m 0 c.rows)) (begins_announced s γ bits made c h'.1.1.0 is covers) $ split ! $
       -- [what lies with the word; they are announced; the array's value; the array; nothing; the pointers' value; the heap with the
       -- word; nothing; the struct's value; the number; nothing; what they show; what is told]
       move ! (12 ∷ []) $
@@ -445,9 +479,9 @@ module _ {M : Type 1} {𝓤 : Ura M} (𝓛 : Logic 𝓤) (R : RattleType) (L : L
       fjoin ! $
       -- [the word; the heap; nothing; the line; the pointers' value; nothing; ..]
       move ! (0 ∷ 2 ∷ []) $ fjoin ! $ move ! (1 ∷ 0 ∷ []) $ fjoin ! $ move ! (2 ∷ 1 ∷ 0 ∷ []) $ fjoin3 ! $
-      fpack ! (Valss (SharedLine ∷ Heap ∷ SharedWord ∷ []))
-      (within (shape_with (SharedLine ∷ Heap ∷ SharedWord ∷ []))
-      (record { pointers = ds }, (h'.0.alloc, (m, tt))) vss.0)
+      fpack ! (Valss (SharedLine ∷ Heap ∷ SharedWord ∷ Bits ∷ []))
+      (within (shape_with (SharedLine ∷ Heap ∷ SharedWord ∷ Bits ∷ []))
+      (record { pointers = ds }, (h'.0.alloc, (m, (h'.0.made, tt)))) vss.0)
       uss $
       -- [the pointers; nothing; the struct's value; the number; nothing]
       move ! (1 ∷ []) $ drop ! $
@@ -455,15 +489,23 @@ module _ {M : Type 1} {𝓤 : Ura M} (𝓛 : Logic 𝓤) (R : RattleType) (L : L
       move ! (2 ∷ 1 ∷ 0 ∷ []) $ fjoin3 ! $
       fpack ! (Valss (all_buckets'.the_row R ∷ usize ∷ []))
       (within (shape_with (all_buckets'.the_row R ∷ usize ∷ []))
-      (record { pointers = record { pointers = ds }; alloc = h'.0.alloc; announced = m }, (s.reserved, tt)) vs)
+      (record { pointers = record { pointers = ds }; alloc = h'.0.alloc; announced = m; made = h'.0.made }, (s.reserved, tt)) vs)
       vss $
       fjoin ! $
       fpack ! (SharedOf s) (λ a. fsep ((all_shared.TheInside.the_row R).own_val a.0 vs) ftrue) (
         record {
-          pointers = record { pointers = record { pointers = ds }; alloc = h'.0.alloc; announced = m };
+          pointers = record { pointers = record { pointers = ds }; alloc = h'.0.alloc; announced = m; made = h'.0.made };
           reserved = s.reserved;
         },
-        (table_seen s m, (table_named s m, is.first, owned.first)),
+        (
+          table_seen s m,
+          (
+            table_named s m,
+            is.first,
+            owned.first,
+            record { same = refl; none_past = (in_neither bits made 63 covers.none_past).1 },
+          ),
+        ),
       ) $
       done !)))))))
 

@@ -17,8 +17,10 @@
 --                         value that is published
 --     telling             what is told of the slot's id under the sharing's name, if it has one: it
 --                         stays with the slot, whoever claims it
---     grown               what a block that stands shows: of the ids that were held at once, where
---                         its bucket was made for an id, and that its bucket is announced
+--     grown               what a block that stands shows of the ids that were held at once, where its
+--                         bucket was made for an id
+--     announced_where     what the flags of a block show: that its bucket is announced, or that an owner
+--                         made it and none is set
 --
 -- Where a `&` to a value names no thread, a published value is shared for good. Where it may name
 -- one, the claim of the slot has the borrow of the value.
@@ -91,7 +93,7 @@ use Rattle.thread_local_base.specs.Bits.{is_set_in}
 use Rattle.thread_local_buckets.specs.Slots.{heap_token, chunks, each, AreWords, block_ty, Fits, value_offset, flags_at}
 use Rattle.thread_local_buckets.specs.Slots.{content_at, back, empty_slots}
 use Rattle.thread_local_base.specs.Fact.{fact}
-use Rattle.thread_local_shared_buckets.specs.Announcing.{Announcing, announcing_coded, announced}
+use Rattle.thread_local_shared_buckets.specs.Announcing.{Announcing, announcing_coded, announced_or}
 use Rattle.thread_local_ids.specs.Told.{untold_in, tells, told_or_untold, all_told_or_untold}
 
 -- 1. What is known of a bucket, of a sharing and of a block.
@@ -134,9 +136,17 @@ ids_shown true false bucket = 2 ^ bucket
 abbrev pub shown_by : BucketView → ℕ
 shown_by d = ids_shown d.grown_by_ids d.reserved d.bucket
 
--- what a standing bucket shows: how many ids were held at once, and that it is announced
+-- what a standing bucket shows: how many ids were held at once
 abbrev pub grown : BucketView → Fml
-grown d = fsep (reached_owns d.table (shown_by d)) (announced d.word d.bucket)
+grown d = reached_owns d.table (shown_by d)
+
+-- no flag is set in these words
+abbrev pub NoneSet : List ℕ → Type 0
+NoneSet ns = (i : ℕ) → is_set_in ns i ≡ false
+
+-- what these flags show: that the bucket is announced, or that an owner made it and none is set
+abbrev pub announced_where : BucketView → List ℕ → Fml
+announced_where d ns = announced_or d.word d.bucket (NoneSet ns)
 
 -- the life and the names that one bucket has in one sharing; `which` is the name that says which block
 -- stands
@@ -305,9 +315,10 @@ module _ (R : RattleType) where
     slots_rest zero i b o ns = ftrue
     slots_rest (suc n) i b o ns = fsep (slot_rests sharing (i + k) (is_set_in ns i) b (value_offset R o i)) (slots_rest n (suc i) b o ns)
 
-    -- a block of n slots at rest: its words, its slots, and the way back
-    abbrev pub block_rests : ℕ → ℕ → ℕ → Fml
-    block_rests n b o = fsep (fex (List ℕ) (slots_under n b o (slots_rest n 0 b o))) (back R b o n)
+    -- a block of n slots at rest: its words, what these show, its slots, and the way back
+    abbrev pub block_rests : (List ℕ → Fml) → ℕ → ℕ → ℕ → Fml
+    block_rests shown n b o =
+        fsep (fex (List ℕ) (slots_under n b o (λ ns. fsep (shown ns) (slots_rest n 0 b o ns)))) (back R b o n)
 
   -- p leads to a block and may be compared with null, and the size of n slots fits
   abbrev pub Sized : ℕ → Ptr → Type 0
@@ -332,9 +343,9 @@ module _ (R : RattleType) where
       abbrev pub settled : StandingBlock → Fml
       settled s = fsep (fauth t.which (block_code s)) (fsep (fres t.which (block_code s)) (grown d))
 
-      -- the slots of a block, one for each name, under the words of their flags
+      -- the slots of a block, one for each name, under the words of their flags, and what these show
       abbrev pub slots_stand : Ptr → StandingBlock → List ℕ → Fml
-      slots_stand p s ns = each (numbered_slot t (block_of p) s.block_life d.sharing d.table first (count_of p) ns) s.names 0
+      slots_stand p s ns = fsep (announced_where d ns) (each (numbered_slot t (block_of p) s.block_life d.sharing d.table first (count_of p) ns) s.names 0)
 
       -- a standing block: its words, its slots, and the way back
       abbrev pub block_stands : Ptr → StandingBlock → Fml
@@ -374,7 +385,7 @@ module _ (R : RattleType) where
     at_rest null_ptr = fsep (fact (d.reserved ≡ false)) (all_told_or_untold R d.sharing first (empty_slots len))
     at_rest (block_ptr b o) =
         fsep (fact (Sized len (block_ptr b o)))
-        (fsep (block_rests d.sharing first len b o) (fsep (heap_token (block_ty R len) (block_ptr b o)) (grown d)))
+        (fsep (block_rests d.sharing first (announced_where d) len b o) (fsep (heap_token (block_ty R len) (block_ptr b o)) (grown d)))
 
     -- a bucket at rest: its pointer with what lies beside it, and values of a type that is judged
     abbrev pub bucket_owns : (Ptr → Fml) → Fml

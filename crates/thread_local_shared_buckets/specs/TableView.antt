@@ -42,7 +42,7 @@ pub record IsBucketOf (s : TableView) (bucket : ℕ) (d : BucketView) : Type 0 w
 
 -- the default for a number past the last bucket
 abbrev no_bucket : BucketView
-no_bucket = record { table = 0; sharing = None; bucket = 0; reserved = false; grown_by_ids = false; word = record { name = 0; begun = 0 } }
+no_bucket = record { table = 0; sharing = None; bucket = 0; reserved = false; grown_by_ids = false; word = record { name = 0; begun = 0; made = 0 } }
 
 -- the bucket of this number in a list
 abbrev pub bucket_at : List BucketView → ℕ → BucketView

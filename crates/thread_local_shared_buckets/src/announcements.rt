@@ -46,8 +46,9 @@ impl Model for Announced {
 }
 
 impl Announcements {
-    /// Announces a bucket: one atomic step, or none for the first seven buckets, which are announced
-    /// from the beginning.
+    /// Announces a bucket: one atomic load where it was announced before, and one more step where it
+    /// wasn't. There is none for the first seven buckets, which are announced from the beginning.
+    #[inline]
     pub fn announce(&self, bucket: usize) -> Announced
         requires in_table { bucket < 63 }
         requires first { BeginsWithFirst self.now }
@@ -70,17 +71,18 @@ impl Announcements {
         }
     }
 
-    /// Sets the bit of a bucket, which is the one in `mask`, by one atomic step. It is never inlined,
-    /// so that a first value in one of the first seven buckets is published in a short way.
-    #[cold]
+    /// Sets the bit of a bucket, which is the one in `mask`, where a load doesn't find it set. It is
+    /// never inlined, so that a value in one of the first seven buckets is published in a short way.
     #[inline(never)]
     fn set(&self, bucket: usize, mask: u64) -> Announced
         requires in_table { bucket < 63 }
         requires mask { mask ≡ 1 * 2 ^ bucket % 2 ^ 64 }
         ensures { (result.by ≡ self.now) × (result.bucket ≡ bucket) }
     {
-        let _ = bucket;
-        unsafe { raw::fetch_or::<Brand>(&raw const self.word, mask, SeqCst) };
+        let word = unsafe { raw::load::<Brand>(&raw const self.word, SeqCst) };
+        if word >> bucket & 1 != 1 {
+            unsafe { raw::fetch_or::<Brand>(&raw const self.word, mask, SeqCst) };
+        }
         Announced {
             marker: PhantomData,
         }

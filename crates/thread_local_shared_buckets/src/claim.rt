@@ -280,9 +280,9 @@ impl<'a, T> Claim<'a, T> {
             return self.publish_standing(thread, value);
         };
         let block = filled(block, alloc, thread, value);
-        let announced = self.announcements.announce(thread.bucket);
         let right = &self.right;
-        self.slot.install(alloc, thread, block, right, announced);
+        self.slot
+            .install(alloc, thread, block, right, self.announcements);
     }
 
     /// `publish`, which is never inlined, so that the way of who installs a block is short.
@@ -296,8 +296,8 @@ impl<'a, T> Claim<'a, T> {
         self.publish(thread, value);
     }
 
-    /// Publishes a value in a vacant slot: the value is written, and then the flag is set, by one
-    /// atomic addition that never has to be tried again.
+    /// Publishes a value in a vacant slot: the bucket is announced, the value is written, and then the
+    /// flag is set, by one atomic addition that never has to be tried again.
     #[inline]
     pub fn publish(&mut self, thread: Thread, value: T)
         requires vacant { self.old.learnt ≡ Vacant }
@@ -305,8 +305,9 @@ impl<'a, T> Claim<'a, T> {
         ensures same { self.new ≡ record self.old { learnt = self.new.learnt } }
         ensures learnt { learnt_by_publish self.old.learnt value ≡ Some self.new.learnt }
     {
+        let announced = self.announcements.announce(thread.bucket);
         self.slot
-            .publish(thread.index, flag_word_of::<T>(thread), value);
+            .publish(thread.index, flag_word_of::<T>(thread), value, announced);
     }
 
     /// The id whose slot it is.

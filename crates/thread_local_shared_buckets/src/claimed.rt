@@ -6,7 +6,7 @@ ghost use base.Stored.{Gv, coded_bool};
 ghost use Rattle.std.specs.Coded.{coded_option, coded_ℕ};
 ghost use denote.RawPtr.{Ptr, coded_ptr};
 ghost use Rattle.thread_local_base.specs.Learnt.{Learnt, learnt_coded, Unknown, Missing, Vacant, Holding, Finds};
-ghost use Rattle.thread_local_base.specs.Place.{id_at};
+ghost use Rattle.thread_local_base.specs.Place.{bucket_of, id_at};
 ghost use Rattle.thread_local_base.specs.IdMoves.{left_coded};
 ghost use Rattle.thread_local_ids.specs.Rights.{note_owns, taken_id};
 ghost use Rattle.thread_local_ids.specs.Taken.{IsRightTo};
@@ -16,6 +16,7 @@ ghost use Rattle.thread_local_shared_buckets.specs.Known.{HasLooked, MayLook, st
 ghost use Rattle.thread_local_shared_buckets.specs.Claims.{flag_word_of, claim_fields, claim_owns, claim_shares};
 
 use crate::SharedBucket;
+use crate::announcements::Announced;
 use std::marker::{Brand, Model, PhantomData};
 use std::mem::size_of;
 use std::sync::atomic::Ordering::SeqCst;
@@ -140,12 +141,13 @@ impl<'a, T> ClaimedSlot<'a, T> {
 
     /// Publishes a value in a vacant slot: the value is written, and then the flag is set, by one
     /// atomic addition to the word `flag_word` of the block. The flag is unset, so the addition
-    /// changes no other bit, whatever others publish in the same word.
+    /// changes no other bit, whatever others publish in the same word. The bucket is announced.
     #[inline]
-    pub(crate) fn publish(&mut self, index: usize, flag_word: usize, value: T)
+    pub(crate) fn publish(&mut self, index: usize, flag_word: usize, value: T, announced: Announced)
         requires vacant { self.old.learnt ≡ Vacant }
         requires index { index ≡ self.old.index }
         requires flag_word { flag_word ≡ flag_word_of T.row self.old.id }
+        requires announced { (announced.by ≡ self.old.word) × (announced.bucket ≡ bucket_of self.old.id) }
         requires sharing { Belongs self.old.sharing self.old.table }
         ensures { self.new ≡ record self.old {
           at = self.new.at;

@@ -1,25 +1,27 @@
-//! What shared buckets consist of: 63 pointers, the heap, the word of announced buckets, and the number
-//! of reserved slots, in the layout of an owner's buckets.
+//! What shared buckets consist of: 63 pointers, the heap, two words of buckets, and the number of reserved
+//! slots, in the layout of an owner's buckets.
 ghost use Rattle.thread_local_base.specs.Owned.{AreOfFirstBuckets};
 ghost use Rattle.thread_local_shared_buckets.specs.TableView.{TableView, table_view_coded, table_view_of, AreBuckets};
-ghost use Rattle.thread_local_shared_buckets.specs.Announcing.{BeginsWithFirst};
+ghost use Rattle.thread_local_shared_buckets.specs.Announcing.{BeginsWithFirst, AreMade};
 
 use crate::{Announcements, SharedBucket};
 use std::alloc::Global;
 use std::marker::Model;
 use thread_local_base::BUCKETS;
+use thread_local_buckets::BucketBits;
 
 /// The 63 buckets, by number.
 pub(crate) struct SharedArray<T> {
     pub(crate) pointers: [SharedBucket<T>; BUCKETS],
 }
 
-/// The pointers of a table's buckets, the heap that their blocks come from, and the word of announced
-/// buckets, in the layout of an owner's pointers.
+/// The pointers of a table's buckets, the heap that their blocks come from, and the words of announced
+/// buckets and of those that an owner made, in the layout of an owner's pointers.
 pub(crate) struct SharedPointers<T> {
     pub(crate) pointers: SharedArray<T>,
     alloc: Global,
     pub(crate) announced: Announcements,
+    made: BucketBits,
 }
 
 /// The pointers of a table's buckets, and how many of the first slots are reserved, in the layout
@@ -39,7 +41,8 @@ impl<T> Model for SharedParts<T> {
     ghost invariant = { λ s.
         AreBuckets s.pointers.pointers.pointers s.pointers.announced s.reserved
         × BeginsWithFirst s.pointers.announced
-        × AreOfFirstBuckets s.reserved };
+        × AreOfFirstBuckets s.reserved
+        × AreMade s.pointers.announced s.pointers.made.bits };
 }
 
 /// What threads may send and share.

@@ -5,7 +5,7 @@ ghost use Rattle.thread_local_base.specs.Buckets.{row, values};
 ghost use Rattle.thread_local_base.specs.Walk.{walk};
 ghost use Rattle.thread_local_base.specs.Counting.{count_below};
 ghost use Rattle.thread_local_base.specs.Owner.{emptied};
-ghost use Rattle.thread_local_buckets.specs.Announced.{Announces, AreAhead};
+ghost use Rattle.thread_local_buckets.specs.Announced.{Announces, AreAhead, HasNone};
 ghost use Rattle.thread_local_buckets.specs.Counted.{counted_to};
 ghost use Rattle.thread_local_buckets.specs.Cursor.{values_left, IsOwnerWalk};
 
@@ -81,7 +81,7 @@ impl<T> BucketPointers<T> {
     #[inline(never)]
     fn count_further(&mut self, counted: usize, further: u64) -> usize
         requires counted { counted ≡ count_below (values self.old) (id_at 7 0) }
-        requires ahead { AreAhead self.old further 7 }
+        requires ahead { AreAhead (HasNone self.old) further 7 }
         ensures same { self.new ≡ self.old }
         ensures counted { result ≡ length (walk (values self.old)) }
         ensures fits { result < 2 ^ 63 }
@@ -97,8 +97,8 @@ impl<T> BucketPointers<T> {
         count
     }
 
-    /// How many values there are. It reads the flags of all slots of the buckets that stand, which are
-    /// one word for each of the first seven. Behind these only announced buckets are looked at.
+    /// How many values there are. It reads the flags of all slots of the announced buckets that stand,
+    /// which are one word for each of the first seven.
     #[inline(never)]
     pub fn count_values(&mut self, announced: u64) -> usize
         requires announced { Announces announced self.old }

@@ -24,7 +24,7 @@ impl<T> BucketPointers<T> {
             return Ok(());
         }
         let block = Block::new(&self.alloc, bucket_size(bucket))?;
-        self.announced.bits |= 1 << bucket;
+        self.made.bits |= 1 << bucket;
         self.pointers.pointer_mut(bucket).lay(block);
         Ok(())
     }
@@ -44,7 +44,8 @@ impl<T> BucketPointers<T> {
 }
 
 impl<T: Drop> BucketPointers<T> {
-    /// Publishes the value in the slot of a place if the slot is empty, and else drops the value.
+    /// Publishes the value in the slot of a place if the slot is empty, and else drops the value. The
+    /// bucket is announced then.
     pub fn publish_or_drop(&mut self, thread: Thread, value: T)
         requires in_bucket { thread.index < length (row self.old thread.bucket) }
         ensures { self.new ≡ with_slot self.old thread.bucket thread.index
@@ -55,6 +56,7 @@ impl<T: Drop> BucketPointers<T> {
         let flags = self.flags(thread.bucket, chunk, flag_word);
         if flags >> (thread.index % 64) & 1 != 1 {
             let flags = flags | 1 << (thread.index % 64);
+            self.announced.bits |= 1 << thread.bucket;
             self.pointers
                 .pointer_mut(thread.bucket)
                 .publish_and_store(thread.index, flag_word, flags, value);

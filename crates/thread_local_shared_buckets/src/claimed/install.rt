@@ -2,6 +2,7 @@
 //! is one.
 ghost use Rattle.std.specs.Prelude.{◌≡◌, ◌^◌, None, IsSome, IfSome, MatchOption, slice_set};
 ghost use Rattle.thread_local_buckets.specs.Slots.{empty_slots, slot_value};
+ghost use Rattle.thread_local_shared_buckets.specs.Announcing.{BeginsWithFirst};
 ghost use Rattle.thread_local_shared_buckets.specs.Known.{found_as, state_of};
 ghost use Rattle.thread_local_base.specs.Learnt.{Missing, Vacant};
 ghost use Rattle.thread_local_base.specs.Place.{IsPlaceOf, bucket_of};
@@ -9,9 +10,9 @@ ghost use Rattle.thread_local_ids.specs.Taken.{IsRightTo};
 ghost use Rattle.thread_local_ids.specs.Sharings.{Belongs};
 
 use super::{ClaimedSlot, HOLDING, VACANT};
-use crate::SharedBucket;
 use crate::announcements::Announced;
 use crate::claim::{emptied, flag_word_of};
+use crate::{Announcements, SharedBucket};
 use std::alloc::Global;
 use std::marker::Brand;
 use std::ptr::null_mut;
@@ -22,9 +23,9 @@ use thread_local_buckets::Block;
 use thread_local_ids::Right;
 
 impl<'a, T> ClaimedSlot<'a, T> {
-    /// Offers a block with the value of the slot, which publishes it. Where another block was installed
-    /// first, that one stays, the value is published there, and this block is freed. The bucket is
-    /// announced.
+    /// Announces the bucket and offers a block with the value of the slot, which publishes it. Where
+    /// another block was installed first, that one stays, the value is published there, and this block
+    /// is freed.
     #[inline(always)]
     pub(crate) fn install(
         &mut self,
@@ -32,7 +33,7 @@ impl<'a, T> ClaimedSlot<'a, T> {
         thread: Thread,
         block: Block<T, Global>,
         right: &Right,
-        announced: Announced,
+        announcements: &Announcements,
     )
         requires missing { self.old.learnt ≡ Missing }
         requires place { IsPlaceOf thread.bucket thread.index self.old.id }
@@ -41,7 +42,7 @@ impl<'a, T> ClaimedSlot<'a, T> {
         requires others { slice_set block.slots thread.index None ≡ empty_slots (2 ^ thread.bucket) }
         requires value { IsSome (slot_value block.slots thread.index) }
         requires right { IsRightTo self.old.table self.old.id right.now }
-        requires announced { (announced.by ≡ self.old.word) × (announced.bucket ≡ thread.bucket) }
+        requires announcements { (announcements.now ≡ self.old.word) × BeginsWithFirst announcements.now }
         requires sharing { Belongs self.old.sharing self.old.table }
         ensures same { self.new ≡ record self.old {
           at = self.new.at;
@@ -51,9 +52,10 @@ impl<'a, T> ClaimedSlot<'a, T> {
         } }
         ensures learnt { self.new.learnt ≡ found_as (slot_value block.slots thread.index) }
     {
+        let announced = announcements.announce(thread.bucket);
         let back = self.exchange(thread.index, block, right, announced, HOLDING);
         if let Some(block) = back {
-            self.publish_second(alloc, thread, block);
+            self.publish_second(alloc, thread, block, announcements);
         }
     }
 
@@ -61,13 +63,20 @@ impl<'a, T> ClaimedSlot<'a, T> {
     /// is never inlined, so that the way of the first is short.
     #[cold]
     #[inline(never)]
-    fn publish_second(&mut self, alloc: &Global, thread: Thread, block: Block<T, Global>)
+    fn publish_second(
+        &mut self,
+        alloc: &Global,
+        thread: Thread,
+        block: Block<T, Global>,
+        announcements: &Announcements,
+    )
         requires vacant { self.old.learnt ≡ Vacant }
         requires place { IsPlaceOf thread.bucket thread.index self.old.id }
         requires index { thread.index ≡ self.old.index }
         requires block { (block.heap ≡ alloc.now) × (block.left ≡ 0) }
         requires others { slice_set block.slots thread.index None ≡ empty_slots (2 ^ thread.bucket) }
         requires value { IsSome (slot_value block.slots thread.index) }
+        requires announcements { (announcements.now ≡ self.old.word) × BeginsWithFirst announcements.now }
         requires sharing { Belongs self.old.sharing self.old.table }
         ensures same { self.new ≡ record self.old {
           at = self.new.at;
@@ -79,7 +88,9 @@ impl<'a, T> ClaimedSlot<'a, T> {
     {
         let (value, block) = emptied(block, alloc, thread);
         block.release(alloc, bucket_size(thread.bucket));
-        self.publish(thread.index, flag_word_of::<T>(thread), value);
+        let flag_word = flag_word_of::<T>(thread);
+        let again = announcements.announce(thread.bucket);
+        self.publish(thread.index, flag_word, value, again);
     }
 
     /// One compare and exchange: where the bucket's pointer is null, it points to the block from

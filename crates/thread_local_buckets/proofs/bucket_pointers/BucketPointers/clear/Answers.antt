@@ -39,22 +39,22 @@ still_stands : {V : Type 0} (old now : Contents V) (reserved first b : ℕ) → 
 still_stands {V} old now reserved first b h below standing in_reserve =
     ap (λ (r : List (Option V)). nat_lt 0 (length r)) (h.before b below) ∙ standing in_reserve
 
--- the buckets behind the last announced one are cleared already
+-- the buckets behind the last one that may stand are cleared already
 pub buckets-init : goal.buckets-init
 buckets-init g c =
-    let told = c.announced.ensures in
+    let told = c.standing.ensures in
     let last : ℕ = c.ilog2-last.result in
     let all : last + 1 ≡ last + 1 - 0 = omega arith in
     let now : c.args.self.now ≡ contents_of c.self.inside.pointers = sym (c.self.view_is ∙ told.same) in
     record {
-      low = last_in_table c.args.self.now c.announced.result last told.announced c.ilog2-last.ensures.power_le
+      low = last_in_table c.args.self.now c.standing.result last told.covers c.ilog2-last.ensures.power_le
           c.ilog2-last.ensures.next_power_gt (let bound = c.ilog2-last.ensures.bound in omega arith);
       clearing = record {
         cleared = subst (λ (w : Contents g.row.T.Denot). AreCleared c.args.self.now w c.args.reserved (last + 1 - 0)) now
             (subst (AreCleared c.args.self.now c.args.self.now c.args.reserved) all
-            (AreCleared-none c.args.self.now c.announced.result c.args.reserved last told.table told.announced
+            (AreCleared-none c.args.self.now c.standing.result c.args.reserved last told.table told.covers
             c.ilog2-last.ensures.next_power_gt c.requires.standing));
-        announced = c.self.invariant.1;
+        words = c.self.invariant;
       };
     }
 
@@ -96,28 +96,31 @@ buckets-preserved g c =
     let after : b ≡ last + 1 - (done + 1) = omega arith in
     let size = c.bucket_size-size in
     let with : Inside g.row.T.Denot → Type 0 = λ i.
-    (contents_of i.pointers ≡ with_row (contents_of s.pointers) b (cleared_row c.args.reserved b)) × (i.announced.bits ≡ s.announced.bits) in
+    (contents_of i.pointers ≡ with_row (contents_of s.pointers) b (cleared_row c.args.reserved b)) × (i.announced.bits ≡ s.announced.bits) × (i.made.bits ≡ s.made.bits) in
     let made : with new = elim c.if-size-reserved.branch [
       | then-size-reserved w ↦
           let slots = reserved_row w.empty.new.self.slots c.args.reserved size.result b w.empty.ensures size.ensures w.if-size-reserved.true in
-          subst with (sym w.self-inside-is) (row_changes s.pointers b w.empty.new.self (cleared_row c.args.reserved b) slots, refl)
+          subst with (sym w.self-inside-is) (row_changes s.pointers b w.empty.new.self (cleared_row c.args.reserved b) slots, refl, refl)
       | else-size-reserved w ↦
           let slots = free_row w.release.new.self.slots c.args.reserved size.result b w.release.ensures size.ensures w.if-size-reserved.false in
-          subst with (sym w.self-inside-is) (row_changes s.pointers b w.release.new.self (cleared_row c.args.reserved b) slots, refl)
+          subst with (sym w.self-inside-is) (row_changes s.pointers b w.release.new.self (cleared_row c.args.reserved b) slots, refl, refl)
     ] in
-    let clearing : AreClearing c.args.self.now (contents_of s.pointers) new.announced.bits c.args.reserved (b + 1) =
-    subst (λ (n : ℕ). AreClearing c.args.self.now (contents_of s.pointers) new.announced.bits c.args.reserved n) next
-    (subst (λ (n : ℕ). AreClearing c.args.self.now (contents_of s.pointers) n c.args.reserved (last + 1 - done)) (sym made.1) kept.clearing) in
+    let clearing : AreClearing c.args.self.now (contents_of s.pointers) new.announced.bits new.made.bits c.args.reserved (b + 1) =
+    subst (λ (n : ℕ). AreClearing c.args.self.now (contents_of s.pointers) new.announced.bits new.made.bits c.args.reserved n) next
+    (subst (λ (n : ℕ). AreClearing c.args.self.now (contents_of s.pointers) n new.made.bits c.args.reserved (last + 1 - done)) (sym made.1)
+    (subst (λ (n : ℕ). AreClearing c.args.self.now (contents_of s.pointers) s.announced.bits n c.args.reserved (last + 1 - done)) (sym made.2)
+    kept.clearing)) in
     record {
       low = kept.low;
-      clearing = subst (λ (n : ℕ). AreClearing c.args.self.now (contents_of new.pointers) new.announced.bits c.args.reserved n) after
-          (AreClearing-more c.args.self.now (contents_of s.pointers) (contents_of new.pointers) new.announced.bits c.args.reserved b clearing low
+      clearing = subst (λ (n : ℕ). AreClearing c.args.self.now (contents_of new.pointers) new.announced.bits new.made.bits c.args.reserved n) after
+          (AreClearing-more c.args.self.now (contents_of s.pointers) (contents_of new.pointers) new.announced.bits new.made.bits c.args.reserved b
+          clearing low
           (still_stands c.args.self.now (contents_of s.pointers) c.args.reserved (b + 1) b clearing.cleared (omega arith) (c.requires.standing b low))
           made.0);
     }
 
 pub invariant_of-self : goal.invariant_of-self
-invariant_of-self g c = (c.buckets.invariant.clearing.cleared.table, c.buckets.invariant.clearing.announced)
+invariant_of-self g c = c.buckets.invariant.clearing.words
 
 pub returns-clause-rows : goal.returns-clause-rows
 returns-clause-rows g c = λ bucket low.

@@ -7,6 +7,6 @@ use Rattle.thread_local_buckets.proofs.bucket_pointers.BucketPointers.clear.Give
 abbrev pub invariant-buckets : goal.invariant-buckets
 invariant-buckets g l = record {
   low : l.last < 63;
-  clearing : AreClearing l.fn.self (contents_of l.self-inside.pointers) l.self-inside.announced.bits l.fn.reserved
-      (l.last + 1 - l.done);
+  clearing : AreClearing l.fn.self (contents_of l.self-inside.pointers) l.self-inside.announced.bits
+      l.self-inside.made.bits l.fn.reserved (l.last + 1 - l.done);
 }

@@ -5,9 +5,9 @@ use Rattle.thread_local_base.specs.Counting.{count_below}
 use Rattle.thread_local_base.specs.Walk.{walk}
 use Rattle.thread_local_base.proofs.TakingLaws.{id_at-next, count_below-zero, count_below-absent, count_below-fits}
 use Rattle.thread_local_buckets.proofs.Counting.{counted_at_first, counted_fits, counted_all, IsCounted}
-use Rattle.thread_local_buckets.specs.Announced.{Announces, AreAhead}
+use Rattle.thread_local_buckets.specs.Announced.{Announces, AreAhead, HasNone}
 use Rattle.thread_local_buckets.specs.Counted.{counted_to}
-use Rattle.thread_local_buckets.proofs.Passing.{AreAhead-further}
+use Rattle.thread_local_buckets.proofs.Passing.{AreAhead-behind}
 use Rattle.std.specs.Int.{w64, bit_not}
 use Rattle.thread_local_buckets.proofs.bucket_pointers.BucketPointers.count_values.Goals as goal
 use Rattle.thread_local_buckets.proofs.bucket_pointers.BucketPointers.count_values.Goals.{then-stands, else-stands}
@@ -66,7 +66,7 @@ are_counted : {V : Type 0} (c : Contents V) (announced count bucket : ℕ) → A
 are_counted c announced count bucket told last counted = record {
   from = 7;
   low = omega arith;
-  ahead = AreAhead-further c announced told;
+  ahead = AreAhead-behind (HasNone c) announced 7 (omega arith) told.holding;
   summed = counted ∙ ap (λ (b : ℕ). count_below (values c) (id_at b 0)) last;
 }
 
@@ -99,7 +99,7 @@ count_further-requires g c =
       lit< tt,
       subst
           (λ (w : Contents g.row.T.Denot).
-          (c.loop-bucket.count ≡ count_below (values w) (id_at 7 0)) × AreAhead w (bit_and c.args.announced (bit_not w64 127)) 7)
+          (c.loop-bucket.count ≡ count_below (values w) (id_at 7 0)) × AreAhead (HasNone w) (bit_and c.args.announced (bit_not w64 127)) 7)
           (sym kept.same)
-          (counted, AreAhead-further c.args.self.now c.args.announced c.requires.announced),
+          (counted, AreAhead-behind (HasNone c.args.self.now) c.args.announced 7 (omega arith) c.requires.announced.holding),
     )

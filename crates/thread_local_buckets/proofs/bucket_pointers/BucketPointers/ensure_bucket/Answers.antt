@@ -1,14 +1,14 @@
 use Rattle.std.specs.Prelude.{OnErr}
 use Rattle.std.proofs.Common.{◌≡◌, ◌∙◌, ◌*◌, ◌^◌, ◌%◌, ℕ, bit_or, List, Option, Result, Ok, Err, length, inr, sym, ap, subst, arith, pow_pos}
-use Rattle.std.proofs.lemmas.Bool.{cond-true, cond-false}
+use Rattle.std.proofs.lemmas.Bool.{cond-true, cond-false, false≢true}
 use Rattle.std.proofs.lemmas.Result.{IfOk-from_err}
 use Rattle.thread_local_base.specs.Buckets.{Contents, row, stands}
 use Rattle.thread_local_base.specs.Rows.{with_row, empty_row}
-use Rattle.thread_local_base.proofs.RowLaws.{length-empty_row}
+use Rattle.thread_local_base.proofs.RowLaws.{length-empty_row, slot-empty_row}
 use Rattle.thread_local_base.proofs.StandingLaws.{row-absent}
 use Rattle.thread_local_buckets.specs.Slots.{empty_slots}
 use Rattle.thread_local_buckets.specs.Pointers.{contents_of}
-use Rattle.thread_local_buckets.proofs.Announcing.{IsAnnounced, IsAnnounced-laid}
+use Rattle.thread_local_buckets.proofs.Announcing.{IsAnnounced, IsAnnounced-with_row, IsAnnounced-made, and_bit, bit_added, in_neither}
 use Rattle.thread_local_buckets.proofs.ContentsOf.{row_changes, row_seen}
 use Rattle.thread_local_buckets.proofs.bucket_pointers.BucketPointers.ensure_bucket.Goals as goal
 
@@ -56,10 +56,13 @@ invariant_of-self g c =
     let b : ℕ = c.args.bucket in
     let made = new_row c.in_ok-block.block.slots c.bucket_size.result b c.in_ok-block.ensures.1 c.bucket_size.ensures in
     let s = c.self.inside.pointers in
-    let word : ℕ = c.self.inside.announced.bits in
-    subst (λ (z : Contents g.row.T.Denot). IsAnnounced (bit_or word (1 * 2 ^ b % 2 ^ 64)) z)
+    let announced : ℕ = c.self.inside.announced.bits in
+    let word : ℕ = c.self.inside.made.bits in
+    subst (λ (z : Contents g.row.T.Denot). IsAnnounced announced (and_bit word b) z)
     (sym (row_changes s b c.lay.new.self (empty_row b) (c.lay.ensures ∙ made)))
-    (IsAnnounced-laid word (contents_of s) b (empty_row b) c.requires (inr (length-empty_row _ b)) c.self.invariant)
+    (IsAnnounced-with_row announced (and_bit word b) (contents_of s) b (empty_row b) (inr (length-empty_row _ b)) (slot-empty_row _ b)
+    (λ out. absurd (false≢true (sym (in_neither announced (and_bit word b) b out).1 ∙ bit_added word b c.requires)))
+    (IsAnnounced-made announced word (contents_of s) b c.requires c.self.invariant))
 
 pub returns : goal.returns
 returns g c =

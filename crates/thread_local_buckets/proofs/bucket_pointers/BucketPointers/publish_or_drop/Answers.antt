@@ -1,6 +1,6 @@
 use Rattle.std.proofs.Common.{◌≡◌, ◌∙◌, ◌/◌, ◌%◌, ◌^◌, ◌<◌, ℕ, bit_and, [], List, Option, None, Some, IsSome, length, refl, sym, ap, subst}
 use Rattle.std.specs.Prelude.{slice_index_or, slice_set, unwrap_or}
-use Rattle.std.proofs.lemmas.Bool.{eq-eqb, ne_eqb}
+use Rattle.std.proofs.lemmas.Bool.{eq-eqb, ne_eqb, false≢true}
 use Rattle.std.proofs.lemmas.List.{set-get_or}
 use Rattle.thread_local_base.specs.Buckets.{Contents, row}
 use Rattle.thread_local_base.specs.Rows.{value_in, with_slot}
@@ -9,7 +9,7 @@ use Rattle.thread_local_base.proofs.Word.{set_bit, place_below}
 use Rattle.thread_local_buckets.specs.Pointers.{contents_of}
 use Rattle.thread_local_buckets.specs.Slots.{flag_word_at}
 use Rattle.thread_local_buckets.specs.contracts.bucket_pointers.BucketPointers.publish_or_drop.{T-row}
-use Rattle.thread_local_buckets.proofs.Announcing.{IsAnnounced, IsAnnounced-with_slot}
+use Rattle.thread_local_buckets.proofs.Announcing.{IsAnnounced, IsAnnounced-with_slot, IsAnnounced-announced, and_bit, bit_added}
 use Rattle.thread_local_buckets.proofs.ChunkFlags.{HasFlags, flag_read, flags_changed}
 use Rattle.thread_local_buckets.proofs.ContentsOf.{size_of_pointer, slot_changes, row_seen}
 use Rattle.thread_local_buckets.proofs.bucket_pointers.BucketPointers.publish_or_drop.Goals as goal
@@ -54,9 +54,14 @@ invariant_of-self g c =
     let changed =
     slot_changes s c.args.thread.bucket c.pointer_mut.result.now c.publish_and_store.new.self
     c.args.thread.index (Some c.args.value) c.pointer_mut.ensures.value c.publish_and_store.ensures in
-    subst (λ (z : Contents g.row.T.Denot). IsAnnounced c.self.inside.announced.bits z) (sym changed)
-    (IsAnnounced-with_slot c.self.inside.announced.bits (contents_of s) c.args.thread.bucket c.args.thread.index
-    (Some c.args.value) c.self.invariant)
+    let b : ℕ = c.args.thread.bucket in
+    let announced : ℕ = c.self.inside.announced.bits in
+    let made : ℕ = c.self.inside.made.bits in
+    let low : b < 63 = c.args.thread.in_table in
+    subst (λ (z : Contents g.row.T.Denot). IsAnnounced (and_bit announced b) made z) (sym changed)
+    (IsAnnounced-with_slot (and_bit announced b) made (contents_of s) b c.args.thread.index (Some c.args.value)
+    (λ _ out. absurd (false≢true (sym out ∙ bit_added announced b low)))
+    (IsAnnounced-announced announced made (contents_of s) b low c.self.invariant))
 
 pub returns-then-flags-thread-ne1 : goal.returns-then-flags-thread-ne1
 returns-then-flags-thread-ne1 g c =

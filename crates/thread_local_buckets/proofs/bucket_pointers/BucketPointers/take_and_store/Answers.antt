@@ -1,5 +1,5 @@
 use Rattle.std.specs.Prelude.{◌/◌, ◌*◌, ◌+◌, ◌<◌, ℕ, slice_index_or, IsSome}
-use Rattle.std.proofs.Common.{◌≡◌, sym, ap, ◌∙◌, subst, List, Option, None, is_some, length, set, arith}
+use Rattle.std.proofs.Common.{◌≡◌, refl, sym, ap, ◌∙◌, subst, List, Option, None, is_some, length, set, arith}
 use Rattle.thread_local_base.specs.Buckets.{Contents, IsTable, row}
 use Rattle.thread_local_base.specs.Rows.{with_slot}
 use Rattle.thread_local_base.proofs.RowLaws.{row-with_row-same}
@@ -16,8 +16,9 @@ invariant_of-self g c =
     let changed =
     slot_changes s c.args.bucket c.pointer_mut.result.now c.take_and_store.new.self c.args.index
     None c.pointer_mut.ensures.value c.take_and_store.ensures.after in
-    subst (λ (z : Contents g.row.T.Denot). IsAnnounced c.self.inside.announced.bits z) (sym changed)
-    (IsAnnounced-with_slot c.self.inside.announced.bits (contents_of s) c.args.bucket c.args.index None c.self.invariant)
+    subst (λ (z : Contents g.row.T.Denot). IsAnnounced c.self.inside.announced.bits c.self.inside.made.bits z) (sym changed)
+    (IsAnnounced-with_slot c.self.inside.announced.bits c.self.inside.made.bits (contents_of s) c.args.bucket c.args.index None (λ _ _. refl)
+    c.self.invariant)
 
 -- The search for these takes seconds.
 pub take_and_store-requires : goal.take_and_store-requires

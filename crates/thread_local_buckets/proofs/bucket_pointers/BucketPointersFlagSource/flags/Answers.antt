@@ -25,7 +25,7 @@ flags-requires-clause-in_block g c =
 
 pub invariant_of-self : goal.invariant_of-self
 invariant_of-self g c =
-    subst (λ (z : Contents g.row.T.Denot). IsAnnounced c.self.inside.announced.bits z)
+    subst (λ (z : Contents g.row.T.Denot). IsAnnounced c.self.inside.announced.bits c.self.inside.made.bits z)
     (sym (contents_stay c.self.inside.pointers c.args.bucket c.flags.new.self
     (c.flags.ensures.same ∙ c.pointer_mut.ensures.value)))
     c.self.invariant

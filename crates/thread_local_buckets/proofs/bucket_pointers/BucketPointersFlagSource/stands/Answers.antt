@@ -11,7 +11,7 @@ use Rattle.thread_local_buckets.proofs.bucket_pointers.BucketPointersFlagSource.
 -- The search for these takes seconds.
 pub invariant_of-self : goal.invariant_of-self
 invariant_of-self g c =
-    subst (λ (z : Contents g.row.T.Denot). IsAnnounced c.self.inside.announced.bits z)
+    subst (λ (z : Contents g.row.T.Denot). IsAnnounced c.self.inside.announced.bits c.self.inside.made.bits z)
     (sym (contents_stay c.self.inside.pointers c.args.bucket c.stands.new.self
     (c.stands.ensures.same ∙ c.pointer_mut.ensures.value)))
     c.self.invariant

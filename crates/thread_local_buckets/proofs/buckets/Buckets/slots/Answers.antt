@@ -1,16 +1,16 @@
 use Rattle.std.proofs.Common.{◌≡◌, ◌+◌, refl, sym, ◌∙◌, ap, subst, arith}
 use Rattle.thread_local_base.specs.Buckets.{Contents, stands, slots}
 use Rattle.thread_local_base.specs.Owned.{Owned, IsOwned}
-use Rattle.thread_local_buckets.specs.Announced.{Announces}
+use Rattle.thread_local_buckets.specs.Announced.{Covers}
 use Rattle.thread_local_buckets.proofs.AddingSlots.{added_none, added_more, added_absent, added_fits, added_all}
 use Rattle.thread_local_buckets.proofs.Reserving.{few_reserved}
 use Rattle.thread_local_buckets.proofs.buckets.Buckets.slots.Goals as goal
 
 pub buckets-init : goal.buckets-init
-buckets-init g c = let word = c.announced-left in record {
+buckets-init g c = let word = c.standing-left in record {
   added =
       added_none word.new.self word.result
-      (subst (λ (w : Contents g.row.T.Denot). Announces word.result w) (sym word.ensures.same) word.ensures.announced);
+      (subst (λ (w : Contents g.row.T.Denot). Covers word.result w) (sym word.ensures.same) word.ensures.covers);
   same = refl;
   reserved = refl;
 }
@@ -21,7 +21,7 @@ buckets-preserved-then-stands g c =
     let bucket = c.take_first_bucket-bucket in
     record {
       added =
-          added_more c.announced-left.new.self _ c.buckets.slots bucket.result.1 c.buckets.left bucket.new.left
+          added_more c.standing-left.new.self _ c.buckets.slots bucket.result.1 c.buckets.left bucket.new.left
           bucket.result.0 kept.added bucket.ensures.first bucket.ensures.rest kept.same
           (sym c.stands.ensures.value ∙ c.if-stands.true) bucket.ensures.size;
       same = c.stands.ensures.same ∙ kept.same;
@@ -33,8 +33,8 @@ overflow_add-slots g c =
     let kept = c.buckets.invariant in
     let bucket = c.take_first_bucket-bucket in
     let fits =
-    added_fits c.announced-left.new.self bucket.new.left (c.buckets.slots + bucket.result.1)
-    (added_more c.announced-left.new.self _ c.buckets.slots bucket.result.1 c.buckets.left bucket.new.left
+    added_fits c.standing-left.new.self bucket.new.left (c.buckets.slots + bucket.result.1)
+    (added_more c.standing-left.new.self _ c.buckets.slots bucket.result.1 c.buckets.left bucket.new.left
     bucket.result.0 kept.added bucket.ensures.first bucket.ensures.rest kept.same
     (sym c.stands.ensures.value ∙ c.if-stands.true) bucket.ensures.size) in
     omega (arith, fits)
@@ -45,7 +45,7 @@ buckets-preserved g c =
     let bucket = c.take_first_bucket-bucket in
     record {
       added =
-          added_absent c.announced-left.new.self _ c.buckets.slots c.buckets.left bucket.new.left bucket.result.0 kept.added
+          added_absent c.standing-left.new.self _ c.buckets.slots c.buckets.left bucket.new.left bucket.result.0 kept.added
           bucket.ensures.first bucket.ensures.rest kept.same (sym c.stands.ensures.value ∙ c.if-stands.false);
       same = c.stands.ensures.same ∙ kept.same;
       reserved = kept.reserved;
@@ -56,7 +56,7 @@ same_buckets : (g : _) (c : goal.After-buckets g)
     → ◌≡◌ {A = Owned g.row.T.Denot} (record { contents = c.buckets.self-inside.pointers; reserved = c.buckets.self-inside.reserved })
     (record { contents = c.self.inside.pointers; reserved = c.self.inside.reserved })
 same_buckets g c = λ i. record {
-  contents = (c.buckets.invariant.same ∙ c.announced-left.ensures.same) i;
+  contents = (c.buckets.invariant.same ∙ c.standing-left.ensures.same) i;
   reserved = c.buckets.invariant.reserved i;
 }
 
@@ -66,8 +66,8 @@ invariant_of-self g c = subst (λ (o : Owned g.row.T.Denot). IsOwned o) (sym (sa
 pub returns : goal.returns
 returns g c =
     let value =
-    added_all c.announced-left.new.self c.buckets.left c.buckets.slots c.buckets.invariant.added c.buckets-test.false
-    ∙ ap (λ (w : Contents g.row.T.Denot). slots (stands w)) c.announced-left.ensures.same in
+    added_all c.standing-left.new.self c.buckets.left c.buckets.slots c.buckets.invariant.added c.buckets-test.false
+    ∙ ap (λ (w : Contents g.row.T.Denot). slots (stands w)) c.standing-left.ensures.same in
     let few = few_reserved (record { contents = c.self.inside.pointers; reserved = c.self.inside.reserved }) c.self.invariant in
     let same = ap (λ (o : Owned _). o.reserved) c.self.view_is in
     record {

@@ -8,7 +8,7 @@ use Rattle.thread_local_base.specs.Buckets.{Contents, values}
 use Rattle.thread_local_base.specs.Owner.{NoneBelow}
 use Rattle.thread_local_base.specs.Walk.{walk}
 use Rattle.thread_local_base.proofs.TakingLaws.{walk-met, id_at-next}
-use Rattle.thread_local_buckets.specs.Announced.{AreAhead}
+use Rattle.thread_local_buckets.specs.Announced.{AreAhead, HasNone}
 use Rattle.thread_local_buckets.specs.Cursor.{read_to, IsAt}
 use Rattle.thread_local_buckets.specs.declared.cursor.RawIter.{RawIter}
 use Rattle.thread_local_buckets.proofs.FlagLaws.{at_start, none_to_next}
@@ -20,7 +20,7 @@ use Rattle.thread_local_buckets.proofs.cursor.OwnerCursor.read_on.Goals.{then-ra
 -- the walk is at the first slot of a bucket, and no value stands before it
 record IsOn {V : Type 0} (contents : Contents V) (left given : ℕ) (raw : RawIter) : Type 0 where
   at : IsAt contents raw 0
-  announced : AreAhead contents left (raw.bucket + 1)
+  announced : AreAhead (HasNone contents) left (raw.bucket + 1)
   ahead : given ≤ read_to raw
 
 module _ {V : Type 0} (c : Contents V) (left given : ℕ) (raw : RawIter) (word : ℕ) (read : IsReading c left given raw word)
@@ -32,7 +32,7 @@ module _ {V : Type 0} (c : Contents V) (left given : ℕ) (raw : RawIter) (word 
       ⊎_elim
       (λ (out : left < 1).
       let end = NoneBelow-passed c (raw.bucket + 1) 63 (omega arith) (read.none nothing)
-      (λ k after near. none_ahead c left (raw.bucket + 1) read.announced (omega arith) k after near) in
+      (λ k after near. none_ahead (HasNone c) left (raw.bucket + 1) read.announced (omega arith) k after near) in
       absurd (omega (arith, some, counted, walk-met c 63 0 (omega arith) end)))
       (λ (more : 1 ≤ left). more)
       (cases_lt left 1)
@@ -41,7 +41,7 @@ module _ {V : Type 0} (c : Contents V) (left given : ℕ) (raw : RawIter) (word 
   is_on : (rest b size : ℕ) → IsLowestSet left b → IsWordBut rest left b false → size ≡ 2 ^ b
       → IsOn c rest given (record { yielded = raw.yielded; bucket = b; bucket_size = size; index = 0 })
   is_on rest b size low but is =
-      let taken = takes c left rest (raw.bucket + 1) b read.announced low but in
+      let taken = takes (HasNone c) left rest (raw.bucket + 1) b read.announced low but in
       let up : 2 ^ (raw.bucket + 1) ≤ 2 ^ b = pow_mono taken.after in
       let whole = read.at.size in
       let ahead = read.ahead in
@@ -49,20 +49,20 @@ module _ {V : Type 0} (c : Contents V) (left given : ℕ) (raw : RawIter) (word 
       let P : ℕ → Type 0 = λ s. IsOn c rest given (record { yielded = raw.yielded; bucket = b; bucket_size = s; index = 0 }) in
       subst P (sym is) record {
         at = at_start c raw b taken.in_table
-            (NoneBelow-passed c (raw.bucket + 1) b taken.after (read.none nothing) taken.absent);
+            (NoneBelow-passed c (raw.bucket + 1) b taken.after (read.none nothing) taken.passed);
         announced = taken.ahead;
         ahead = omega (arith, up, ahead, whole, next);
       }
 
 -- the walk has read flags of the bucket that it is in
-has_read : {V : Type 0} (c : Contents V) (left given bucket : ℕ) (raw : RawIter) (word : ℕ) → AreAhead c left (bucket + 1)
+has_read : {V : Type 0} (c : Contents V) (left given bucket : ℕ) (raw : RawIter) (word : ℕ) → AreAhead (HasNone c) left (bucket + 1)
     → IsAt c raw word → given ≤ read_to raw → raw.bucket ≡ bucket
     → (word ≡ 0 → NoneBelow (values c) (id_at (bucket + 1) 0))
     → IsReading c left given raw word
 has_read c left given bucket raw word announced at ahead same behind = record {
   at = at;
   ahead = ahead;
-  announced = subst (λ (b : ℕ). AreAhead c left (b + 1)) (sym same) announced;
+  announced = subst (λ (b : ℕ). AreAhead (HasNone c) left (b + 1)) (sym same) announced;
   none = λ none. subst (λ (b : ℕ). NoneBelow (values c) (id_at (b + 1) 0)) (sym same) (behind none);
 }
 
@@ -139,7 +139,7 @@ buckets-smaller g c =
     let looked = c.flags_in_bucket-flags-in-buckets in
     let kept = c.buckets.invariant in
     let taken =
-    takes (g.P.FlagSource.contents c.args.source.now) c.buckets.left first.new.left (c.buckets.raw.bucket + 1) first.result.0
+    takes (HasNone (g.P.FlagSource.contents c.args.source.now)) c.buckets.left first.new.left (c.buckets.raw.bucket + 1) first.result.0
     kept.read.announced first.ensures.first first.ensures.rest in
     omega (arith, taken.after, taken.in_table, looked.ensures.bucket)
 

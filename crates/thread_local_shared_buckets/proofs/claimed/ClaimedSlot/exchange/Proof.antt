@@ -528,7 +528,7 @@ module _ {M : Type 1} {𝓤 : Ura M} (𝓛 : Logic 𝓤) (𝓜 : Model 𝓤 𝓛
       asks : Wired 𝓡.env code.code → (l : ℕ → ℕ) → sn < 2 ^ 64 → sn ≡ state_of (found_as v) → h.at ≡ block_ptr wb wo → p ≡ new
           → x.slots ≡ with_first i v rest → x.left ≡ 0 → ix ≡ h.index
           → i * stride R < 2 ^ 64 → slot_value x.slots h.index ≡ v
-          → Seq (Go {0}) 𝓛 ((‵ (offers.private 𝓛 R t LR d x.heap v i rest many new ν names) ⊛ ‵ (grown d)
+          → Seq (Go {0}) 𝓛 ((‵ (offers.private 𝓛 R t LR d x.heap v i rest many new ν names) ⊛ ‵ (fsep (grown d) (announced d.word d.bucket))
           ⊛ ‵ (offers.Ticket 𝓛 R t LR d x.heap v i rest many h.left same))
           ∷ ‵ lasts ∷ ‵ (finv (fbor t.life (bucket_invariant R d t wb (wo + 0)))) ∷ ‵ (flft t.life s) ∷ way_back ∷ ‵ others ∷ ‵ gained
           ∷ (opened (kept_of h) ++ holding 𝓛 (Ev l) ((1, vptr rb ro) ∷ (2, vint w64 ix) ∷ (3, bv) ∷ (6, vint w64 sn) ∷ [])))

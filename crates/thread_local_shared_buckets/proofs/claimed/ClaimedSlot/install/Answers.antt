@@ -6,6 +6,7 @@ use Rattle.thread_local_base.specs.Place.{bucket_of, index_of}
 use Rattle.thread_local_buckets.specs.Slots.{slot_value, empty_slots}
 use Rattle.thread_local_ids.specs.Sharings.{Belongs}
 use Rattle.thread_local_shared_buckets.specs.declared.claimed.ClaimedSlot.{ClaimedSlot}
+use Rattle.thread_local_shared_buckets.specs.Announcing.{Announcing}
 use Rattle.thread_local_shared_buckets.specs.Known.{found_as, state_of}
 use Rattle.thread_local_shared_buckets.proofs.Fills.{holding_number}
 use Rattle.thread_local_shared_buckets.proofs.claimed.ClaimedSlot.install.Goals as goal
@@ -24,7 +25,10 @@ exchange-back-requires g c =
             (asked.others ∙ ap (λ (b : ℕ). empty_slots {X = g.row.T.Denot} (2 ^ b)) asked.place.0),
       );
       right = asked.right;
-      announced = (asked.announced.0, ◌∙◌ {A = ℕ} asked.announced.1 asked.place.0);
+      announced = (
+        ◌∙◌ {A = Announcing} c.announce-announced.ensures.0 asked.announcements.0,
+        ◌∙◌ {A = ℕ} c.announce-announced.ensures.1 asked.place.0,
+      );
       state =
           ◌∙◌ {A = ℕ} (holding_number (slot_value slots c.args.thread.index) asked.value)
           (ap (λ (i : ℕ). state_of (found_as (slot_value slots i))) asked.index);
@@ -46,6 +50,10 @@ publish_second-requires g c =
       block = (back.0 ∙ asked.block.0, back.2);
       others = ◌∙◌ {A = List (Option g.row.T.Denot)} (ap (λ (cs : List (Option g.row.T.Denot)). slice_set cs i none) back.1) asked.others;
       value = subst (λ (cs : List (Option g.row.T.Denot)). IsSome (slot_value cs i)) (sym back.1) asked.value;
+      announcements = (
+        ◌∙◌ {A = Announcing} asked.announcements.0 (sym (ap (λ (slot : ClaimedSlot g.row.T.Denot). slot.word) same)),
+        asked.announcements.1,
+      );
       sharing = subst (λ (slot : ClaimedSlot g.row.T.Denot). Belongs slot.sharing slot.table) (sym same) asked.sharing;
     }
 

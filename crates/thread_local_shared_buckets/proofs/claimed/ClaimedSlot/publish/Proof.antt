@@ -52,11 +52,16 @@ use Rattle.thread_local_shared_buckets.specs.contracts.claimed.ClaimedSlot as cl
 use Rattle.thread_local_shared_buckets.specs.contracts.claimed.ClaimedSlot.publish.{ended, clauses, Key.name as #self}
 use Rattle.thread_local_shared_buckets.proofs.ClaimSteps as steps
 use Rattle.thread_local_shared_buckets.proofs.ClaimedFields.{Kept, kept_of, value_of, FieldsType, fields_of, told, made}
-use Rattle.thread_local_shared_buckets.proofs.ClaimedFields.{number_in, distance, distance_fits, lies_ahead, leads_to_word, spaced}
+use Rattle.thread_local_shared_buckets.proofs.ClaimedFields.{number_in, distance, distance_fits, lies_ahead, lies_at, leads_to_word, spaced}
 use Rattle.thread_local_shared_buckets.proofs.ClaimedFields.{spaced_is}
 use Rattle.thread_local_shared_buckets.proofs.claimed.ClaimedSlot.publish.Statement.{statement}
 use Rattle.thread_local_shared_buckets.proofs.claimed.ClaimedSlot.publish.Code as code
 use Rattle.thread_local_base.proofs.Walking.{knows, lends_token, returns_token}
+use Rattle.thread_local_base.specs.Place.{bucket_of}
+use Rattle.thread_local_base.proofs.PlaceLaws.{place-id_at}
+use Rattle.thread_local_ids.proofs.Markers.{token, told as token_told}
+use Rattle.thread_local_shared_buckets.specs.Announcing.{Announcing, announced}
+use Rattle.thread_local_shared_buckets.specs.contracts.announcements.Announced as Announced
 use Rattle.thread_local_shared_buckets.proofs.Inside.{placed}
 
 pub publish_spec : {M : Type 1} → statement M
@@ -65,10 +70,10 @@ publish_spec 𝓤 𝓛 𝓜 𝓡 wired X L =
     let c = clauses X 𝓛 𝓜.mem 𝓡.returns in let LR = param_laws 0 X L in let inst = bounded (a_type ∷ []) (X, tt) dnil in
     let fn = inst_fn inst code.function in let closed = code.unfolded 𝓤 H 𝓜 𝓡 wired (X, tt) in
     let self = plain (λ κs. claim.the_row (named_lft 3 1 tt κs) R) in let number = plain (λ _. usize) in
-    let value = plain (λ _. R) in
+    let value = plain (λ _. R) in let shown = plain (λ _. Announced.the_row) in
     let hs : Stays En.signature.params En.kept = (
       stay_ref (0 ∷ []) tt self,
-      (stay_dropped number yes, (stay_dropped number yes, (stay_dropped value no, tt))),
+      (stay_dropped number yes, (stay_dropped number yes, (stay_dropped value no, (stay_dropped shown yes, tt)))),
     ) in
     proved_at 𝓛 En hs c 𝓜 𝓡 (
       Goes-ref 𝓛 3 0 tt self,
@@ -76,7 +81,7 @@ publish_spec 𝓤 𝓛 𝓜 𝓡 wired X L =
         Goes-dropped 𝓛 3 number yes (λ κs x f. refl),
         (
           Goes-dropped 𝓛 3 number yes (λ κs x f. refl),
-          (Goes-dropped 𝓛 3 value no (λ κs x f. refl), tt),
+          (Goes-dropped 𝓛 3 value no (λ κs x f. refl), (Goes-dropped 𝓛 3 shown yes (λ κs x f. refl), tt)),
         ),
       ),
     )
@@ -90,7 +95,7 @@ publish_spec 𝓤 𝓛 𝓜 𝓡 wired X L =
     let ro : ℕ = a.0.ref_ptr.1 in
     let ix : ℕ = a.1.0 in
     let num : ℕ = a.1.1.0 in
-    let x : X.Denot = a.1.1.1.0 in let β : Lft = κs.1.0 in let q : Share = qs.1.0 in
+    let x : X.Denot = a.1.1.1.0 in let an = a.1.1.1.1.0 in let β : Lft = κs.1.0 in let q : Share = qs.1.0 in
     let υ : Lft = κs.1.1.0 in
     let r : Share = qs.1.1.0 in let others : Fml = fsep (flft υ r) ftrue in let ℓ = named_lft 3 1 tt κs in
     let G : RattleType = claim.the_row ℓ R in let D : RattleType = FieldsType ℓ R in
@@ -98,7 +103,9 @@ publish_spec 𝓤 𝓛 𝓜 𝓡 wired X L =
     let pl : ClaimFields = claim_fields h.id i w h.at h.sharing h.word h.reserved in
     let see_index = uint_Tells w64 ix vss.1.0 are.1.0 in
     let see_number = uint_Tells w64 num vss.1.1.0 are.1.1.0 in
+    let see_shown = token_told (Announced.the_type).name vss.1.1.1.1.0 are.1.1.1.1.0.0 in
     let Of : Type 0 = Belongs h.sharing h.table in
+    let Says : Type 0 = (an.by ≡ h.word) × (an.bucket ≡ bucket_of h.id) in
     let m : Member = record { row = R; ty = layout X } in
     let got = one (layout X) vss.1.1.1.0 ((LR.lawful 𝓛).typed x vss.1.1.1.0 are.1.1.1.0) in
     let vx : Val = got.0 in
@@ -106,20 +113,22 @@ publish_spec 𝓤 𝓛 𝓜 𝓡 wired X L =
     let Run : List Val → SProp 𝓤 = λ ws. WpFn 𝓤 H 𝓣.C 𝓣.Λ fn ws Post in
     qed 𝓛 (((‵ (flft κs.0 qs.0) ⊛ ‵ (fsep (flft β q) others)) ⊛ ‵ (owns (types_at En.signature.params κs) a vss))
     ∷ raw (fact 𝓤 (Incl υ X.lives)) ∷ raw (fact 𝓤 (h.learnt ≡ Vacant)) ∷ raw (fact 𝓤 (ix ≡ i))
-    ∷ raw (fact 𝓤 (num ≡ flag_word_of R h.id)) ∷ raw (fact 𝓤 Of) ∷ []) ∵
-    move ! (1 ∷ 2 ∷ 3 ∷ 4 ∷ 5 ∷ []) $ heard ! (Incl υ X.lives) (λ alive.
+    ∷ raw (fact 𝓤 (num ≡ flag_word_of R h.id)) ∷ raw (fact 𝓤 Says) ∷ raw (fact 𝓤 Of) ∷ []) ∵
+    move ! (1 ∷ 2 ∷ 3 ∷ 4 ∷ 5 ∷ 6 ∷ []) $ heard ! (Incl υ X.lives) (λ alive.
     heard ! (h.learnt ≡ Vacant) (λ empty. heard ! (ix ≡ i) (λ is_index.
-    heard ! (num ≡ flag_word_of R h.id) (λ numbered. heard ! Of (λ belongs. split ! $ split ! $ move ! (2 ∷ []) $
+    heard ! (num ≡ flag_word_of R h.id) (λ numbered. heard ! Says (λ told_so. heard ! Of (λ belongs. split ! $ split ! $ move ! (2 ∷ []) $
     fsplit3 ! $ fsplit3 ! $
-    move ! (4 ∷ []) $ fsplit3 ! $ keep ! (4 ∷ 5 ∷ 7 ∷ 1 ∷ 8 ∷ []) $
+    move ! (4 ∷ []) $ fsplit3 ! $ move ! (2 ∷ []) $ fsplit ! $ fsplit ! $
+    -- [that it is announced, in two entries; nothing; the number; the value; the reference, in three entries; ..]
+    keep ! (6 ∷ 7 ∷ 9 ∷ 4 ∷ 10 ∷ 1 ∷ []) $
     rewrite ! 3 (λ (ws : List Val). ‵ (R.own_val x ws)) got.1 refl $
-    let us : List Val = vptr rb ro ∷ vint w64 ix ∷ vint w64 num ∷ vx ∷ [] in
+    let us : List Val = vptr rb ro ∷ vint w64 ix ∷ vint w64 num ∷ vx ∷ token ∷ [] in
     suffices ! (Run us) (subst (λ (ws : List Val). ent 𝓤 (Run us) (Run ws))
-    (sym (λ j. are.0.0 j ++ (see_index j ++ (see_number j ++ (got.1 j ++ []))))) (id⊢ 𝓤 (Run us))) $
+    (sym (λ j. are.0.0 j ++ (see_index j ++ (see_number j ++ (got.1 j ++ (see_shown j ++ [])))))) (id⊢ 𝓤 (Run us))) $
     enter ! 𝓣.C 𝓣.Λ fn us Post $ alloc_all ! (λ l.
     pass_all ! refl (
       (tt, tt),
-      ((tt, record { fits = are.1.0.1 }), ((tt, record { fits = are.1.1.0.1 }), (got.2, tt))),
+      ((tt, record { fits = are.1.0.1 }), ((tt, record { fits = are.1.1.0.1 }), (got.2, ((tt, (tt, tt)), tt)))),
     ) $
     let Ev = env fn.locals l in
     opens ! tt G rb ro (λ ts. move ! (1 ∷ []) $ fsplit ! $
@@ -235,11 +244,15 @@ publish_spec 𝓤 𝓛 𝓜 𝓡 wired X L =
     move ! (1 ∷ 4 ∷ []) $ fjoin ! $
     -- [the other tokens; the token; for walkers; for the claim; what is known, twice; the row;
     -- which block it is; vacant; what is kept]
-    move ! (8 ∷ 4 ∷ 2 ∷ []) $ fjoin3 ! $
-    -- [what is offered; the other tokens; the token; for the claim; what is known; the row; which block it is; what is kept; its
-    -- cell; the open borrow, in three entries; the note]
-    move ! (12 ∷ []) $ rewrite ! 0 (λ (n : ℕ). ‵ (note_owns n h.id h.left)) (sym of.2) refl $
-    move ! (1 ∷ 0 ∷ []) $ fjoin ! $ move ! (7 ∷ []) $ fsplit ! $
+    let same : bucket_of h.id ≡ d.bucket = ap bucket_of (lies_at R d h.id i of.3) ∙ (place-id_at d.bucket i of.4).0 in
+    move ! (15 ∷ []) $
+    rewrite ! 0 (λ (m : Announcing). ‵ (announced m an.bucket)) (told_so.0 ∙ sym of.7) refl $
+    rewrite ! 0 (λ (k : ℕ). ‵ (announced d.word k)) (told_so.1 ∙ same) refl $
+    move ! (9 ∷ 5 ∷ 3 ∷ []) $ fjoin3 ! $
+    -- [what is offered; that the bucket is announced; the other tokens; the token; for the claim; what is known; the row; which block
+    -- it is; what is kept; its cell; the open borrow, in three entries; the note]
+    move ! (13 ∷ []) $ rewrite ! 0 (λ (n : ℕ). ‵ (note_owns n h.id h.left)) (sym of.2) refl $
+    move ! (1 ∷ 0 ∷ []) $ fjoin ! $ move ! (1 ∷ 0 ∷ []) $ fjoin ! $ move ! (7 ∷ []) $ fsplit ! $
     use1 𝓛 (‵ (before β t.life) ⊛ ‵ (before β t.life)) (before_dup 𝓛 β t.life) $ split ! $
     move ! (2 ∷ []) $ use1 𝓛 (‵ (finv J) ⊛ ‵ (finv J)) (𝓛.invs.inv_dup J) $ split ! $
     move ! (2 ∷ 0 ∷ []) $ fjoin ! $
@@ -312,11 +325,12 @@ publish_spec 𝓤 𝓛 𝓜 𝓡 wired X L =
     } in
     move ! (3 ∷ 0 ∷ 4 ∷ 5 ∷ 6 ∷ []) $ closes ! tt G made_claim (value_of k ∷ []) rb ro $
     feq_i ! (List Val) vss.0 (vptr rb ro ∷ []) are.0.0 $ fjoin3 ! $
-    nothing ! $ nothing ! $ fjoin ! $ nothing ! $ fjoin ! $ nothing ! $ fjoin ! $ move ! (1 ∷ 0 ∷ []) $ fjoin ! $
+    nothing ! $ nothing ! $ fjoin ! $ nothing ! $ fjoin ! $ nothing ! $ fjoin ! $ nothing ! $ fjoin ! $
+    move ! (1 ∷ 0 ∷ []) $ fjoin ! $
     -- [what is left of the parameters; the reference's token; the token; the other tokens]
     move ! (2 ∷ 3 ∷ []) $ fjoin ! $ move ! (2 ∷ 0 ∷ []) $ join ! $
     knows ! (F made_claim) refl $
     feq_i ! _ (vunit ∷ []) _ refl $
     returns ! (look_at ! 0 refl) $ free_all ! refl $ keep ! (2 ∷ 3 ∷ 0 ∷ 1 ∷ []) $
-    by ! (leaves 𝓛 En hs c y vunit tt (made_claim, (tt, (tt, (tt, tt))))
-    (tt, (tt, (tt, (tt, tt)))))))))))))))))))))))))
+    by ! (leaves 𝓛 En hs c y vunit tt (made_claim, (tt, (tt, (tt, (tt, tt)))))
+    (tt, (tt, (tt, (tt, (tt, tt)))))))))))))))))))))))))))

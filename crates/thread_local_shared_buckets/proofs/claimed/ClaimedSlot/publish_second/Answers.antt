@@ -1,8 +1,9 @@
 -- The search for these takes seconds.
-use Rattle.std.proofs.Common.{◌∙◌, Option, ap, sym, refl}
+use Rattle.std.proofs.Common.{◌∙◌, ℕ, Option, ap, sym, refl}
 use denote.Param.{param}
 use Rattle.thread_local_base.specs.Learnt.{Learnt}
 use Rattle.thread_local_shared_buckets.specs.declared.claimed.ClaimedSlot.{ClaimedSlot}
+use Rattle.thread_local_shared_buckets.specs.Announcing.{Announcing}
 use Rattle.thread_local_shared_buckets.specs.Known.{found_as}
 use Rattle.thread_local_shared_buckets.proofs.IdLaws.{word_there}
 use Rattle.thread_local_shared_buckets.proofs.claimed.ClaimedSlot.publish_second.Goals as goal
@@ -15,8 +16,12 @@ publish-requires g c =
       vacant = asked.vacant;
       index = asked.index;
       flag_word =
-          word_there (param 0 g.row.T) c.flag_word_of.result id id c.args.thread.bucket c.args.thread.index c.flag_word_of.ensures refl
+          word_there (param 0 g.row.T) c.flag_word_of-flag_word.result id id c.args.thread.bucket c.args.thread.index c.flag_word_of-flag_word.ensures refl
           asked.place.0 asked.place.1;
+      announced = (
+        ◌∙◌ {A = Announcing} c.announce-again.ensures.0 asked.announcements.0,
+        ◌∙◌ {A = ℕ} c.announce-again.ensures.1 asked.place.0,
+      );
       sharing = asked.sharing;
     }
 

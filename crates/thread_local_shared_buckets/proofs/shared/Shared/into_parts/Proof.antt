@@ -58,7 +58,7 @@ into_parts_spec 𝓤 𝓛 𝓜 𝓡 wired T L =
     let known = are.0.1 in
     let fields = known.1.0 in
     let there = fields.1.1.0 in
-    let v : Val = vstruct (of_list (there.0.0 ++ (there.0.1.0 ++ (there.0.1.1.0 ++ [])))) in let u : Val = vint w64 known.0.0.reserved in
+    let v : Val = vstruct (of_list (there.0.0 ++ (there.0.1.0 ++ (there.0.1.1.0 ++ (there.0.1.1.1.0 ++ []))))) in let u : Val = vint w64 known.0.0.reserved in
     let V : Val = vstruct (vcons v (vcons u vnil)) in
     let whole_is : vs ≡ V ∷ [] = fields.1.0 ∙ (λ i. vstruct (of_list (there.1.0 i ++ (fields.1.1.1.0.0 i ++ []))) ∷ []) in
     let typed : Typed Sh.mir (V ∷ []) = subst (Typed Sh.mir) whole_is are.0.0.0 in
