@@ -1,17 +1,20 @@
--- Only the step for it announces a bucket, its own, and no event takes that back.
+-- Only the step for it announces a bucket, its own, and no event takes that back. A bucket is
+-- announced before a value is published in it.
 use Rattle.std.proofs.Common.{◌≡◌, ℕ, ◌⊎◌, inl, inr, Bool, true, false, cond, Option, Some, None, Result, Ok, Err}
-use Rattle.std.proofs.Common.{IsTrue, IfSome, IsSomeAnd, refl, ap, sym, ◌∙◌, subst, ⊎_elim}
+use Rattle.std.proofs.Common.{IsTrue, IfSome, IsSomeAnd, refl, ap, sym, ◌∙◌, ⊎_elim}
 use Rattle.std.specs.Prelude.{unwrap_or}
-use Rattle.std.proofs.lemmas.Bool.{false≢true, cond_both, cases_eq, ne_eqb}
+use Rattle.std.proofs.lemmas.Bool.{false≢true, false_from_ne_true, cond_both, cases_eq, ne_eqb}
+use Rattle.std.proofs.lemmas.Option.{none-some}
 use Rattle.thread_local_base.specs.Place.{bucket_of}
 use Rattle.thread_local_base.specs.Held.{is_granted}
+use Rattle.thread_local_base.specs.Capacity.{reserves_bucket}
 use Rattle.thread_local_base.specs.Learnt.{Learnt, learnt_by_load, learnt_by_look, learnt_by_publish}
 use Rattle.thread_local_base.specs.Answers.{Answered, GetOr}
 use Rattle.thread_local_schedule.specs.Table.{Table, published, bucket_stands, with_announced, with_flag}
 use Rattle.thread_local_schedule.specs.Local.{Local, LocalStep, local_step, Gets, BeginGet, BeginGetOr, LoadPointer}
 use Rattle.thread_local_schedule.specs.Local.{LookAtFlag, MakeBucket, FillBucket, AnnounceBucket, InstallBucket, WriteValue, SetFlag, Reply}
 use Rattle.thread_local_schedule.specs.Local.{doing_with_get, doing_with_get_or, begin_call, may_look, learns, closure_at_missing}
-use Rattle.thread_local_schedule.specs.Local.{make_bucket, empty_bucket, fill_bucket, unannounced_bucket, announce_bucket, filled_bucket}
+use Rattle.thread_local_schedule.specs.Local.{make_bucket, empty_bucket, fill_bucket, doing_announced, announce_bucket, filled_bucket}
 use Rattle.thread_local_schedule.specs.Local.{install_bucket, closure_at_vacant, write_value, value_written, set_flag, after_call}
 use Rattle.thread_local_schedule.specs.Local.{ending_of, reply}
 use Rattle.thread_local_schedule.specs.SharedWalk.{walk_step}
@@ -23,11 +26,12 @@ use Rattle.thread_local_schedule.specs.Events.{take_id, with_step, is_idle, with
 use Rattle.thread_local_schedule.specs.Events.{after_owner, step_of, step, happens}
 use Rattle.thread_local_schedule.proofs.CallsLaws.{whatever_is_learnt, either_install}
 use Rattle.thread_local_schedule.proofs.TableLaws.{announced-with_announced, announced-more, announced-with_fresh_bucket}
-use Rattle.thread_local_schedule.proofs.TableLaws.{announced-with_filled_bucket, announced-with_table_slot}
+use Rattle.thread_local_schedule.proofs.TableLaws.{announced-with_filled_bucket, announced-with_table_slot, published-slot_at, slot_at-with_announced}
 use Rattle.thread_local_schedule.proofs.OwnerLaws.{announced-rewritten}
 use Rattle.thread_local_schedule.proofs.ClearedLaws.{announced-cleared, announced-drained}
-use Rattle.thread_local_schedule.proofs.OptionLaws.{if_enabled, if_mapped, if_there, if_then, unwrapped}
+use Rattle.thread_local_schedule.proofs.OptionLaws.{if_enabled, if_mapped, if_there, if_then, some_and, unwrapped}
 use Rattle.thread_local_schedule.proofs.Kept.{happens-fits}
+use Rattle.thread_local_schedule.proofs.PeakLaws.{capacity_stays}
 use Rattle.thread_local_schedule.proofs.Installs.{event_installs}
 
 -- a step leaves which buckets are announced, or announces its own
@@ -70,7 +74,7 @@ step-announces {V} {E} table local FillBucket =
     if_there (λ after. Announces FillBucket table local.id after.0) (fill_bucket table local) (empty_bucket local.doing) (λ own _. inl refl)
 step-announces {V} {E} table local AnnounceBucket =
     if_there (λ after. Announces AnnounceBucket table local.id after.0) (announce_bucket table local)
-    (unannounced_bucket local.doing) (λ own _. inr (refl, refl))
+    (doing_announced local.doing) (λ doing _. inr (refl, refl))
 step-announces {V} {E} table local InstallBucket =
     if_then (λ after. Announces InstallBucket table local.id after.0) (install_bucket table local)
     (filled_bucket local.doing) (λ own _.
@@ -92,10 +96,10 @@ step-announces {V} {E} table local Reply =
 
 -- an event leaves which buckets are announced, or is the step of a Local that announces its bucket
 abbrev EventAnnounces : {V E : Type 0} → Core V E → Event V E → Core V E → Type 0
-EventAnnounces core event after =
+EventAnnounces {V} {E} core event after =
     (after.table.announced ≡ core.table.announced)
     ⊎ ((n : ℕ) × (event ≡ OfLocal n AnnounceBucket)
-    × IsSomeAnd (core.locals n) (λ local. after.table ≡ with_announced core.table (bucket_of local.id)))
+    × (local : Local V E) × (core.locals n ≡ Some local) × (after.table ≡ with_announced core.table (bucket_of local.id)))
 
 owner-announces : {V E : Type 0} (core : Core V E) (call : OwnerCall V)
     → (after_owner core call).table.announced ≡ core.table.announced
@@ -114,15 +118,7 @@ step_of-announces core (OfLocal number it) =
     if_then (EventAnnounces core (OfLocal number it)) _ (core.locals number) (λ local at.
     if_mapped (EventAnnounces core (OfLocal number it)) (with_step core number)
     (local_step core.table local it) (step-announces core.table local it)
-    (λ after s.
-    ⊎_elim
-    (λ same. inl same)
-    (λ own. inr (
-      number,
-      ap (OfLocal number) own.0,
-      subst (λ o. IsSomeAnd o (λ local. after.0 ≡ with_announced core.table (bucket_of local.id))) (sym at) own.1,
-    ))
-    s))
+    (λ after s. ⊎_elim (λ same. inl same) (λ own. inr (number, ap (OfLocal number) own.0, local, at, own.1)) s))
 step_of-announces core (GiveBack number) =
     if_then (EventAnnounces core (GiveBack number)) _ (core.locals number) (λ local at.
     if_enabled (EventAnnounces core (GiveBack number)) (is_idle local.doing) (with_id_given core number local.id) (inl refl))
@@ -146,13 +142,10 @@ event_announces core event =
     (λ _. unwrapped (EventAnnounces core event) (step_of core event) core (step_of-announces core event) (inl refl))
 
 -- what is announced by it
-own_announced : {V E : Type 0} (table after : Table V) (bucket : ℕ) (o : Option (Local V E)) → table.announced bucket ≡ false
-    → IsTrue (after.announced bucket)
-    → IsSomeAnd o (λ local. after ≡ with_announced table (bucket_of local.id))
-    → IsSomeAnd o (λ local. bucket_of local.id ≡ bucket)
-own_announced table after bucket None none t e = e
-own_announced table after bucket (Some local) none t e =
-    let own = bucket_of local.id in
+own_announced : {V : Type 0} (table after : Table V) (bucket own : ℕ) → table.announced bucket ≡ false
+    → IsTrue (after.announced bucket) → after ≡ with_announced table own
+    → own ≡ bucket
+own_announced table after bucket own none t e =
     ⊎_elim
     (λ same. same)
     (λ apart.
@@ -170,23 +163,20 @@ pub announced_by : {V E : Type 0} (core : Core V E) (event : Event V E) (bucket 
 announced_by core event bucket none t =
     ⊎_elim
     (λ same. absurd (false≢true (sym none ∙ sym (ap (λ f. f bucket) same) ∙ t)))
-    (λ own. (own.0, own.1, own_announced core.table (happens core event).table bucket (core.locals own.0) none t own.2))
+    (λ own.
+    let local = own.2 in
+    let here = own_announced core.table (happens core event).table bucket (bucket_of local.id) none t own.4 in
+    (own.0, own.1, some_and (core.locals own.0) local (λ it. bucket_of it.id ≡ bucket) own.3 here))
     (event_announces core event)
 
 -- a bucket that is announced stays so
-kept_by : {V E : Type 0} (table after : Table V) (bucket : ℕ) (o : Option (Local V E)) → IsTrue (table.announced bucket)
-    → IsSomeAnd o (λ local. after ≡ with_announced table (bucket_of local.id))
-    → IsTrue (after.announced bucket)
-kept_by table after bucket None t e = absurd e
-kept_by table after bucket (Some local) t e = ap (λ new. new.announced bucket) e ∙ announced-more table (bucket_of local.id) bucket t
-
 pub stays_announced : {V E : Type 0} (core : Core V E) (event : Event V E) (bucket : ℕ)
     → IsTrue (core.table.announced bucket)
     → IsTrue ((happens core event).table.announced bucket)
 stays_announced core event bucket t =
     ⊎_elim
     (λ same. ap (λ f. f bucket) same ∙ t)
-    (λ own. kept_by core.table (happens core event).table bucket (core.locals own.0) t own.2)
+    (λ own. let local = own.2 in ap (λ new. new.announced bucket) own.4 ∙ announced-more core.table (bucket_of local.id) bucket t)
     (event_announces core event)
 
 -- a bucket that comes to stand was announced before
@@ -195,8 +185,27 @@ pub announced_before : {V E : Type 0} (core : Core V E) (event : Event V E) (buc
     → IsTrue (bucket_stands (happens core event).table bucket)
     → IsTrue (core.table.announced bucket)
 announced_before core event bucket h none t =
-    let later = (happens-fits core event h).table.announced bucket t in
+    let later = happens-fits core event h in
     ⊎_elim
-    (λ same. sym (ap (λ f. f bucket) same) ∙ later)
+    (λ same.
+    sym (ap (λ f. f bucket) same)
+    ∙ later.table.standing_announced bucket t
+    (ap (λ c. reserves_bucket c bucket) (capacity_stays core event h)
+    ∙ false_from_ne_true (reserves_bucket core.capacity bucket) (λ r. false≢true (sym none ∙ h.table.reserved bucket r))))
     (λ own. let other = (event_installs core event bucket none t).1 in let it = own.1 in absurd cc)
+    (event_announces core event)
+
+-- and so was the bucket of a value that comes to be published
+pub announced_first : {V E : Type 0} (core : Core V E) (event : Event V E) (id : ℕ) (v : V) → CoreFits core
+    → published core.table id ≡ None
+    → published (happens core event).table id ≡ Some v
+    → IsTrue (core.table.announced (bucket_of id))
+announced_first core event id v h none some =
+    ⊎_elim
+    (λ same. sym (ap (λ f. f (bucket_of id)) same) ∙ (happens-fits core event h).table.announced id v some)
+    (λ own.
+    let local = own.2 in
+    let after = with_announced core.table (bucket_of local.id) in
+    let stays = published-slot_at core.table after id (slot_at-with_announced core.table (bucket_of local.id) id) in
+    absurd (none-some v (sym none ∙ sym stays ∙ sym (ap (λ new. published new id) own.4) ∙ some)))
     (event_announces core event)

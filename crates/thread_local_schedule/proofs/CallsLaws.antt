@@ -13,7 +13,7 @@ use Rattle.thread_local_schedule.specs.Local.{write_value, set_flag, reply, loca
 use Rattle.thread_local_schedule.specs.Local.{LoadPointer, LookAtFlag, MakeBucket, FillBucket, AnnounceBucket, InstallBucket}
 use Rattle.thread_local_schedule.specs.Local.{WriteValue, SetFlag}
 use Rattle.thread_local_schedule.specs.Local.{Reply, doing_with_get, doing_with_get_or, begin_call, closure_at_missing}
-use Rattle.thread_local_schedule.specs.Local.{closure_at_vacant, ending_of, empty_bucket, unannounced_bucket, filled_bucket, value_written}
+use Rattle.thread_local_schedule.specs.Local.{closure_at_vacant, ending_of, empty_bucket, doing_announced, filled_bucket, value_written}
 use Rattle.std.specs.Prelude.{option_map, option_and_then}
 use Rattle.std.proofs.lemmas.Bool.{cond_both}
 use Rattle.thread_local_schedule.specs.Calls.{gets_of, closure_of, CallsStay, PublishingEnds, CallsGo, GoesOn}
@@ -129,10 +129,13 @@ fill_bucket-goes table local (Private create number) e =
 fill_bucket-goes table local _ e = tt
 
 announce_bucket-goes : {V E : Type 0} (table : Table V) (local : Local V E) (doing : Doing V E) → local.doing ≡ doing
-    → IfSome (option_map (announce_bucket table local) (unannounced_bucket doing)) (λ after. GoesOn AnnounceBucket local after.1)
+    → IfSome (option_map (announce_bucket table local) (doing_announced doing)) (λ after. GoesOn AnnounceBucket local after.1)
 announce_bucket-goes table local (Filled create number false) e =
     goes AnnounceBucket local local.learnt (Filled create number true)
     (stay local local.learnt (Filled create number true) (sym (ap gets_of e)) (sym (ap closure_of e)))
+announce_bucket-goes table local (Written v false) e =
+    goes AnnounceBucket local local.learnt (Written v true)
+    (stay local local.learnt (Written v true) (sym (ap gets_of e)) (sym (ap closure_of e)))
 announce_bucket-goes table local _ e = tt
 
 -- What holds of an install where a bucket stands, where none does and the call's own has a value, and
@@ -192,14 +195,15 @@ install_bucket-goes table local _ e = tt
 write_value-goes : {V E : Type 0} (table : Table V) (local : Local V E) (doing : Doing V E) (learnt : Learnt V) → local.doing ≡ doing
     → IfSome (option_map (write_value table local) (closure_at_vacant doing learnt)) (λ after. GoesOn WriteValue local after.1)
 write_value-goes table local (Started (Ok v)) Vacant e =
-    goes WriteValue local Vacant (Written v) (inl (stay local Vacant (Written v) (sym (ap gets_of e)) (sym (ap closure_of e))))
+    let wrote = Written v (table.announced (bucket_of local.id)) in
+    goes WriteValue local Vacant wrote (inl (stay local Vacant wrote (sym (ap gets_of e)) (sym (ap closure_of e))))
 write_value-goes table local (Started (Err x)) Vacant e =
     record { id = refl; start = refl; calls = inr (publishing_ends local (Err x) false _ Vacant (ap gets_of e) (ap closure_of e)) }
 write_value-goes table local _ _ e = tt
 
 set_flag-goes : {V E : Type 0} (table : Table V) (local : Local V E) (doing : Doing V E) → local.doing ≡ doing
     → IfSome (option_and_then (set_flag table local) (value_written doing)) (λ after. GoesOn SetFlag local after.1)
-set_flag-goes table local (Written v) e =
+set_flag-goes table local (Written v true) e =
     whatever_is_learnt (with_flag table local.id)
     (after_call local (GetOr (Ok v) false) (Answered v) local.learnt (Gets 0))
     (learnt_by_publish local.learnt v)

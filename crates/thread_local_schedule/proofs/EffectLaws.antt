@@ -1,7 +1,7 @@
 -- What each event changes of the sheet, the buckets, the slots and its `Local`.
 use Rattle.std.proofs.Common.{◌≡◌, ℕ, Bool, true, false, cond, eqb, Option, Some, None, Result, Ok, Err, IsTrue, IfSome, IsSomeAnd, refl, ap, sym}
 use Rattle.std.proofs.Common.{◌∙◌, subst, ⊎_elim}
-use Rattle.std.specs.Prelude.{◌↔◌, ◌⊎◌, is_some, option_map, option_and_then, unwrap_or, IsErr}
+use Rattle.std.specs.Prelude.{◌↔◌, ◌⊎◌, is_some, option_map, option_and_then, IsErr}
 use Rattle.std.proofs.lemmas.Bool.{false≢true, cases_eq, eq-eqb, ne_eqb}
 use Rattle.thread_local_base.specs.Place.{bucket_of}
 use Rattle.thread_local_base.specs.Held.{with_least, without}
@@ -13,22 +13,22 @@ use Rattle.thread_local_schedule.specs.TableMoves.{TableMove, moved_by_if}
 use Rattle.thread_local_schedule.specs.Table.{Table, Slot, slot_at, value_of, published, bucket_stands, with_flag, with_fresh_bucket}
 use Rattle.thread_local_schedule.specs.Local.{Local, LocalStep, local_step, MakeBucket, FillBucket, AnnounceBucket, InstallBucket}
 use Rattle.thread_local_schedule.specs.Local.{WriteValue, SetFlag, closure_at_missing, make_bucket, empty_bucket, fill_bucket}
-use Rattle.thread_local_schedule.specs.Local.{unannounced_bucket, announce_bucket, Doing, Gets, Started, Private, Filled, Written}
+use Rattle.thread_local_schedule.specs.Local.{doing_announced, announce_bucket, Doing, Gets, Started, Private, Filled, Written}
 use Rattle.thread_local_schedule.specs.Local.{learns, OwnBucket, filled_bucket, install_bucket, value_written, set_flag}
 use Rattle.thread_local_schedule.specs.Local.{closure_at_vacant, write_value, after_call}
 use Rattle.thread_local_schedule.specs.Fits.{number_at, IsLearnt, IsDoing, view_now}
 use Rattle.thread_local_schedule.specs.Numbers.{own_number}
 use Rattle.thread_local_schedule.specs.Core.{Core, shadow}
 use Rattle.thread_local_schedule.specs.CoreFits.{CoreFits}
-use Rattle.thread_local_schedule.specs.Events.{Event, OfLocal, GiveBack, Owner, RewriteTable, with_step, is_enabled, happens}
+use Rattle.thread_local_schedule.specs.Events.{Event, OfLocal, GiveBack, Owner, RewriteTable, is_enabled, happens}
 use Rattle.thread_local_schedule.specs.Schedule.{move, is_granted_take, IsReached}
 use Rattle.thread_local_schedule.proofs.TableLaws.{announced-with_announced, bucket_stands-with_filled_bucket}
 use Rattle.thread_local_schedule.proofs.TableLaws.{bucket_stands-with_fresh_bucket, number_at-with_table_slot, slot_at-with_slot_same}
 use Rattle.thread_local_schedule.proofs.OptionLaws.{if_there, if_then}
-use Rattle.thread_local_schedule.proofs.Clauses.{says, goes, enabled_step}
+use Rattle.thread_local_schedule.proofs.Clauses.{says}
 use Rattle.thread_local_schedule.proofs.CallsLaws.{whatever_is_learnt, either_install}
 use Rattle.thread_local_schedule.proofs.NumbersLaws.{number_at-with_bucket_same}
-use Rattle.thread_local_schedule.proofs.Enabled.{step_leaves}
+use Rattle.thread_local_schedule.proofs.Enabled.{step_goes}
 use Rattle.thread_local_schedule.proofs.EventRules.{open_where}
 use Rattle.thread_local_schedule.proofs.StepNeeds.{writes}
 use Rattle.thread_local_schedule.proofs.MoveLaws as moves
@@ -50,7 +50,7 @@ pub gives_back : {V E : Type 0} (core : Core V E) (n : ℕ) (local : Local V E) 
 gives_back core n local r t at = by_move core (GiveBack n) _ r (moves.give_moves core n local t at)
 
 pub publishes : {V E : Type 0} (core : Core V E) (n : ℕ) (local : Local V E) (v : V) → IsReached core
-    → IsTrue (is_enabled core (OfLocal n SetFlag)) → core.locals n ≡ Some local → local.doing ≡ Written v
+    → IsTrue (is_enabled core (OfLocal n SetFlag)) → core.locals n ≡ Some local → local.doing ≡ Written v true
     → shadow (happens core (OfLocal n SetFlag))
     ≡ record (shadow core) { values = with_value (shadow core).values local.id v }
 publishes core n local v r t at written = by_move core (OfLocal n SetFlag) _ r (moves.publish_moves core n local v t at written)
@@ -78,26 +78,17 @@ unfolding published
 shows core id v = shown (slot_at core.table id).written (slot_at core.table id).flag v
 
 -- what holds of the table after a Local's step holds of the core's
-table_of : {V E : Type 0} (core : Core V E) (n : ℕ) (P : Table V → Type 0) (o : Option (Table V × Local V E))
-    → IfSome o (λ after. P after.0)
-    → IsTrue (is_some (option_map (with_step core n) o))
-    → P (unwrap_or (option_map (with_step core n) o) core).table
-table_of core n P None p t = absurd (false≢true t)
-table_of core n P (Some after) p t = p
+of_some : {A : Type 0} (P : Type 0) (o : Option A) → IsSomeAnd o (λ _. P) → P
+of_some P None p = absurd p
+of_some P (Some x) p = p
 
 table_after : {V E : Type 0} (core : Core V E) (n : ℕ) (it : LocalStep V E) (local : Local V E) (P : Table V → Type 0)
     → IsTrue (is_enabled core (OfLocal n it)) → core.locals n ≡ Some local
     → IfSome (local_step core.table local it) (λ after. P after.0)
     → P (happens core (OfLocal n it)).table
 table_after core n it local P t at p =
-    rw (goes core (OfLocal n it) t)
-    (rw at (table_of core n P (local_step core.table local it) p
-    (subst (λ o.
-    IsTrue
-    (is_some
-    (option_and_then (λ l. option_map (with_step core n) (local_step core.table l it))
-    o)))
-    at (enabled_step core (OfLocal n it) t))))
+    let after = happens core (OfLocal n it) in
+    of_some (P after.table) (after.locals n) (step_goes core n it local (λ then. P then.0) t at p)
 
 -- a call that makes a bucket owns it, with nothing in it
 made_so : {V E : Type 0} (table : Table V) (local : Local V E) (doing : Doing V E) (learnt : Learnt V) (create : Result V E)
@@ -112,7 +103,7 @@ pub makes : {V E : Type 0} (core : Core V E) (n : ℕ) (local : Local V E) (crea
     → IsSomeAnd ((happens core (OfLocal n (MakeBucket false))).locals n) (λ after. after.doing ≡ Private create core.table.made)
 unfolding local_step
 makes core n local create t at started =
-    step_leaves core n (MakeBucket false) local (λ after. after.doing ≡ Private create core.table.made) t at
+    step_goes core n (MakeBucket false) local (λ after. after.1.doing ≡ Private create core.table.made) t at
     (made_so core.table local local.doing local.learnt create started)
 
 -- a call that fills its bucket knows whether it is announced, and the table stays
@@ -128,7 +119,7 @@ pub fills : {V E : Type 0} (core : Core V E) (n : ℕ) (local : Local V E) (crea
     (λ after. after.doing ≡ Filled create number (core.table.announced (bucket_of local.id)))
 unfolding local_step
 fills core n local create number t at own =
-    step_leaves core n FillBucket local (λ after. after.doing ≡ Filled create number (core.table.announced (bucket_of local.id))) t at
+    step_goes core n FillBucket local (λ after. after.1.doing ≡ Filled create number (core.table.announced (bucket_of local.id))) t at
     (filled_so core.table local local.doing create number own)
 
 pub fill_stays : {V E : Type 0} (core : Core V E) (n : ℕ) (local : Local V E)
@@ -139,21 +130,19 @@ fill_stays core n local t at =
     table_after core n FillBucket local (λ table. table ≡ core.table) t at
     (if_there (λ after. after.0 ≡ core.table) (fill_bucket core.table local) (empty_bucket local.doing) (λ own _. refl))
 
--- and announces it where it doesn't know that
-announced_so : {V E : Type 0} (table : Table V) (local : Local V E) (doing : Doing V E) (create : Result V E) (number : ℕ)
-    → doing ≡ Filled create number false
-    → IfSome (option_map (announce_bucket table local) (unannounced_bucket doing))
-    (λ after. after.1.doing ≡ Filled create number true)
-announced_so table local doing create number e = rw e refl
+-- and announces it where it doesn't know that, as a call does that has written its value
+announced_so : {V E : Type 0} (table : Table V) (local : Local V E) (doing after : Doing V E)
+    → doing_announced doing ≡ Some after
+    → IfSome (option_map (announce_bucket table local) (doing_announced doing)) (λ then. then.1.doing ≡ after)
+announced_so table local doing after e = rw e refl
 
-pub announced : {V E : Type 0} (core : Core V E) (n : ℕ) (local : Local V E) (create : Result V E) (number : ℕ)
+pub announced : {V E : Type 0} (core : Core V E) (n : ℕ) (local : Local V E) (doing : Doing V E)
     → IsTrue (is_enabled core (OfLocal n AnnounceBucket)) → core.locals n ≡ Some local
-    → local.doing ≡ Filled create number false
-    → IsSomeAnd ((happens core (OfLocal n AnnounceBucket)).locals n) (λ after. after.doing ≡ Filled create number true)
+    → doing_announced local.doing ≡ Some doing
+    → IsSomeAnd ((happens core (OfLocal n AnnounceBucket)).locals n) (λ after. after.doing ≡ doing)
 unfolding local_step
-announced core n local create number t at own =
-    step_leaves core n AnnounceBucket local (λ after. after.doing ≡ Filled create number true) t at
-    (announced_so core.table local local.doing create number own)
+announced core n local doing t at own =
+    step_goes core n AnnounceBucket local (λ after. after.1.doing ≡ doing) t at (announced_so core.table local local.doing doing own)
 
 pub announces : {V E : Type 0} (core : Core V E) (n : ℕ) (local : Local V E) (bucket : ℕ)
     → IsTrue (is_enabled core (OfLocal n AnnounceBucket)) → core.locals n ≡ Some local
@@ -166,7 +155,7 @@ announces core n local bucket t at =
     (λ table. table.announced bucket ≡ cond (eqb own bucket) true (core.table.announced bucket))
     t at
     (if_there (λ after. after.0.announced bucket ≡ cond (eqb own bucket) true (core.table.announced bucket))
-    (announce_bucket core.table local) (unannounced_bucket local.doing)
+    (announce_bucket core.table local) (doing_announced local.doing)
     (λ made _. announced-with_announced core.table own bucket))
 
 -- an install makes the bucket of its Local's id stand, the call's own where none stood
@@ -205,7 +194,7 @@ own_number_of (Filled create number false) own e = cc
 own_number_of (Gets count) own e = cc
 own_number_of (Started create) own e = cc
 own_number_of (Private create number) own e = cc
-own_number_of (Written v) own e = cc
+own_number_of (Written v announced) own e = cc
 
 pub installs_own : {V E : Type 0} (core : Core V E) (n : ℕ) (local : Local V E)
     → IsTrue (is_enabled core (OfLocal n InstallBucket)) → core.locals n ≡ Some local
@@ -269,7 +258,7 @@ started_only (Started it) (Holding v) create e other f = cc
 started_only (Gets count) learnt create e other f = cc
 started_only (Private it number) learnt create e other f = cc
 started_only (Filled it number announced) learnt create e other f = cc
-started_only (Written v) learnt create e other f = cc
+started_only (Written v announced) learnt create e other f = cc
 
 -- a Local that may write has learnt that its bucket stands
 may_write : {V E : Type 0} (core : Core V E) (n : ℕ) (local : Local V E) → CoreFits core
@@ -291,6 +280,23 @@ writes_value core n local v h t at started =
     (writes_slot core.table local v (closure_at_vacant local.doing local.learnt) (may_write core n local h t at)
     (started_only local.doing local.learnt (Ok v) started))
 
+-- and then knows whether that is announced
+wrote_so : {V E : Type 0} (table : Table V) (local : Local V E) (doing : Doing V E) (learnt : Learnt V) (v : V)
+    → doing ≡ Started (Ok v)
+    → IfSome (option_map (write_value table local) (closure_at_vacant doing learnt))
+    (λ after. after.1.doing ≡ Written v (table.announced (bucket_of local.id)))
+wrote_so table local doing Vacant v e = rw e refl
+wrote_so table local doing _ v e = rw e tt
+
+pub wrote : {V E : Type 0} (core : Core V E) (n : ℕ) (local : Local V E) (v : V)
+    → IsTrue (is_enabled core (OfLocal n WriteValue)) → core.locals n ≡ Some local → local.doing ≡ Started (Ok v)
+    → IsSomeAnd ((happens core (OfLocal n WriteValue)).locals n)
+    (λ after. after.doing ≡ Written v (core.table.announced (bucket_of local.id)))
+unfolding local_step
+wrote core n local v t at started =
+    step_goes core n WriteValue local (λ after. after.1.doing ≡ Written v (core.table.announced (bucket_of local.id))) t at
+    (wrote_so core.table local local.doing local.learnt v started)
+
 sets_slot : {V E : Type 0} (table : Table V) (local : Local V E) (o : Option V)
     → (IsTrue (is_some o) → IsTrue (bucket_stands table (bucket_of local.id)))
     → IfSome (option_and_then (set_flag table local) o)
@@ -306,7 +312,8 @@ sets_slot table local (Some v) stands =
 written_stands : {V E : Type 0} (table : Table V) (id : ℕ) (doing : Doing V E) → IsDoing table id doing
     → IsTrue (is_some (value_written doing))
     → IsTrue (bucket_stands table (bucket_of id))
-written_stands table id (Written v) fits t = fits.0
+written_stands table id (Written v true) fits t = fits.0
+written_stands table id (Written v false) fits t = absurd (false≢true t)
 written_stands table id (Gets count) fits t = absurd (false≢true t)
 written_stands table id (Started create) fits t = absurd (false≢true t)
 written_stands table id (Private create number) fits t = absurd (false≢true t)
@@ -329,7 +336,7 @@ pub installed : {V E : Type 0} (core : Core V E) (n : ℕ) (local : Local V E) (
     → IsSomeAnd ((happens core (OfLocal n InstallBucket)).locals n) (λ after. (after.learnt ≡ Holding v) × (after.doing ≡ Gets 0))
 unfolding local_step
 installed core n local v number t at filled none =
-    step_leaves core n InstallBucket local (λ after. (after.learnt ≡ Holding v) × (after.doing ≡ Gets 0)) t at
+    step_goes core n InstallBucket local (λ after. (after.1.learnt ≡ Holding v) × (after.1.doing ≡ Gets 0)) t at
     (rw filled (either_install core.table local
     (λ after. (after.1.learnt ≡ Holding v) × (after.1.doing ≡ Gets 0)) (record { create = Ok v; number = number })
     (λ stands. absurd (false≢true (sym none ∙ stands)))
@@ -342,7 +349,7 @@ pub installed_empty : {V E : Type 0} (core : Core V E) (n : ℕ) (local : Local 
     → IsSomeAnd ((happens core (OfLocal n InstallBucket)).locals n) (λ after. (after.learnt ≡ Vacant) × (after.doing ≡ Started create))
 unfolding local_step
 installed_empty core n local create number t at filled else =
-    step_leaves core n InstallBucket local (λ after. (after.learnt ≡ Vacant) × (after.doing ≡ Started create)) t at
+    step_goes core n InstallBucket local (λ after. (after.1.learnt ≡ Vacant) × (after.1.doing ≡ Started create)) t at
     (rw filled (either_install core.table local
     (λ after. (after.1.learnt ≡ Vacant) × (after.1.doing ≡ Started create)) (record { create = create; number = number })
     (λ _. (refl, refl))
@@ -373,9 +380,9 @@ publish_learns table local v (Some w) e =
     (learnt_by_publish local.learnt v) (λ learnt. by_publish local.learnt learnt v))
 
 pub holds : {V E : Type 0} (core : Core V E) (n : ℕ) (local : Local V E) (v : V)
-    → IsTrue (is_enabled core (OfLocal n SetFlag)) → core.locals n ≡ Some local → local.doing ≡ Written v
+    → IsTrue (is_enabled core (OfLocal n SetFlag)) → core.locals n ≡ Some local → local.doing ≡ Written v true
     → IsSomeAnd ((happens core (OfLocal n SetFlag)).locals n) (λ after. after.learnt ≡ Holding v)
 unfolding local_step
 holds core n local v t at written =
-    step_leaves core n SetFlag local (λ after. after.learnt ≡ Holding v) t at
+    step_goes core n SetFlag local (λ after. after.1.learnt ≡ Holding v) t at
     (publish_learns core.table local v (value_written local.doing) (ap value_written written))

@@ -59,14 +59,14 @@ idle_gets (Gets (suc count)) t = absurd (false≢true t)
 idle_gets (Started create) t = refl
 idle_gets (Private create number) t = refl
 idle_gets (Filled create number announced) t = refl
-idle_gets (Written v) t = refl
+idle_gets (Written v announced) t = refl
 
 idle_closure : {V E : Type 0} (doing : Doing V E) → IsTrue (is_idle doing) → closure_of doing ≡ None
 idle_closure (Gets count) t = refl
 idle_closure (Started create) t = absurd (false≢true t)
 idle_closure (Private create number) t = absurd (false≢true t)
 idle_closure (Filled create number announced) t = absurd (false≢true t)
-idle_closure (Written v) t = absurd (false≢true t)
+idle_closure (Written v announced) t = absurd (false≢true t)
 
 no_call_idle : {V E : Type 0} (doing : Doing V E) → gets_of doing ≡ 0 → closure_of doing ≡ None → is_idle doing ≡ true
 no_call_idle (Gets zero) gets closure = refl
@@ -74,7 +74,7 @@ no_call_idle (Gets (suc count)) gets closure = absurd (omega arith)
 no_call_idle (Started create) gets closure = cc
 no_call_idle (Private create number) gets closure = cc
 no_call_idle (Filled create number announced) gets closure = cc
-no_call_idle (Written v) gets closure = cc
+no_call_idle (Written v announced) gets closure = cc
 
 -- a Local gives its id back, or is forgotten, where no call of it is under way, and is gone then
 leaves : {V E : Type 0} (core : Core V E) (n : ℕ) (after : Local V E → Core V E)
@@ -122,19 +122,22 @@ refusal core refused growth t =
     ∙ ap (λ b. cond b (take_id core growth) core)
     (not-true (is_granted core.manager refused) parts.1)
 
--- what holds of the Local after its step holds of the Local at its number
-stepped : {V E : Type 0} (core : Core V E) (n : ℕ) (P : Local V E → Type 0)
+-- what holds of the table and the Local after its step holds of the Local at its number
+stepped : {V E : Type 0} (core : Core V E) (n : ℕ) (P : Table V × Local V E → Type 0)
     (o : Option (Table V × Local V E))
-    → IfSome o (λ after. P after.1)
-    → IsTrue (is_some (option_map (with_step core n) o)) → IsSomeAnd ((unwrap_or (option_map (with_step core n) o) core).locals n) P
+    → IfSome o P
+    → IsTrue (is_some (option_map (with_step core n) o))
+    → let then = unwrap_or (option_map (with_step core n) o) core in
+    IsSomeAnd (then.locals n) (λ after. P (then.table, after))
 stepped core n P None p t = absurd (false≢true t)
 stepped core n P (Some after) p t = rw (put_same core.locals n (Some after.1)) p
 
-pub step_leaves : {V E : Type 0} (core : Core V E) (n : ℕ) (step : LocalStep V E)
-    (local : Local V E) (P : Local V E → Type 0)
+pub step_goes : {V E : Type 0} (core : Core V E) (n : ℕ) (step : LocalStep V E)
+    (local : Local V E) (P : Table V × Local V E → Type 0)
     → IsTrue (is_enabled core (OfLocal n step)) → core.locals n ≡ Some local
-    → IfSome (local_step core.table local step) (λ after. P after.1) → IsSomeAnd ((happens core (OfLocal n step)).locals n) P
-step_leaves core n step local P t at p =
+    → IfSome (local_step core.table local step) P
+    → let then = happens core (OfLocal n step) in IsSomeAnd (then.locals n) (λ after. P (then.table, after))
+step_goes core n step local P t at p =
     rw (goes core (OfLocal n step) t)
     (rw at (stepped core n P (local_step core.table local step) p
     (subst (λ o.
@@ -148,4 +151,4 @@ step_leaves core n step local P t at p =
 pub goes_on : {V E : Type 0} (core : Core V E) (n : ℕ) (step : LocalStep V E) (local : Local V E)
     → IsTrue (is_enabled core (OfLocal n step)) → core.locals n ≡ Some local
     → IsSomeAnd ((happens core (OfLocal n step)).locals n) (GoesOn step local)
-goes_on core n step local t at = step_leaves core n step local (GoesOn step local) t at (local_step-goes core.table local step)
+goes_on core n step local t at = step_goes core n step local (λ after. GoesOn step local after.1) t at (local_step-goes core.table local step)

@@ -12,10 +12,10 @@ use Rattle.thread_local_schedule.specs.Local.{Doing, Gets, Started, Private, Fil
 use Rattle.thread_local_schedule.specs.Local.{BeginGet, BeginGetOr, LoadPointer, LookAtFlag, MakeBucket, FillBucket, AnnounceBucket}
 use Rattle.thread_local_schedule.specs.Local.{InstallBucket, WriteValue, SetFlag, Reply, doing_with_get, doing_with_get_or, begin_call}
 use Rattle.thread_local_schedule.specs.Local.{may_look, learns, closure_at_missing, make_bucket, empty_bucket, fill_bucket}
-use Rattle.thread_local_schedule.specs.Local.{unannounced_bucket, announce_bucket, filled_bucket, install_bucket, closure_at_vacant, write_value}
+use Rattle.thread_local_schedule.specs.Local.{doing_announced, announce_bucket, filled_bucket, install_bucket, closure_at_vacant, write_value}
 use Rattle.thread_local_schedule.specs.Local.{value_written, set_flag, after_call, ending_of, reply}
 use Rattle.thread_local_schedule.proofs.CallsLaws.{either_install}
-use Rattle.thread_local_schedule.specs.Calls.{gets_of, closure_of, HasNoCall, HasLearnt, EndsWith, GoesDown, steps_left}
+use Rattle.thread_local_schedule.specs.Calls.{gets_of, closure_of, HasNoCall, HasLearnt, EndsWith, GoesDown, steps_left, steps_left_on}
 
 -- a get begins where no publishing call is under way
 get_begins : {V E : Type 0} (table : Table V) (local : Local V E) (doing : Doing V E)
@@ -25,7 +25,7 @@ get_begins table local (Gets count) none = refl
 get_begins table local (Started create) none = cc
 get_begins table local (Private create number) none = cc
 get_begins table local (Filled create number announced) none = cc
-get_begins table local (Written v) none = cc
+get_begins table local (Written v announced) none = cc
 
 pub begins_get : {V E : Type 0} (table : Table V) (local : Local V E)
     → closure_of local.doing ≡ None
@@ -43,7 +43,7 @@ get_or_begins table local create (Gets (suc count)) gets none = absurd (omega ar
 get_or_begins table local create (Started other) gets none = cc
 get_or_begins table local create (Private other number) gets none = cc
 get_or_begins table local create (Filled other number announced) gets none = cc
-get_or_begins table local create (Written v) gets none = cc
+get_or_begins table local create (Written v announced) gets none = cc
 
 pub begins_get_or : {V E : Type 0} (table : Table V) (local : Local V E) (create : Result V E)
     → HasNoCall local
@@ -60,7 +60,7 @@ load-learnt table local (Started create) None e = tt
 load-learnt table local (Started create) (Some learnt) e = rw e tt
 load-learnt table local (Private create number) o e = tt
 load-learnt table local (Filled create number announced) o e = tt
-load-learnt table local (Written v) o e = tt
+load-learnt table local (Written v announced) o e = tt
 
 begin_get-learnt : {V E : Type 0} (table : Table V) (local : Local V E) (doing : Doing V E)
     → IfSome (option_map (begin_call table local) (doing_with_get doing))
@@ -90,8 +90,9 @@ fill_bucket-learnt table local _ h = tt
 
 announce_bucket-learnt : {V E : Type 0} (table : Table V) (local : Local V E) (doing : Doing V E)
     → HasLearnt doing local.learnt
-    → IfSome (option_map (announce_bucket table local) (unannounced_bucket doing)) (λ after. HasLearnt after.1.doing after.1.learnt)
+    → IfSome (option_map (announce_bucket table local) (doing_announced doing)) (λ after. HasLearnt after.1.doing after.1.learnt)
 announce_bucket-learnt table local (Filled create number false) h = h
+announce_bucket-learnt table local (Written v false) h = h
 announce_bucket-learnt table local _ h = tt
 
 install_bucket-learnt : {V E : Type 0} (table : Table V) (local : Local V E) (doing : Doing V E)
@@ -116,7 +117,7 @@ publish-learnt table local v (Some learnt) = tt
 
 set_flag-learnt : {V E : Type 0} (table : Table V) (local : Local V E) (doing : Doing V E)
     → IfSome (option_and_then (set_flag table local) (value_written doing)) (λ after. HasLearnt after.1.doing after.1.learnt)
-set_flag-learnt table local (Written v) = publish-learnt (with_flag table local.id) local v (learnt_by_publish local.learnt v)
+set_flag-learnt table local (Written v true) = publish-learnt (with_flag table local.id) local v (learnt_by_publish local.learnt v)
 set_flag-learnt table local _ = tt
 
 reply-learnt : {V E : Type 0} (table : Table V) (local : Local V E) (doing : Doing V E) (learnt : Learnt V)
@@ -190,7 +191,7 @@ asked table local refused (Started create) (Holding v) t = absurd (false≢true 
 asked table local refused (Gets count) before t = absurd (false≢true t)
 asked table local refused (Private create number) before t = absurd (false≢true t)
 asked table local refused (Filled create number announced) before t = absurd (false≢true t)
-asked table local refused (Written v) before t = absurd (false≢true t)
+asked table local refused (Written v announced) before t = absurd (false≢true t)
 
 pub asks : {V E : Type 0} (table : Table V) (local : Local V E) (refused : Bool)
     → IsTrue (is_some (local_step table local (MakeBucket refused)))
@@ -202,7 +203,7 @@ asks table local refused t = asked table local refused local.doing local.learnt 
 asked_either : {V E : Type 0} (table : Table V) (local : Local V E) (refused other : Bool) (doing : Doing V E) (before : Learnt V)
     → IsTrue (is_some (option_map (make_bucket table local refused) (closure_at_missing doing before)))
     → IsSomeAnd (option_map (make_bucket table local other) (closure_at_missing doing before))
-    (λ after. steps_left after.1.doing after.1.learnt < steps_left doing before)
+    (λ after. steps_left_on after < steps_left (table.announced (bucket_of local.id)) doing before)
 asked_either table local refused true (Started create) Missing t = omega arith
 asked_either table local refused false (Started create) Missing t = omega arith
 asked_either table local refused other (Started create) Unknown t = absurd (false≢true t)
@@ -212,11 +213,11 @@ asked_either table local refused other (Started create) (Holding v) t = absurd (
 asked_either table local refused other (Gets count) before t = absurd (false≢true t)
 asked_either table local refused other (Private create number) before t = absurd (false≢true t)
 asked_either table local refused other (Filled create number announced) before t = absurd (false≢true t)
-asked_either table local refused other (Written v) before t = absurd (false≢true t)
+asked_either table local refused other (Written v announced) before t = absurd (false≢true t)
 
 pub asks_either : {V E : Type 0} (table : Table V) (local : Local V E) (refused other : Bool)
     → IsTrue (is_some (local_step table local (MakeBucket refused)))
-    → IsSomeAnd (local_step table local (MakeBucket other)) (λ after. GoesDown local after.1)
+    → IsSomeAnd (local_step table local (MakeBucket other)) (GoesDown (table, local))
 unfolding local_step
 asks_either table local refused other t = asked_either table local refused other local.doing local.learnt t
 
@@ -232,7 +233,7 @@ failed table local e (Started (Ok x)) before h c v = cc
 failed table local e (Gets count) before h c v = cc
 failed table local e (Private create number) before h c v = cc
 failed table local e (Filled create number announced) before h c v = cc
-failed table local e (Written x) before h c v = cc
+failed table local e (Written x announced) before h c v = cc
 
 pub fails : {V E : Type 0} (table : Table V) (local : Local V E) (e : E)
     → HasLearnt local.doing local.learnt → closure_of local.doing ≡ Some (Err e)

@@ -15,7 +15,7 @@ use Rattle.thread_local_schedule.proofs.GoingOn as call
 use Rattle.thread_local_schedule.specs.SharedWalk.{WalkStep, walk_step}
 use Rattle.thread_local_schedule.specs.OwnerWalk.{rewritten}
 use Rattle.thread_local_schedule.specs.Cleared.{drained}
-use Rattle.thread_local_schedule.specs.Table.{empty_slot, slot_at, bucket_stands}
+use Rattle.thread_local_schedule.specs.Table.{Table, empty_slot, slot_at, bucket_stands}
 use Rattle.thread_local_schedule.proofs.ClearedLaws.{slot_at-drained, bucket_stands-drained}
 use Rattle.thread_local_schedule.specs.Core.{Core, made_core, shadow, peak, is_alone}
 use Rattle.thread_local_schedule.specs.CoreFits.{CoreFits}
@@ -28,7 +28,7 @@ use Rattle.thread_local_schedule.specs.Events.{is_enabled, happens, run}
 use Rattle.thread_local_schedule.specs.Schedule.{is_take, is_refused, is_granted_take, newcomer, IsReached}
 use Rattle.thread_local_schedule.proofs.Clauses as clause
 use Rattle.thread_local_schedule.proofs.Clauses.{owner_goes, enabled_step}
-use Rattle.thread_local_schedule.proofs.Enabled.{may, takes, step_leaves}
+use Rattle.thread_local_schedule.proofs.Enabled.{may, takes, step_goes}
 
 -- a schedule and one event more
 pub run-append : {V E : Type 0} (core : Core V E) (events more : List (Event V E))
@@ -263,23 +263,24 @@ there None P p = absurd p
 there (Some x) P p = (refl, p)
 
 pub makes_step : {V E : Type 0} (core : Core V E) (n : ℕ) (local : Local V E) (step : LocalStep V E)
-    (P : Local V E → Type 0)
+    (P : Table V × Local V E → Type 0)
     → core.ended ≡ false → core.locals n ≡ Some local
-    → IsSomeAnd (local_step core.table local step) (λ after. P after.1)
+    → IsSomeAnd (local_step core.table local step) P
     → IsTrue (is_enabled core (OfLocal n step))
-    × IsSomeAnd ((happens core (OfLocal n step)).locals n) P
+    × IsSomeAnd ((happens core (OfLocal n step)).locals n) (λ after. P ((happens core (OfLocal n step)).table, after))
 makes_step core n local step P going at p =
-    let both = there (local_step core.table local step) (λ after. P after.1) p in
+    let both = there (local_step core.table local step) P p in
     let enabled = may_step core n local step going at both.0 in
-    (enabled, step_leaves core n step local P enabled at both.1)
+    (enabled, step_goes core n step local P enabled at both.1)
 
 pub goes_on : {V E : Type 0} (core : Core V E) (n : ℕ) (local : Local V E) → CoreFits core
     → core.ended ≡ false → core.locals n ≡ Some local → (HasNoCall local → ⊥)
     → (step : LocalStep V E) × IsTrue (is_enabled core (OfLocal n step))
-    × IsSomeAnd ((happens core (OfLocal n step)).locals n) (GoesDown local)
+    × IsSomeAnd ((happens core (OfLocal n step)).locals n)
+    (λ after. GoesDown (core.table, local) ((happens core (OfLocal n step)).table, after))
 goes_on core n local h going at busy =
     let next = call.goes_on core.table local (h.locals.each n local at).learnt busy in
-    let made = makes_step core n local next.0 (GoesDown local) going at next.1 in
+    let made = makes_step core n local next.0 (GoesDown (core.table, local)) going at next.1 in
     (next.0, made.0, made.1)
 
 pub fails : {V E : Type 0} (core : Core V E) (n : ℕ) (local : Local V E) (e : E) → CoreFits core
@@ -288,7 +289,7 @@ pub fails : {V E : Type 0} (core : Core V E) (n : ℕ) (local : Local V E) (e : 
     → IsTrue (is_enabled core (OfLocal n WriteValue))
     × IsSomeAnd ((happens core (OfLocal n WriteValue)).locals n) (EndsWith (Failed e) local)
 fails core n local e h going at closure vacant =
-    makes_step core n local WriteValue (EndsWith (Failed e) local) going at
+    makes_step core n local WriteValue (λ after. EndsWith (Failed e) local after.1) going at
     (step.fails core.table local e (h.locals.each n local at).learnt closure vacant)
 
 -- memory is asked for only where the bucket was missing
@@ -313,9 +314,10 @@ asks core n refused t = asked core n refused (core.locals n) (enabled_step core 
 pub memory_is_chosen : {V E : Type 0} (core : Core V E) (n : ℕ) (local : Local V E) (refused other : Bool)
     → IsTrue (is_enabled core (OfLocal n (MakeBucket refused))) → core.locals n ≡ Some local
     → IsTrue (is_enabled core (OfLocal n (MakeBucket other)))
-    × IsSomeAnd ((happens core (OfLocal n (MakeBucket other))).locals n) (GoesDown local)
+    × IsSomeAnd ((happens core (OfLocal n (MakeBucket other))).locals n)
+    (λ after. GoesDown (core.table, local) ((happens core (OfLocal n (MakeBucket other))).table, after))
 memory_is_chosen core n local refused other t at =
-    makes_step core n local (MakeBucket other) (GoesDown local)
+    makes_step core n local (MakeBucket other) (GoesDown (core.table, local))
     (open_where core (OfLocal n (MakeBucket refused)) t) at
     (step.asks_either core.table local refused other
     (map_there (with_step core n) (local_step core.table local (MakeBucket refused))

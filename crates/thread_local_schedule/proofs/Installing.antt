@@ -13,7 +13,7 @@ use Rattle.thread_local_schedule.specs.Local.{Doing, Gets, Started, Private, Fil
 use Rattle.thread_local_schedule.specs.Local.{BeginGetOr, LoadPointer, LookAtFlag, MakeBucket, FillBucket, AnnounceBucket, InstallBucket}
 use Rattle.thread_local_schedule.specs.Local.{WriteValue, SetFlag, Reply, doing_with_get, doing_with_get_or, begin_call}
 use Rattle.thread_local_schedule.specs.Local.{may_look, learns, closure_at_missing, make_bucket, empty_bucket, fill_bucket}
-use Rattle.thread_local_schedule.specs.Local.{unannounced_bucket, announce_bucket, filled_bucket, install_bucket, closure_at_vacant}
+use Rattle.thread_local_schedule.specs.Local.{doing_announced, announce_bucket, filled_bucket, install_bucket, closure_at_vacant}
 use Rattle.thread_local_schedule.specs.Local.{write_value, value_written, set_flag, after_call, ending_of, reply}
 use Rattle.thread_local_schedule.proofs.TableLaws.{bucket_stands-with_filled_bucket, bucket_stands-with_table_slot, bucket_stands-made}
 use Rattle.thread_local_schedule.proofs.TableLaws.{bucket_stands-with_announced, bucket_stands-with_fresh_bucket}
@@ -79,14 +79,13 @@ fill_bucket-installs table local bucket (Private create number) none = leaves Fi
 fill_bucket-installs table local bucket _ none = tt
 
 announce_bucket-installs : {V E : Type 0} (table : Table V) (local : Local V E) (bucket : ℕ)
-    (doing : Doing V E)
+    (o : Option (Doing V E))
     → bucket_stands table bucket ≡ false
-    → IfSome (option_map (announce_bucket table local) (unannounced_bucket doing))
-    (λ after. Installs {E = E} AnnounceBucket local.id bucket after.0)
-announce_bucket-installs table local bucket (Filled create number false) none =
+    → IfSome (option_map (announce_bucket table local) o) (λ after. Installs {E = E} AnnounceBucket local.id bucket after.0)
+announce_bucket-installs table local bucket (Some doing) none =
     leaves AnnounceBucket table (with_announced table (bucket_of local.id)) local.id bucket none
     (bucket_stands-with_announced table (bucket_of local.id) bucket)
-announce_bucket-installs table local bucket _ none = tt
+announce_bucket-installs table local bucket None none = tt
 
 -- a table in which a bucket was installed installs that one alone
 own-installs : {V E : Type 0} (table after : Table V) (id bucket : ℕ) → bucket_stands table bucket ≡ false
@@ -169,7 +168,7 @@ installs table local (MakeBucket refused) bucket none =
     make_bucket-installs table local bucket refused
     (closure_at_missing local.doing local.learnt) none
 installs table local FillBucket bucket none = fill_bucket-installs table local bucket local.doing none
-installs table local AnnounceBucket bucket none = announce_bucket-installs table local bucket local.doing none
+installs table local AnnounceBucket bucket none = announce_bucket-installs table local bucket (doing_announced local.doing) none
 installs table local InstallBucket bucket none = install_bucket-installs table local bucket local.doing none
 installs table local WriteValue bucket none = write_value-installs table local bucket (closure_at_vacant local.doing local.learnt) none
 installs table local SetFlag bucket none = set_flag-installs table local bucket (value_written local.doing) none

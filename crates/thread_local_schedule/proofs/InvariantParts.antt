@@ -3,8 +3,7 @@ use Rattle.std.proofs.Common.{◌≡◌, ℕ, zero, suc, ◌^◌, ◌<◌, ◌�
 use Rattle.std.proofs.Common.{Some, None, is_some, is_none, IsTrue, IfSome, refl, ap, sym, ◌∙◌, subst, arith, ⊎_elim}
 use Rattle.std.proofs.Common.{inl, inr, pow_mono}
 use Rattle.std.proofs.lemmas.Bool.{cases_eq, cases_lt, cond_both, eq-eqb, ne_eqb, lt-ltb, ltb-true, false≢true, or_cases, or_left, and_parts}
-use Rattle.std.proofs.lemmas.Bool.{or_right}
-use Rattle.std.specs.Prelude.{option_map, nat_lt}
+use Rattle.std.specs.Prelude.{option_map}
 use Rattle.std.proofs.lemmas.Option.{none-some}
 use Rattle.std.proofs.Math.Nat.{two-pow-succ}
 use Rattle.thread_local_base.specs.Place.{bucket_of}
@@ -106,6 +105,7 @@ peak-TableFits table capacity peak higher up h = record {
   below = λ id v e. omega (arith, h.below id v e);
   first_announced = h.first_announced;
   announced = h.announced;
+  standing_announced = h.standing_announced;
 }
 
 pub some_value : {A : Type 0} (o : Option A) → IsTrue (is_some o) → (x : A) × (o ≡ Some x)
@@ -149,11 +149,11 @@ fresh-LiveFits core held id h t = record {
 -- a map with one more value has at an id what it had before, or that value
 pub added : {V : Type 0} (values : ℕ → Option V) (own : ℕ) (set : Option V) (id : ℕ) (v : V)
     → with_value_if values own set id ≡ Some v
-    → (values id ≡ Some v) ⊎ (own ≡ id)
+    → (values id ≡ Some v) ⊎ ((own ≡ id) × (set ≡ Some v))
 added values own None id v e = inl e
 added values own (Some w) id v e =
     ⊎_elim
-    (λ same. inr same)
+    (λ same. inr (same, sym (ap (λ b. cond b (Some w) (values id)) (eq-eqb own id same)) ∙ e))
     (λ apart. inl (sym (ap (λ b. cond b (Some w) (values id)) (ne_eqb own id apart)) ∙ e))
     (cases_eq own id)
 
@@ -195,11 +195,20 @@ step-TableFits core local set after t s h = record {
   below = λ id v e.
       ⊎_elim
       (λ before. h.below id v before)
-      (λ own. subst (λ k. k < length core.manager.held) own (held_below core.manager.held local.id t))
+      (λ own. subst (λ k. k < length core.manager.held) own.0 (held_below core.manager.held local.id t))
       (added (published core.table) local.id set id v (sym (s.shown id) ∙ e));
   first_announced = λ b l. s.changes.announced b (h.first_announced b l);
-  announced = λ b stood.
-      s.changes.announced b (⊎_elim (λ before. h.announced b before) (λ own. own.1) (s.changes.installed b stood));
+  announced = λ id v e.
+      s.changes.announced (bucket_of id)
+      (⊎_elim
+      (λ before. h.announced id v before)
+      (λ own.
+      let here = subst (λ o. IfSome o (λ _. IsTrue (core.table.announced (bucket_of local.id)))) own.1 s.announced in
+      subst (λ k. IsTrue (core.table.announced (bucket_of k))) own.0 here)
+      (added (published core.table) local.id set id v (sym (s.shown id) ∙ e)));
+  standing_announced = λ b stood unreserved.
+      s.changes.announced b
+      (⊎_elim (λ before. h.standing_announced b before unreserved) (λ own. own.1) (s.changes.installed b stood));
 }
 
 pub stepped-fits : {V E : Type 0} (core : Core V E) (number : ℕ) (local : Local V E)
@@ -330,7 +339,13 @@ rewritten-TableFits table others capacity peak h = record {
       mapped (others id) (published table id) v (sym (published-rewritten table others id) ∙ e) in
       h.below id was.0 was.1;
   first_announced = λ b l. ap (λ f. f b) (announced-rewritten table others) ∙ h.first_announced b l;
-  announced = λ b t. ap (λ f. f b) (announced-rewritten table others) ∙ h.announced b (sym (bucket_stands-rewritten table others b) ∙ t);
+  announced = λ id v e.
+      let was =
+      mapped (others id) (published table id) v (sym (published-rewritten table others id) ∙ e) in
+      ap (λ f. f (bucket_of id)) (announced-rewritten table others) ∙ h.announced id was.0 was.1;
+  standing_announced = λ b t unreserved.
+      ap (λ f. f b) (announced-rewritten table others)
+      ∙ h.standing_announced b (sym (bucket_stands-rewritten table others b) ∙ t) unreserved;
 }
 
 -- a bucket for a binary digit of a capacity has no more slots than the capacity
@@ -348,20 +363,24 @@ made_small capacity bucket l =
     absurd (omega (arith, reserve.no_digits)))
     (cases_lt 0 capacity)
 
+-- an empty slot shows no value
+shows_nothing : {V : Type 0} (table : Table V) (id : ℕ) (v : V) → slot_at table id ≡ empty_slot → published table id ≡ Some v → ⊥
+shows_nothing table id v empty e = none-some v (sym (published_unset table id (ap (λ slot. slot.flag) empty)) ∙ e)
+
 -- the table's part where all slots are empty and exactly the reserved buckets stand
 empty-TableFits : {V : Type 0} (table : Table V) (capacity : ℕ)
     → ((id : ℕ) → slot_at table id ≡ empty_slot)
     → ((bucket : ℕ) → bucket_stands table bucket ≡ reserves_bucket capacity bucket)
     → ((bucket : ℕ) → bucket < 7 → IsTrue (table.announced bucket))
-    → ((bucket : ℕ) → IsTrue (reserves_bucket capacity bucket) → IsTrue (table.announced bucket))
     → TableFits table capacity 0
-empty-TableFits table capacity empty standing first announced = record {
+empty-TableFits table capacity empty standing first = record {
   written = λ id t. absurd (false≢true (sym (ap (λ slot. slot.flag) (empty id)) ∙ t));
   small = λ b t. omega (arith, made_small capacity b (ltb-true b (binary_digits capacity) (sym (standing b) ∙ t)));
   reserved = λ b t. standing b ∙ t;
-  below = λ id v e. absurd (none-some v (sym (published_unset table id (ap (λ slot. slot.flag) (empty id))) ∙ e));
+  below = λ id v e. absurd (shows_nothing table id v (empty id) e);
   first_announced = first;
-  announced = λ b t. announced b (sym (standing b) ∙ t);
+  announced = λ id v e. absurd (shows_nothing table id v (empty id) e);
+  standing_announced = λ b t unreserved. absurd (false≢true (sym unreserved ∙ sym (standing b) ∙ t));
 }
 
 -- a new core fits
@@ -370,8 +389,7 @@ made_core-fits {V} {E} capacity extra l = record {
   manager = record { peak_room = omega arith; capacity_room = omega arith; peak_ids = omega arith; capacity_ids = l };
   table =
       empty-TableFits (made_table capacity) capacity (slot_at-made_table capacity) (bucket_stands-made_table V capacity)
-      (λ b l. announced-made_table V capacity b ∙ or_left (nat_lt b 7) (reserves_bucket capacity b) (lt-ltb b 7 l))
-      (λ b t. announced-made_table V capacity b ∙ or_right (nat_lt b 7) (reserves_bucket capacity b) t);
+      (λ b l. announced-made_table V capacity b ∙ lt-ltb b 7 l);
   locals = record { each = λ n local e. cc; unshared = λ m n a b e f same. cc; none_from = λ n above. refl };
   walks = record { each = λ n walk e. cc; none_from = λ n above. refl };
   numbers = made-NumbersFit capacity;
@@ -396,14 +414,12 @@ drained-TableFits table capacity peak h = record {
   written = λ id t. absurd (false≢true (sym (ap (λ slot. slot.flag) (slot_at-drained table id)) ∙ t));
   small = λ b t. h.small b (sym (bucket_stands-drained table b) ∙ t);
   reserved = λ b l. bucket_stands-drained table b ∙ h.reserved b l;
-  below = λ id v e.
-      absurd
-      (none-some v
-      (sym (published_unset (drained table) id
-      (ap (λ slot. slot.flag) (slot_at-drained table id)))
-      ∙ e));
+  below = λ id v e. absurd (shows_nothing (drained table) id v (slot_at-drained table id) e);
   first_announced = λ b l. ap (λ f. f b) (announced-drained table) ∙ h.first_announced b l;
-  announced = λ b t. ap (λ f. f b) (announced-drained table) ∙ h.announced b (sym (bucket_stands-drained table b) ∙ t);
+  announced = λ id v e. absurd (shows_nothing (drained table) id v (slot_at-drained table id) e);
+  standing_announced = λ b t unreserved.
+      ap (λ f. f b) (announced-drained table)
+      ∙ h.standing_announced b (sym (bucket_stands-drained table b) ∙ t) unreserved;
 }
 
 -- a core fits after a drain
@@ -432,8 +448,7 @@ cleared-fits core alone h = record {
       empty-TableFits (cleared core.table core.capacity) core.capacity
       (slot_at-cleared core.table core.capacity)
       (λ b. bucket_stands-cleared core.table core.capacity b (h.table.reserved b))
-      (λ b l. ap (λ f. f b) (announced-cleared core.table core.capacity) ∙ h.table.first_announced b l)
-      (λ b t. ap (λ f. f b) (announced-cleared core.table core.capacity) ∙ h.table.announced b (h.table.reserved b t));
+      (λ b l. ap (λ f. f b) (announced-cleared core.table core.capacity) ∙ h.table.first_announced b l);
   locals = no_locals-fit core (cleared core.table core.capacity) [] alone h;
   walks = no_walks-fit core (cleared core.table core.capacity) alone h;
   numbers = cleared-NumbersFit core.table core.capacity core.locals h.numbers;

@@ -19,7 +19,7 @@ use Rattle.thread_local_schedule.specs.Local.{write_value, set_flag, reply, loca
 use Rattle.thread_local_schedule.specs.Local.{LoadPointer, LookAtFlag, MakeBucket, FillBucket, AnnounceBucket, InstallBucket}
 use Rattle.thread_local_schedule.specs.Local.{WriteValue, SetFlag}
 use Rattle.thread_local_schedule.specs.Local.{Reply, doing_with_get, doing_with_get_or, begin_call, closure_at_missing}
-use Rattle.thread_local_schedule.specs.Local.{closure_at_vacant, ending_of, empty_bucket, unannounced_bucket, filled_bucket, value_written}
+use Rattle.thread_local_schedule.specs.Local.{closure_at_vacant, ending_of, empty_bucket, doing_announced, filled_bucket, value_written}
 use Rattle.thread_local_schedule.specs.Fits.{IsWritten, AllWritten, view_now, IsLearnt, IsDoing, ViewFits, LocalFits}
 use Rattle.thread_local_schedule.proofs.CallsLaws.{either_install}
 use Rattle.thread_local_schedule.specs.Fits.{number_at, ChangesOnly, value_set, StepFits}
@@ -49,7 +49,7 @@ doing_carried old new id (Started create) same stays known d = d
 doing_carried old new id (Private create number) same stays known d = ap (λ slot. slot.flag) same ∙ d
 doing_carried old new id (Filled create number announced) same stays known d =
     (ap (λ slot. slot.flag) same ∙ d.0, λ t. known (d.1 t))
-doing_carried old new id (Written v) same stays known d = (stays d.0, same ∙ d.1)
+doing_carried old new id (Written v announced) same stays known d = (stays d.0, same ∙ d.1, λ t. known (d.2 t))
 
 -- what fits at a slot still fits where the slot is the same, and its bucket stands and is announced
 -- if it did and was
@@ -84,6 +84,7 @@ stays table local learnt doing written h l d = record {
   changes = same_table table local.id written;
   shown = λ id. refl;
   empty = tt;
+  announced = tt;
   same = record { id = refl; start = refl };
 }
 
@@ -111,6 +112,7 @@ ends table local call told left learnt doing written h says fits = record {
   changes = same_table table local.id written;
   shown = λ id. refl;
   empty = tt;
+  announced = tt;
   same = record { id = refl; start = refl };
 }
 
@@ -218,6 +220,7 @@ offers table after local learnt doing written h only l d = record {
   };
   shown = λ id. published-slot_at table after id (only.same id);
   empty = tt;
+  announced = tt;
   same = record { id = refl; start = refl };
 }
 
@@ -256,17 +259,16 @@ fill_bucket-fits table local (Private create number) written h d =
 fill_bucket-fits table local _ written h d = tt
 
 -- a call announces its bucket, and no pointer and no slot changes
-announces : {V E : Type 0} (table : Table V) (local : Local V E) (create : Result V E) (number : ℕ)
+announces : {V E : Type 0} (table : Table V) (local : Local V E) (doing : Doing V E)
     → AllWritten table → LocalFits table local
-    → (slot_at table local.id).flag ≡ false
-    → StepFits table local None
-    (with_announced table (bucket_of local.id), record local { doing = Filled create number true })
-announces table local create number written h d =
+    → IsDoing (with_announced table (bucket_of local.id)) local.id doing
+    → StepFits table local None (announce_bucket table local doing)
+announces table local doing written h d =
     let own = bucket_of local.id in
     let after = with_announced table own in
     let same = slot_at-with_announced table own in
     let standing = bucket_stands-with_announced table own in
-    offers table after local local.learnt (Filled create number true) written h
+    offers table after local local.learnt doing written h
     (record {
       same = same;
       standing = λ bucket t. (standing bucket ∙ t, number_at-with_announced table own bucket);
@@ -274,14 +276,20 @@ announces table local create number written h d =
       announced = λ bucket t. announced-more table own bucket t;
     })
     (learnt_carried table after local.id (view_now local) local.learnt (same local.id)
-    (λ t. standing own ∙ t) h.view.learnt_so)
-    (ap (λ slot. slot.flag) (same local.id) ∙ d, λ t. announced-own table own)
+    (λ t. standing own ∙ t) h.view.learnt_so) d
 
 announce_bucket-fits : {V E : Type 0} (table : Table V) (local : Local V E) (doing : Doing V E)
     → AllWritten table → LocalFits table local
     → IsDoing table local.id doing
-    → IfSome (option_map (announce_bucket table local) (unannounced_bucket doing)) (StepFits table local None)
-announce_bucket-fits table local (Filled create number false) written h d = announces table local create number written h d.0
+    → IfSome (option_map (announce_bucket table local) (doing_announced doing)) (StepFits table local None)
+announce_bucket-fits table local (Filled create number false) written h d =
+    let own = bucket_of local.id in
+    announces table local (Filled create number true) written h
+    (ap (λ slot. slot.flag) (slot_at-with_announced table own local.id) ∙ d.0, λ t. announced-own table own)
+announce_bucket-fits table local (Written v false) written h d =
+    let own = bucket_of local.id in
+    announces table local (Written v true) written h
+    (bucket_stands-with_announced table own own ∙ d.0, slot_at-with_announced table own local.id ∙ d.1, λ t. announced-own table own)
 announce_bucket-fits table local _ written h d = tt
 
 -- one slot changes, to one whose flag is set only over a written value
@@ -336,7 +344,7 @@ writes table local v written h stands empty =
           value = h.view.value ∙ none ∙ sym none_after;
           known = λ t. standing;
           learnt_so = (standing, ap (λ s. s.flag) here);
-          doing_so = (standing, here);
+          doing_so = (standing, here, λ t. ap (λ f. f (bucket_of id)) (announced-with_table_slot table id slot) ∙ t);
         };
       };
       changes = slot_changes table id slot stands written (λ t. refl);
@@ -346,6 +354,7 @@ writes table local v written h stands empty =
           (λ apart. shown_other table id other slot apart)
           (cases_eq id other);
       empty = tt;
+      announced = tt;
       same = record { id = refl; start = refl };
     }
 
@@ -418,6 +427,7 @@ installs table local v number written h missing empty known =
           (shown_other there id other slot apart ∙ published-slot_at table there other (same other)))
           (cases_eq id other);
       empty = none;
+      announced = known;
       same = record { id = refl; start = refl };
     }
 
@@ -472,7 +482,7 @@ install_bucket-fits table local _ written h d = tt
 
 -- what a publishing teaches holds
 publish-fits : {V E : Type 0} (table : Table V) (local : Local V E) (v : V) (learnt : Learnt V)
-    → AllWritten table → LocalFits table local → IsDoing {E = E} table local.id (Written v)
+    → AllWritten table → LocalFits table local → IsDoing {E = E} table local.id (Written v true)
     → IfSome (learns (with_flag table local.id)
     (after_call local (GetOr (Ok v) false) (Answered v) local.learnt (Gets 0))
     (learnt_by_publish learnt v))
@@ -495,6 +505,7 @@ publish-fits table local v Vacant written h d =
           (λ apart. rw (ne_eqb id other apart) (shown_other table id other slot apart))
           (cases_eq id other);
       empty = none;
+      announced = d.2 refl;
       same = record { id = refl; start = refl };
     }
 publish-fits table local v _ written h d = tt
@@ -503,7 +514,7 @@ set_flag-fits : {V E : Type 0} (table : Table V) (local : Local V E) (doing : Do
     → IsDoing table local.id doing
     → IfSome (option_and_then (set_flag table local) (value_written doing))
     (StepFits table local (value_written doing))
-set_flag-fits table local (Written v) written h d = publish-fits table local v local.learnt written h d
+set_flag-fits table local (Written v true) written h d = publish-fits table local v local.learnt written h d
 set_flag-fits table local _ written h d = tt
 
 -- a get that ends with the value of the view

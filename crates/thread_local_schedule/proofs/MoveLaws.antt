@@ -32,7 +32,7 @@ pub give_moves : {V E : Type 0} (core : Core V E) (n : ℕ) (local : Local V E)
 give_moves core n local t at = rw (t, at) refl
 
 pub publish_moves : {V E : Type 0} (core : Core V E) (n : ℕ) (local : Local V E) (v : V)
-    → IsTrue (is_enabled core (OfLocal n SetFlag)) → core.locals n ≡ Some local → local.doing ≡ Written v
+    → IsTrue (is_enabled core (OfLocal n SetFlag)) → core.locals n ≡ Some local → local.doing ≡ Written v true
     → move core (OfLocal n SetFlag) ≡ Some (OfSheet (OfHistory (Publish local.id v)))
 publish_moves core n local v t at written = rw (t, at, written) refl
 

@@ -16,7 +16,7 @@ use Rattle.thread_local_schedule.specs.Local.{write_value, set_flag, reply, loca
 use Rattle.thread_local_schedule.specs.Local.{LoadPointer, LookAtFlag, MakeBucket, FillBucket, AnnounceBucket, InstallBucket}
 use Rattle.thread_local_schedule.specs.Local.{WriteValue, SetFlag}
 use Rattle.thread_local_schedule.specs.Local.{Reply, doing_with_get, doing_with_get_or, begin_call, closure_at_missing}
-use Rattle.thread_local_schedule.specs.Local.{closure_at_vacant, ending_of, empty_bucket, unannounced_bucket, filled_bucket, value_written}
+use Rattle.thread_local_schedule.specs.Local.{closure_at_vacant, ending_of, empty_bucket, doing_announced, filled_bucket, value_written}
 use Rattle.thread_local_schedule.specs.Fits.{number_at}
 use Rattle.thread_local_schedule.specs.Numbers.{own_number, NumbersGo}
 use Rattle.thread_local_schedule.proofs.CallsLaws.{whatever_is_learnt, either_install}
@@ -104,12 +104,17 @@ fill_bucket-numbers table local _ at = tt
 
 announce_bucket-numbers : {V E : Type 0} (table : Table V) (local : Local V E) (doing : Doing V E)
     → local.doing ≡ doing
-    → IfSome (option_map (announce_bucket table local) (unannounced_bucket doing)) (NumbersGo table local)
+    → IfSome (option_map (announce_bucket table local) (doing_announced doing)) (NumbersGo table local)
 announce_bucket-numbers table local (Filled create number false) at =
     same_numbers table (with_announced table (bucket_of local.id)) local _
     (made-with_announced table (bucket_of local.id))
     (number_at-with_announced table (bucket_of local.id))
     (λ k e. ap own_number at ∙ e)
+announce_bucket-numbers table local (Written v false) at =
+    same_numbers table (with_announced table (bucket_of local.id)) local _
+    (made-with_announced table (bucket_of local.id))
+    (number_at-with_announced table (bucket_of local.id))
+    (λ k e. cc)
 announce_bucket-numbers table local _ at = tt
 
 -- a pointer that isn't null after an install led to the same bucket before, or is the one that was
@@ -181,7 +186,7 @@ write_value-numbers table local _ _ = tt
 
 set_flag-numbers : {V E : Type 0} (table : Table V) (local : Local V E) (doing : Doing V E)
     → IfSome (option_and_then (set_flag table local) (value_written doing)) (NumbersGo table local)
-set_flag-numbers table local (Written v) =
+set_flag-numbers table local (Written v true) =
     whatever_is_learnt (with_flag table local.id)
     (after_call local (GetOr (Ok v) false) (Answered v) local.learnt (Gets 0))
     (learnt_by_publish local.learnt v)

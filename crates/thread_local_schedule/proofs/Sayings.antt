@@ -34,7 +34,7 @@ private id (Gets count) number e = cc
 private id (Started create) number e = cc
 private id (Private create own) number e = refl
 private id (Filled create own announced) number e = refl
-private id (Written v) number e = cc
+private id (Written v announced) number e = cc
 
 pub nothing : {V E : Type 0} (core : Core V E) (events later : List (Event V E)) (event : Event V E)
     → NothingRefused core (events ++ event ∷ later)

@@ -10,7 +10,7 @@ use Rattle.thread_local_schedule.specs.Table.{Table, published, bucket_stands}
 use Rattle.thread_local_schedule.specs.Local.{Doing, Gets, Started, Private, Filled, Written, Local, LocalStep, local_step}
 use Rattle.thread_local_schedule.specs.Local.{BeginGet, BeginGetOr, LoadPointer, LookAtFlag, MakeBucket, FillBucket, AnnounceBucket}
 use Rattle.thread_local_schedule.specs.Local.{InstallBucket, WriteValue, SetFlag, Reply, doing_with_get, doing_with_get_or, may_look}
-use Rattle.thread_local_schedule.specs.Local.{learns, closure_at_missing, empty_bucket, unannounced_bucket, filled_bucket}
+use Rattle.thread_local_schedule.specs.Local.{learns, closure_at_missing, empty_bucket, doing_announced, filled_bucket}
 use Rattle.thread_local_schedule.specs.Local.{OwnBucket, installed_bucket, install_bucket, closure_at_vacant}
 use Rattle.thread_local_schedule.specs.Local.{value_written, set_flag, ending_of}
 use Rattle.thread_local_schedule.specs.Calls.{HasLearnt}
@@ -58,7 +58,7 @@ gets (Gets count) = (λ t. (count, refl), λ p. refl)
 gets (Started create) = (λ t. absurd (false≢true t), λ p. let e = p.1 in cc)
 gets (Private create number) = (λ t. absurd (false≢true t), λ p. let e = p.1 in cc)
 gets (Filled other number announced) = (λ t. absurd (false≢true t), λ p. let e = p.1 in cc)
-gets (Written v) = (λ t. absurd (false≢true t), λ p. let e = p.1 in cc)
+gets (Written v announced) = (λ t. absurd (false≢true t), λ p. let e = p.1 in cc)
 
 none_under_way : {V E : Type 0} (create : Result V E) (doing : Doing V E)
     → IsTrue (is_some (doing_with_get_or create doing)) ↔ (doing ≡ Gets 0)
@@ -67,7 +67,7 @@ none_under_way create (Gets (suc count)) = (λ t. absurd (false≢true t), λ e.
 none_under_way create (Started other) = (λ t. absurd (false≢true t), λ e. cc)
 none_under_way create (Private other number) = (λ t. absurd (false≢true t), λ e. cc)
 none_under_way create (Filled other number announced) = (λ t. absurd (false≢true t), λ e. cc)
-none_under_way create (Written v) = (λ t. absurd (false≢true t), λ e. cc)
+none_under_way create (Written v announced) = (λ t. absurd (false≢true t), λ e. cc)
 
 pub get_begins : {V E : Type 0} (core : Core V E) (n : ℕ) (local : Local V E) → core.ended ≡ false
     → core.locals n ≡ Some local
@@ -101,7 +101,7 @@ looking (Filled other number announced) o = (
   λ t. absurd (false≢true t),
   λ p. ⊎_elim (λ x. let e = x.1 in cc) (λ x. let e = x.1 in cc) p.0,
 )
-looking (Written v) o = (λ t. absurd (false≢true t), λ p. ⊎_elim (λ x. let e = x.1 in cc) (λ x. let e = x.1 in cc) p.0)
+looking (Written v announced) o = (λ t. absurd (false≢true t), λ p. ⊎_elim (λ x. let e = x.1 in cc) (λ x. let e = x.1 in cc) p.0)
 
 some_learnt : {V E : Type 0} (table : Table V) (local : Local V E) (o : Option (Learnt V))
     → is_some (learns table local o) ≡ is_some o
@@ -166,7 +166,7 @@ missing (Started create) (Holding v) = (λ t. absurd (false≢true t), λ p. let
 missing (Gets count) learnt = (λ t. absurd (false≢true t), λ p. let e = p.0.1 in cc)
 missing (Private create number) learnt = (λ t. absurd (false≢true t), λ p. let e = p.0.1 in cc)
 missing (Filled other number announced) learnt = (λ t. absurd (false≢true t), λ p. let e = p.0.1 in cc)
-missing (Written v) learnt = (λ t. absurd (false≢true t), λ p. let e = p.0.1 in cc)
+missing (Written v announced) learnt = (λ t. absurd (false≢true t), λ p. let e = p.0.1 in cc)
 
 pub asks : {V E : Type 0} (core : Core V E) (n : ℕ) (local : Local V E) (refused : Bool) → core.ended ≡ false
     → core.locals n ≡ Some local
@@ -190,7 +190,7 @@ vacant (Started create) (Holding v) = (λ t. absurd (false≢true t), λ p. let 
 vacant (Gets count) learnt = (λ t. absurd (false≢true t), λ p. let e = p.0.1 in cc)
 vacant (Private create number) learnt = (λ t. absurd (false≢true t), λ p. let e = p.0.1 in cc)
 vacant (Filled other number announced) learnt = (λ t. absurd (false≢true t), λ p. let e = p.0.1 in cc)
-vacant (Written v) learnt = (λ t. absurd (false≢true t), λ p. let e = p.0.1 in cc)
+vacant (Written v announced) learnt = (λ t. absurd (false≢true t), λ p. let e = p.0.1 in cc)
 
 pub writes : {V E : Type 0} (core : Core V E) (n : ℕ) (local : Local V E) → core.ended ≡ false
     → core.locals n ≡ Some local
@@ -210,7 +210,7 @@ unfilled (Private create number) = (λ t. (create, number, refl), λ p. refl)
 unfilled (Filled other number announced) = (λ t. absurd (false≢true t), λ p. let e = p.2 in cc)
 unfilled (Gets count) = (λ t. absurd (false≢true t), λ p. let e = p.2 in cc)
 unfilled (Started create) = (λ t. absurd (false≢true t), λ p. let e = p.2 in cc)
-unfilled (Written v) = (λ t. absurd (false≢true t), λ p. let e = p.2 in cc)
+unfilled (Written v announced) = (λ t. absurd (false≢true t), λ p. let e = p.2 in cc)
 
 pub fills : {V E : Type 0} (core : Core V E) (n : ℕ) (local : Local V E) → core.ended ≡ false
     → core.locals n ≡ Some local
@@ -222,24 +222,28 @@ fills core n local going at =
     (local_enabled core n local FillBucket going at ∙ some_mapped _ (empty_bucket local.doing))
     (unfilled local.doing)
 
--- a bucket is announced by the call that has filled it and doesn't know it to be announced
-unknown : {V E : Type 0} (doing : Doing V E)
-    → IsTrue (is_some (unannounced_bucket doing)) ↔ ((create : Result V E) × (number : ℕ) × (doing ≡ Filled create number false))
-unknown (Filled create number false) = (λ t. (create, number, refl), λ p. refl)
-unknown (Filled create number true) = (λ t. absurd (false≢true t), λ p. let e = p.2 in cc)
-unknown (Private create number) = (λ t. absurd (false≢true t), λ p. let e = p.2 in cc)
-unknown (Gets count) = (λ t. absurd (false≢true t), λ p. let e = p.2 in cc)
-unknown (Started create) = (λ t. absurd (false≢true t), λ p. let e = p.2 in cc)
-unknown (Written v) = (λ t. absurd (false≢true t), λ p. let e = p.2 in cc)
+-- a bucket is announced by the call that has filled it, or written its value there, and doesn't know it
+-- to be announced
+abbrev pub MayAnnounce : {V E : Type 0} → Doing V E → Type 0
+MayAnnounce {V} {E} doing =
+    ((create : Result V E) × (number : ℕ) × (doing ≡ Filled create number false)) ⊎ ((v : V) × (doing ≡ Written v false))
+
+unknown : {V E : Type 0} (doing : Doing V E) → IsTrue (is_some (doing_announced doing)) ↔ MayAnnounce doing
+unknown (Filled create number false) = (λ t. inl (create, number, refl), λ p. refl)
+unknown (Written v false) = (λ t. inr (v, refl), λ p. refl)
+unknown (Filled create number true) = (λ t. absurd (false≢true t), λ p. ⊎_elim (λ x. let e = x.2 in cc) (λ x. let e = x.1 in cc) p)
+unknown (Written v true) = (λ t. absurd (false≢true t), λ p. ⊎_elim (λ x. let e = x.2 in cc) (λ x. let e = x.1 in cc) p)
+unknown (Private create number) = (λ t. absurd (false≢true t), λ p. ⊎_elim (λ x. let e = x.2 in cc) (λ x. let e = x.1 in cc) p)
+unknown (Gets count) = (λ t. absurd (false≢true t), λ p. ⊎_elim (λ x. let e = x.2 in cc) (λ x. let e = x.1 in cc) p)
+unknown (Started create) = (λ t. absurd (false≢true t), λ p. ⊎_elim (λ x. let e = x.2 in cc) (λ x. let e = x.1 in cc) p)
 
 pub announces : {V E : Type 0} (core : Core V E) (n : ℕ) (local : Local V E) → core.ended ≡ false
     → core.locals n ≡ Some local
-    → IsTrue (is_enabled core (OfLocal n AnnounceBucket))
-    ↔ ((create : Result V E) × (number : ℕ) × (local.doing ≡ Filled create number false))
+    → IsTrue (is_enabled core (OfLocal n AnnounceBucket)) ↔ MayAnnounce local.doing
 unfolding local_step
 announces core n local going at =
     equal_tests _ _
-    (local_enabled core n local AnnounceBucket going at ∙ some_mapped _ (unannounced_bucket local.doing))
+    (local_enabled core n local AnnounceBucket going at ∙ some_mapped _ (doing_announced local.doing))
     (unknown local.doing)
 
 -- a bucket is offered by the call that has filled it and knows it to be announced
@@ -263,7 +267,7 @@ own table local (Filled create number false) h = (λ t. absurd (false≢true t),
 own table local (Private create number) h = (λ t. absurd (false≢true t), λ p. let e = p.2 in cc)
 own table local (Gets count) h = (λ t. absurd (false≢true t), λ p. let e = p.2 in cc)
 own table local (Started create) h = (λ t. absurd (false≢true t), λ p. let e = p.2 in cc)
-own table local (Written v) h = (λ t. absurd (false≢true t), λ p. let e = p.2 in cc)
+own table local (Written v announced) h = (λ t. absurd (false≢true t), λ p. let e = p.2 in cc)
 
 pub installs : {V E : Type 0} (core : Core V E) (n : ℕ) (local : Local V E) → CoreFits core → core.ended ≡ false
     → core.locals n ≡ Some local
@@ -274,18 +278,19 @@ installs core n local h going at =
     equal_tests _ _ (local_enabled core n local InstallBucket going at)
     (own core.table local local.doing (h.locals.each n local at).learnt)
 
--- a flag is set by the call that has written its value
+-- a flag is set by the call that has written its value and knows its bucket to be announced
 wrote : {V E : Type 0} (table : Table V) (local : Local V E) (doing : Doing V E) → HasLearnt doing local.learnt
-    → IsTrue (is_some (option_and_then (set_flag table local) (value_written doing))) ↔ ((v : V) × (doing ≡ Written v))
-wrote table local (Written v) h = (λ t. (v, refl), λ p. rw (some_learnt _ _ (learnt_by_publish local.learnt v), h) refl)
+    → IsTrue (is_some (option_and_then (set_flag table local) (value_written doing))) ↔ ((v : V) × (doing ≡ Written v true))
+wrote table local (Written v true) h = (λ t. (v, refl), λ p. rw (some_learnt _ _ (learnt_by_publish local.learnt v), h) refl)
 wrote table local (Gets count) h = (λ t. absurd (false≢true t), λ p. let e = p.1 in cc)
 wrote table local (Started create) h = (λ t. absurd (false≢true t), λ p. let e = p.1 in cc)
 wrote table local (Private create number) h = (λ t. absurd (false≢true t), λ p. let e = p.1 in cc)
 wrote table local (Filled other number announced) h = (λ t. absurd (false≢true t), λ p. let e = p.1 in cc)
+wrote table local (Written v false) h = (λ t. absurd (false≢true t), λ p. let e = p.1 in cc)
 
 pub sets : {V E : Type 0} (core : Core V E) (n : ℕ) (local : Local V E) → CoreFits core → core.ended ≡ false
     → core.locals n ≡ Some local
-    → IsTrue (is_enabled core (OfLocal n SetFlag)) ↔ ((v : V) × (local.doing ≡ Written v))
+    → IsTrue (is_enabled core (OfLocal n SetFlag)) ↔ ((v : V) × (local.doing ≡ Written v true))
 unfolding local_step
 sets core n local h going at =
     equal_tests _ _ (local_enabled core n local SetFlag going at)
@@ -324,7 +329,7 @@ answer (Started create) Standing = no_answer (Started create) Standing (λ n e a
 answer (Started create) Vacant = no_answer (Started create) Vacant (λ n e a b. cc) (λ c v e f. cc)
 answer (Private create number) learnt = no_answer (Private create number) learnt (λ n e a b. cc) (λ c v e f. cc)
 answer (Filled other number announced) learnt = no_answer (Filled other number announced) learnt (λ n e a b. cc) (λ c v e f. cc)
-answer (Written v) learnt = no_answer (Written v) learnt (λ n e a b. cc) (λ c w e f. cc)
+answer (Written v announced) learnt = no_answer (Written v announced) learnt (λ n e a b. cc) (λ c w e f. cc)
 
 pub replies : {V E : Type 0} (core : Core V E) (n : ℕ) (local : Local V E) → core.ended ≡ false
     → core.locals n ≡ Some local

@@ -9,7 +9,7 @@ use Rattle.thread_local_schedule.specs.Table.{published, bucket_stands, with_ann
 use Rattle.thread_local_schedule.specs.Table.{with_table_slot, with_filled_bucket, made_table}
 use Rattle.thread_local_base.specs.Capacity.{reserves_bucket}
 use Rattle.thread_local_schedule.specs.Fits.{number_at, IsSameBucket}
-use Rattle.std.specs.Prelude.{option_map, nat_lt, ◌||◌}
+use Rattle.std.specs.Prelude.{option_map, nat_lt}
 
 pub same_function : {A B : Type 0} (f g : A → B) → ((x : A) → f x ≡ g x) → f ≡ g
 same_function f g h = λ i x. h x i
@@ -247,9 +247,8 @@ pub bucket_stands-made_table : (T : Type 0) (capacity bucket : ℕ)
 unfolding bucket_stands made_table
 bucket_stands-made_table T capacity bucket = some-made {A = Bucket T} (reserves_bucket capacity bucket) (fresh_bucket bucket)
 
--- the table of a capacity announces the first seven buckets and those that it reserves
-pub announced-made_table : (T : Type 0) (capacity bucket : ℕ)
-    → (made_table {V = T} capacity).announced bucket ≡ (nat_lt bucket 7 || reserves_bucket capacity bucket)
+-- the table of a capacity announces the first seven buckets alone
+pub announced-made_table : (T : Type 0) (capacity bucket : ℕ) → (made_table {V = T} capacity).announced bucket ≡ nat_lt bucket 7
 unfolding made_table
 announced-made_table T capacity bucket = refl
 

@@ -298,7 +298,7 @@ begun_walk-fits table announced = record {
     passed = λ id v e l. absurd (omega arith);
   };
   cursor = cursors.fresh_cursor-fits;
-  seen_announced = λ id v e. announced (bucket_of id) (published_stands table id v e);
+  seen_announced = announced;
   looks_announced = λ f. absurd (false≢true f);
   loads = refl;
 }

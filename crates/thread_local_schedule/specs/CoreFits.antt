@@ -1,6 +1,6 @@
 -- The invariant of a core, kept by every event, in its parts.
 use Rattle.std.specs.Prelude.{◌≢◌}
-use Rattle.std.proofs.Common.{◌≡◌, ℕ, ◌^◌, ◌-◌, ◌<◌, ◌≤◌, max, Bool, List, length, Option, Some, None, IsTrue}
+use Rattle.std.proofs.Common.{◌≡◌, ℕ, ◌^◌, ◌-◌, ◌<◌, ◌≤◌, max, Bool, false, List, length, Option, Some, None, IsTrue}
 use Rattle.thread_local_base.specs.Held.{Manager, is_held}
 use Rattle.thread_local_base.specs.Capacity.{reserves_bucket, is_reserved}
 use Rattle.thread_local_schedule.specs.Table.{Table, published, bucket_stands}
@@ -21,7 +21,8 @@ pub record ManagerFits (manager : Manager) (capacity : ℕ) : Type 0 where
 
 -- flags are set only over written values; a bucket that stands has no more slots than the capacity
 -- or the peak, whichever is greater; the reserved buckets stand; published values lie below the
--- peak; and the first seven buckets are announced, and each that stands
+-- peak; and the first seven buckets are announced, that of each published value, and each that stands
+-- and isn't reserved
 pub record TableFits {V : Type 0} (table : Table V) (capacity peak : ℕ) : Type 0 where
   pub written : AllWritten table
   pub small : (bucket : ℕ) → IsTrue (bucket_stands table bucket) → 2 ^ bucket ≤ max capacity peak
@@ -29,6 +30,8 @@ pub record TableFits {V : Type 0} (table : Table V) (capacity peak : ℕ) : Type
   pub below : (id : ℕ) (v : V) → published table id ≡ Some v → id < peak
   pub first_announced : (bucket : ℕ) → bucket < 7 → IsTrue (table.announced bucket)
   pub announced : AllAnnounced table
+  pub standing_announced : (bucket : ℕ) → IsTrue (bucket_stands table bucket) → reserves_bucket capacity bucket ≡ false
+      → IsTrue (table.announced bucket)
 
 -- a Local fits its table, what it does fits what it has learnt, its id is held, and if that is
 -- reserved its bucket is known to stand from the start

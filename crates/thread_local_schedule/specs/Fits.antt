@@ -18,9 +18,9 @@ IsWritten slot = IsTrue slot.flag → IsTrue (is_some slot.written)
 abbrev pub AllWritten : {V : Type 0} → Table V → Type 0
 AllWritten table = (id : ℕ) → IsWritten (slot_at table id)
 
--- every bucket that stands is announced
+-- the bucket of every published value is announced
 abbrev pub AllAnnounced : {V : Type 0} → Table V → Type 0
-AllAnnounced table = (bucket : ℕ) → IsTrue (bucket_stands table bucket) → IsTrue (table.announced bucket)
+AllAnnounced {V} table = (id : ℕ) (v : V) → published table id ≡ Some v → IsTrue (table.announced (bucket_of id))
 
 -- the view of a Local now: its first view, after its ended calls
 abbrev pub view_now : {V E : Type 0} → Local V E → View V
@@ -34,17 +34,18 @@ IsLearnt table id view Standing = IsTrue (bucket_stands table (bucket_of id))
 IsLearnt table id view Vacant = IsTrue (bucket_stands table (bucket_of id)) × ((slot_at table id).flag ≡ false)
 IsLearnt table id view (Holding v) = published table id ≡ Some v
 
--- a Local with a bucket of its own finds its flag unset, and its bucket announced where it knows
--- that, and one that has written into a bucket that stands also finds its value
+-- a Local with a bucket of its own finds its flag unset, and one that has written into a bucket that
+-- stands also finds its value; and either finds its bucket announced where it knows that
 abbrev pub IsDoing : {V E : Type 0} → Table V → ℕ → Doing V E → Type 0
 IsDoing table id (Gets count) = ⊤
 IsDoing table id (Started create) = ⊤
 IsDoing table id (Private create number) = (slot_at table id).flag ≡ false
 IsDoing table id (Filled create number announced) =
     ((slot_at table id).flag ≡ false) × (IsTrue announced → IsTrue (table.announced (bucket_of id)))
-IsDoing table id (Written v) =
+IsDoing table id (Written v announced) =
     IsTrue (bucket_stands table (bucket_of id))
     × (slot_at table id ≡ record { written = Some v; flag = false })
+    × (IsTrue announced → IsTrue (table.announced (bucket_of id)))
 
 -- A view has the value that its slot shows, a bucket that it knows to stand does stand, and what
 -- was learnt and done holds.
@@ -98,11 +99,12 @@ pub record IsSameLocal {V E : Type 0} (before after : Local V E) : Type 0 where
   pub id : after.id ≡ before.id
   pub start : after.start ≡ before.start
 
--- What a step leaves of a Local and its table. It publishes this value, where none was published,
--- or none.
+-- What a step leaves of a Local and its table. It publishes this value, where none was published and
+-- the bucket was announced, or none.
 pub record StepFits {V E : Type 0} (table : Table V) (local : Local V E) (set : Option V) (after : Table V × Local V E) : Type 0 where
   pub fits : LocalFits after.0 after.1
   pub changes : ChangesOnly table after.0 local.id
   pub shown : (id : ℕ) → published after.0 id ≡ with_value_if (published table) local.id set id
   pub empty : IfSome set (λ _. published table local.id ≡ None)
+  pub announced : IfSome set (λ _. IsTrue (table.announced (bucket_of local.id)))
   pub same : IsSameLocal local after.1

@@ -11,14 +11,15 @@ use Rattle.thread_local_schedule.specs.Table.{with_filled_bucket, with_written, 
 
 -- What a Local does: any number of gets are under way, or one publishing call. That one has begun,
 -- with what its closure would answer; or it has made an empty bucket of its own, with this number;
--- or it has called its closure, and put the value into that bucket if there is one, and knows the
--- bucket to be announced or not; or it has written its value into the slot of a bucket that stands.
+-- or it has called its closure, and put the value into that bucket if there is one; or it has written
+-- its value into the slot of a bucket that stands. In the last two it knows its bucket to be announced
+-- or not.
 pub data Doing (V E : Type 0) : Type 0 where
   Gets : (count : ℕ) → Doing V E
   Started : (create : Result V E) → Doing V E
   Private : (create : Result V E) → (number : ℕ) → Doing V E
   Filled : (create : Result V E) → (number : ℕ) → (announced : Bool) → Doing V E
-  Written : (value : V) → Doing V E
+  Written : (value : V) → (announced : Bool) → Doing V E
 
 -- a Local: its id, what it has learnt and does, its view at the start, and its ended calls with
 -- their answers, in order
@@ -119,16 +120,17 @@ abbrev pub fill_bucket : {V E : Type 0} → Table V → Local V E → OwnBucket 
 fill_bucket table local own =
     (table, record local { doing = Filled own.create own.number (table.announced (bucket_of local.id)) })
 
--- the bucket of a call that has called its closure and doesn't know the bucket to be announced
-abbrev pub unannounced_bucket : {V E : Type 0} → Doing V E → Option (OwnBucket V E)
-unannounced_bucket (Filled create number false) = Some (record { create = create; number = number })
-unannounced_bucket doing = None
+-- what a call does after it has announced its bucket, if it has called its closure and doesn't know the
+-- bucket to be announced
+abbrev pub doing_announced : {V E : Type 0} → Doing V E → Option (Doing V E)
+doing_announced (Filled create number false) = Some (Filled create number true)
+doing_announced (Written v false) = Some (Written v true)
+doing_announced doing = None
 
 -- such a call announces it. Where another call has done so in the meantime, nothing changes but that
 -- this one knows it.
-abbrev pub announce_bucket : {V E : Type 0} → Table V → Local V E → OwnBucket V E → Table V × Local V E
-announce_bucket table local own =
-    (with_announced table (bucket_of local.id), record local { doing = Filled own.create own.number true })
+abbrev pub announce_bucket : {V E : Type 0} → Table V → Local V E → Doing V E → Table V × Local V E
+announce_bucket table local doing = (with_announced table (bucket_of local.id), record local { doing = doing })
 
 -- the bucket of a call that has called its closure and knows the bucket to be announced
 abbrev pub filled_bucket : {V E : Type 0} → Doing V E → Option (OwnBucket V E)
@@ -161,14 +163,16 @@ abbrev pub closure_at_vacant : {V E : Type 0} → Doing V E → Learnt V → Opt
 closure_at_vacant (Started create) Vacant = Some create
 closure_at_vacant doing learnt = None
 
--- such a call writes what its closure answers, or ends with the closure's error
+-- such a call writes what its closure answers, and loads whether its bucket is announced; or it ends
+-- with the closure's error
 abbrev pub write_value : {V E : Type 0} → Table V → Local V E → Result V E → Table V × Local V E
-write_value table local (Ok v) = (with_written table local.id v, record local { learnt = Vacant; doing = Written v })
+write_value table local (Ok v) =
+    (with_written table local.id v, record local { learnt = Vacant; doing = Written v (table.announced (bucket_of local.id)) })
 write_value table local (Err e) = (table, after_call local (GetOr (Err e) false) (Failed e) Vacant (Gets 0))
 
--- the value that a call has written, if any
+-- the value of a call that has written it and knows its bucket to be announced
 abbrev pub value_written : {V E : Type 0} → Doing V E → Option V
-value_written (Written v) = Some v
+value_written (Written v true) = Some v
 value_written doing = None
 
 -- such a call sets its flag, which publishes the value, and ends
@@ -205,7 +209,7 @@ local_step table local LookAtFlag = if may_look local.doing then look_at_flag ta
 local_step table local (MakeBucket refused) =
     option_map (make_bucket table local refused) (closure_at_missing local.doing local.learnt)
 local_step table local FillBucket = option_map (fill_bucket table local) (empty_bucket local.doing)
-local_step table local AnnounceBucket = option_map (announce_bucket table local) (unannounced_bucket local.doing)
+local_step table local AnnounceBucket = option_map (announce_bucket table local) (doing_announced local.doing)
 local_step table local InstallBucket = option_and_then (install_bucket table local) (filled_bucket local.doing)
 local_step table local WriteValue = option_map (write_value table local) (closure_at_vacant local.doing local.learnt)
 local_step table local SetFlag = option_and_then (set_flag table local) (value_written local.doing)

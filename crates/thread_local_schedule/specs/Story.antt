@@ -17,7 +17,7 @@ abbrev pub publishes_first : {V E : Type 0} → ℕ → V → List (Event V E)
 publishes_first number value =
     steps_of number (BeginGetOr (Ok value) ∷ LoadPointer ∷ MakeBucket false ∷ FillBucket ∷ InstallBucket ∷ [])
 
--- a publishing call whose bucket stands
+-- a publishing call whose bucket stands, and is announced
 abbrev pub publishes_beside : {V E : Type 0} → ℕ → V → List (Event V E)
 publishes_beside number value = steps_of number (BeginGetOr (Ok value) ∷ LoadPointer ∷ LookAtFlag ∷ WriteValue ∷ SetFlag ∷ [])
 

@@ -1,5 +1,5 @@
 -- The model of a table: 63 pointers to buckets, and slots that hold a value and its flag.
-use Rattle.std.specs.Prelude.{ℕ, Bool, true, false, ◌||◌, nat_lt, Option, Some, None, is_some, ◌==◌, if◌then◌else◌}
+use Rattle.std.specs.Prelude.{ℕ, Bool, true, false, nat_lt, Option, Some, None, is_some, ◌==◌, if◌then◌else◌}
 use Rattle.thread_local_base.specs.Place.{bucket_of, index_of}
 use Rattle.thread_local_base.specs.Capacity.{binary_digits, reserves_bucket}
 use Rattle.thread_local_base.specs.Walk.{with_value}
@@ -52,12 +52,12 @@ published table id = value_of (slot_at table id)
 unfoldable pub bucket_stands : {V : Type 0} → Table V → ℕ → Bool
 bucket_stands table bucket = is_some (table.pointers bucket)
 
--- the table of a capacity: exactly the buckets that it reserves, numbered from 0 up. They are
--- announced, and so are the first seven.
+-- the table of a capacity: exactly the buckets that it reserves, numbered from 0 up. The first seven
+-- buckets are announced, reserved or not, and no other.
 unfoldable pub made_table : {V : Type 0} → ℕ → Table V
 made_table capacity = record {
   pointers = λ bucket. if reserves_bucket capacity bucket then Some (fresh_bucket bucket) else None;
-  announced = λ bucket. nat_lt bucket 7 || reserves_bucket capacity bucket;
+  announced = λ bucket. nat_lt bucket 7;
   made = binary_digits capacity;
 }
 

@@ -38,7 +38,7 @@ pub fn events_change<V, E>()
         → IsReached core
         → IsTrue (is_enabled core (OfLocal n SetFlag))
         → core.locals n ≡ Some local
-        → local.doing ≡ Written v
+        → local.doing ≡ Written v true
         → shadow (happens core (OfLocal n SetFlag))
         ≡ record (shadow core) { values = with_value (shadow core).values local.id v } }
     ensures installs_value { (core : Core V E) (n : ℕ) (local : Local V E) (v : V) (number : ℕ)
@@ -82,7 +82,8 @@ pub fn events_change<V, E>()
         → shadow (happens core event) ≡ shadow core }
 
     // A value is published where it is written and its flag is set, and only there. It is written
-    // in the slot of the Local's id, and its flag set there.
+    // in the slot of the Local's id, and its flag set there. The call that has written it knows
+    // whether its bucket is announced.
     ensures shows { (core : Core V E) (id : ℕ) (v : V)
         → ((shadow core).values id ≡ Some v)
         ↔ (IsTrue (slot_at core.table id).flag × ((slot_at core.table id).written ≡ Some v)) }
@@ -93,6 +94,12 @@ pub fn events_change<V, E>()
         → local.doing ≡ Started (Ok v)
         → slot_at (happens core (OfLocal n WriteValue)).table local.id
         ≡ record (slot_at core.table local.id) { written = Some v } }
+    ensures wrote { (core : Core V E) (n : ℕ) (local : Local V E) (v : V)
+        → IsTrue (is_enabled core (OfLocal n WriteValue))
+        → core.locals n ≡ Some local
+        → local.doing ≡ Started (Ok v)
+        → IsSomeAnd ((happens core (OfLocal n WriteValue)).locals n)
+        (λ after. after.doing ≡ Written v (core.table.announced (bucket_of local.id))) }
     ensures sets_flag { (core : Core V E) (n : ℕ) (local : Local V E)
         → IsReached core
         → IsTrue (is_enabled core (OfLocal n SetFlag))
@@ -102,7 +109,8 @@ pub fn events_change<V, E>()
 
     // A call makes its bucket empty. To fill it changes nothing of the table: the call puts in the
     // closure's value, if there is one, and then knows whether the bucket is announced. Where it
-    // isn't, the call announces that bucket and no other.
+    // isn't, the call announces that bucket and no other; and so does one that has written its
+    // value.
     ensures makes { (core : Core V E) (n : ℕ) (local : Local V E) (create : Result V E)
         → IsTrue (is_enabled core (OfLocal n (MakeBucket false)))
         → core.locals n ≡ Some local
@@ -130,6 +138,12 @@ pub fn events_change<V, E>()
         → local.doing ≡ Filled create number false
         → IsSomeAnd ((happens core (OfLocal n AnnounceBucket)).locals n)
         (λ after. after.doing ≡ Filled create number true) }
+    ensures announced_beside { (core : Core V E) (n : ℕ) (local : Local V E) (v : V)
+        → IsTrue (is_enabled core (OfLocal n AnnounceBucket))
+        → core.locals n ≡ Some local
+        → local.doing ≡ Written v false
+        → IsSomeAnd ((happens core (OfLocal n AnnounceBucket)).locals n)
+        (λ after. after.doing ≡ Written v true) }
 
     // An install makes the bucket of its Local's id stand, and no other: where none stood, it is
     // the one that the call has made.
@@ -165,7 +179,7 @@ pub fn events_change<V, E>()
     ensures holds { (core : Core V E) (n : ℕ) (local : Local V E) (v : V)
         → IsTrue (is_enabled core (OfLocal n SetFlag))
         → core.locals n ≡ Some local
-        → local.doing ≡ Written v
+        → local.doing ≡ Written v true
         → IsSomeAnd ((happens core (OfLocal n SetFlag)).locals n)
         (λ after. after.learnt ≡ Holding v) }
 {}

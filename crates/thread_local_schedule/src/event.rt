@@ -55,8 +55,8 @@ pub fn events_say<V, E>()
         → IsTrue (is_granted_take core event)
         → IsSomeAnd (newcomer core event) (λ local. HasNoCall local × (local.learnt ≡ Unknown)) }
 
-    // A call under way always has an enabled step that brings it nearer to its end, and no call has
-    // many steps left.
+    // A call under way always has an enabled step that brings it nearer to its end. No call has many
+    // steps left, and none has more where its bucket is announced.
     ensures goes_on { (core : Core V E) (n : ℕ) (local : Local V E)
         → IsReached core
         → core.ended ≡ false
@@ -64,9 +64,12 @@ pub fn events_say<V, E>()
         → (HasNoCall local → ⊥)
         → (step : LocalStep V E)
         × IsTrue (is_enabled core (OfLocal n step))
-        × IsSomeAnd ((happens core (OfLocal n step)).locals n) (GoesDown local) }
-    ensures few_steps { (local : Local V E)
-        → steps_left local.doing local.learnt ≤ gets_of local.doing + 7 }
+        × IsSomeAnd ((happens core (OfLocal n step)).locals n) (λ after.
+        GoesDown (core.table, local) ((happens core (OfLocal n step)).table, after)) }
+    ensures few_steps { (announced : Bool) (local : Local V E)
+        → steps_left announced local.doing local.learnt ≤ gets_of local.doing + 7 }
+    ensures announced_fewer { (local : Local V E)
+        → steps_left true local.doing local.learnt ≤ steps_left false local.doing local.learnt }
 
     // A load teaches whether the bucket stands, and a look what is published. Memory is asked for
     // only where the bucket was missing, and only an install makes a bucket stand, that of its
@@ -102,8 +105,8 @@ pub fn events_say<V, E>()
         → IsTrue (is_enabled core (OfLocal n WriteValue))
         × IsSomeAnd ((happens core (OfLocal n WriteValue)).locals n) (EndsWith (Failed e) local) }
 
-    // A bucket is announced before it stands, by the step for it of a Local whose bucket it is, and
-    // stays so.
+    // A bucket is announced by the step for it of a Local whose bucket it is, and stays so. That
+    // comes before a value is published in it, and before it stands, if it doesn't from the start.
     ensures announces { (core : Core V E) (event : Event V E) (bucket : ℕ)
         → core.table.announced bucket ≡ false
         → IsTrue ((happens core event).table.announced bucket)
@@ -118,6 +121,11 @@ pub fn events_say<V, E>()
         → bucket_stands core.table bucket ≡ false
         → IsTrue (bucket_stands (happens core event).table bucket)
         → IsTrue (core.table.announced bucket) }
+    ensures announced_first { (core : Core V E) (event : Event V E) (id : ℕ) (v : V)
+        → IsReached core
+        → (shadow core).values id ≡ None
+        → (shadow (happens core event)).values id ≡ Some v
+        → IsTrue (core.table.announced (bucket_of id)) }
 
     // An owner's count changes nothing, and an owner's writes change the table and nothing else.
     // A drain leaves the ids and every bucket, with all slots empty.
@@ -159,7 +167,8 @@ pub fn events_say<V, E>()
         → IsTrue (is_enabled core (OfLocal n (MakeBucket refused)))
         → core.locals n ≡ Some local
         → IsTrue (is_enabled core (OfLocal n (MakeBucket other)))
-        × IsSomeAnd ((happens core (OfLocal n (MakeBucket other))).locals n) (GoesDown local) }
+        × IsSomeAnd ((happens core (OfLocal n (MakeBucket other))).locals n) (λ after.
+        GoesDown (core.table, local) ((happens core (OfLocal n (MakeBucket other))).table, after)) }
     ensures takes_need_memory { (core : Core V E) (refused : Bool) (growth : ℕ)
         → IsReached core
         → core.ended ≡ false

@@ -15,7 +15,7 @@ ghost use Rattle.thread_local_schedule.specs.Numbers.{NumbersGo};
 /// What each step of a `Local` keeps, whatever other `Local`s did before it.
 pub fn every_local_step<V, E>()
     // An enabled step leaves the Local fitting its table, and changes no slot and no bucket but its
-    // own.
+    // own. A value that it publishes comes into an announced bucket.
     ensures fits { (table : Table V) (local : Local V E) (step : LocalStep V E)
         → AllWritten table → LocalFits table local
         → IfSome (local_step table local step) (StepFits table local (value_set table local step)) }
@@ -43,7 +43,7 @@ pub fn every_local_step<V, E>()
         → HasLearnt local.doing local.learnt
         → (HasNoCall local → ⊥)
         → (step : LocalStep V E)
-        × IsSomeAnd (local_step table local step) (λ after. GoesDown local after.1) }
+        × IsSomeAnd (local_step table local step) (GoesDown (table, local)) }
 
     // A load teaches whether the bucket stands, and a look what the slot shows. Memory is asked for
     // only where the bucket was missing, only an install makes a bucket stand, and the closure's

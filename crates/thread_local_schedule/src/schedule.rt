@@ -4,6 +4,7 @@ ghost use Rattle.std.specs.Prelude.{Some, None, IsTrue, IfSome, IsSomeAnd, ◌*�
 ghost use Rattle.std.specs.Prelude.{if◌then◌else◌};
 ghost use Rattle.std.specs.List.{AllByRecursion};
 ghost use Rattle.thread_local_base.specs.Held.{is_held, least, HoldsAllBelow, held_count};
+ghost use Rattle.thread_local_base.specs.Place.{bucket_of};
 ghost use Rattle.thread_local_base.specs.Walk.{walk};
 ghost use Rattle.thread_local_base.specs.Cursor.{is_complete};
 ghost use Rattle.thread_local_base.specs.Capacity.{reserves_bucket, is_reserved, reserved_slots};
@@ -221,9 +222,14 @@ pub fn every_schedule<V, E>()
         → core.locals m ≡ Some a → core.locals n ≡ Some b
         → own_number a.doing ≡ Some number → own_number b.doing ≡ Some number → m ≡ n }
 
-    // Each bucket that stands is announced, and the first seven are so always.
-    ensures announced { (core : Core V E) (bucket : ℕ) → IsReached core
-        → IsTrue (bucket_stands core.table bucket) → IsTrue (core.table.announced bucket) }
+    // The bucket of each published value is announced, and so is each that stands and isn't reserved.
+    // The first seven are so always.
+    ensures announced { (core : Core V E) (id : ℕ) (v : V) → IsReached core
+        → (shadow core).values id ≡ Some v → IsTrue (core.table.announced (bucket_of id)) }
+    ensures standing_announced { (core : Core V E) (bucket : ℕ) → IsReached core
+        → IsTrue (bucket_stands core.table bucket)
+        → reserves_bucket (shadow core).capacity bucket ≡ false
+        → IsTrue (core.table.announced bucket) }
     ensures first_announced { (core : Core V E) (bucket : ℕ)
         → IsReached core → bucket < 7 → IsTrue (core.table.announced bucket) }
 

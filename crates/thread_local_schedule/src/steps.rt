@@ -41,7 +41,8 @@ pub fn steps_happen<V, E>()
     // A publishing call that found its bucket missing asks for memory, whatever stands by now. It
     // fills the bucket that it has made, with a value or with nothing; announces it, where it doesn't
     // know that to be announced; and then offers it. One that found its slot empty writes its value
-    // or hands on the closure's error, and sets the flag over what it has written.
+    // or hands on the closure's error. It announces the bucket in the same way, and only then sets
+    // the flag over what it has written.
     ensures asks { (core : Core V E) (n : ℕ) (local : Local V E) (refused : Bool)
         → core.ended ≡ false → core.locals n ≡ Some local
         → IsTrue (is_enabled core (OfLocal n (MakeBucket refused)))
@@ -53,7 +54,8 @@ pub fn steps_happen<V, E>()
     ensures announces { (core : Core V E) (n : ℕ) (local : Local V E)
         → core.ended ≡ false → core.locals n ≡ Some local
         → IsTrue (is_enabled core (OfLocal n AnnounceBucket))
-        ↔ ((create : Result V E) × (number : ℕ) × (local.doing ≡ Filled create number false)) }
+        ↔ (((create : Result V E) × (number : ℕ) × (local.doing ≡ Filled create number false))
+        ⊎ ((v : V) × (local.doing ≡ Written v false))) }
     ensures installs { (core : Core V E) (n : ℕ) (local : Local V E)
         → IsReached core → core.ended ≡ false → core.locals n ≡ Some local
         → IsTrue (is_enabled core (OfLocal n InstallBucket))
@@ -65,7 +67,7 @@ pub fn steps_happen<V, E>()
     ensures sets { (core : Core V E) (n : ℕ) (local : Local V E)
         → IsReached core → core.ended ≡ false → core.locals n ≡ Some local
         → IsTrue (is_enabled core (OfLocal n SetFlag))
-        ↔ ((v : V) × (local.doing ≡ Written v)) }
+        ↔ ((v : V) × (local.doing ≡ Written v true)) }
 
     // A get ends that has learnt what its slot shows, and a publishing call that found a value.
     ensures replies { (core : Core V E) (n : ℕ) (local : Local V E)

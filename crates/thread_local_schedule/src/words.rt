@@ -82,7 +82,7 @@ pub fn words_say<V, E>()
     ensures publish_moves { (core : Core V E) (n : ℕ) (local : Local V E) (v : V)
         → IsTrue (is_enabled core (OfLocal n SetFlag))
         → core.locals n ≡ Some local
-        → local.doing ≡ Written v
+        → local.doing ≡ Written v true
         → move core (OfLocal n SetFlag) ≡ Some (OfSheet (OfHistory (Publish local.id v))) }
     ensures install_moves { (core : Core V E) (n : ℕ) (local : Local V E) (v : V) (number : ℕ)
         → IsTrue (is_enabled core (OfLocal n InstallBucket))
@@ -323,8 +323,10 @@ pub fn words_say<V, E>()
         × (gets_of after.doing ≡ gets_of before.doing)
         × IsSomeAnd (closure_of before.doing) (λ create.
         after.calls ≡ before.calls ++ GetOr create false ∷ [])) }
-    ensures goes_down { (before after : Local V E) → GoesDown before after
-        → steps_left after.doing after.learnt < steps_left before.doing before.learnt }
+    ensures goes_down { (table later : Table V) (before after : Local V E)
+        → GoesDown (table, before) (later, after)
+        → steps_left (later.announced (bucket_of after.id)) after.doing after.learnt
+        < steps_left (table.announced (bucket_of before.id)) before.doing before.learnt }
     ensures ends_with { (told : Answer V E) (before after : Local V E)
         → EndsWith told before after
         → HasNoCall after × (after.answered ≡ before.answered ++ told ∷ []) }

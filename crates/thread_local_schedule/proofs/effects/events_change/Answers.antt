@@ -1,3 +1,5 @@
+use Rattle.std.proofs.Common.{ap}
+use Rattle.thread_local_schedule.specs.Local.{doing_announced}
 use Rattle.thread_local_schedule.proofs.EffectLaws as laws
 use Rattle.thread_local_schedule.proofs.Clauses as clause
 use Rattle.thread_local_schedule.proofs.effects.events_change.Goals as goal
@@ -49,6 +51,9 @@ returns-clause-shows g c = laws.shows
 pub returns-clause-writes : goal.returns-clause-writes
 returns-clause-writes g c = λ core n local v r. laws.writes_value core n local v (clause.fits core r)
 
+pub returns-clause-wrote : goal.returns-clause-wrote
+returns-clause-wrote g c = laws.wrote
+
 pub returns-clause-sets_flag : goal.returns-clause-sets_flag
 returns-clause-sets_flag g c = λ core n local r. laws.sets_flag core n local (clause.fits core r)
 
@@ -59,7 +64,10 @@ pub returns-clause-announces : goal.returns-clause-announces
 returns-clause-announces g c = laws.announces
 
 pub returns-clause-announced : goal.returns-clause-announced
-returns-clause-announced g c = laws.announced
+returns-clause-announced g c = λ core n local create number t at own. laws.announced core n local _ t at (ap doing_announced own)
+
+pub returns-clause-announced_beside : goal.returns-clause-announced_beside
+returns-clause-announced_beside g c = λ core n local v t at own. laws.announced core n local _ t at (ap doing_announced own)
 
 pub returns-clause-installs : goal.returns-clause-installs
 returns-clause-installs g c = laws.installs

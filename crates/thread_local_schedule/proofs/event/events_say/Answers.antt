@@ -1,7 +1,7 @@
 use Rattle.std.proofs.Common.{refl}
 use Rattle.thread_local_schedule.specs.Local.{LoadPointer, LookAtFlag}
 use Rattle.thread_local_schedule.proofs.EnabledSteps as step
-use Rattle.thread_local_schedule.proofs.GoingOn.{few_steps}
+use Rattle.thread_local_schedule.proofs.GoingOn.{few_steps, announced_fewer}
 use Rattle.thread_local_schedule.proofs.Clauses as clause
 use Rattle.thread_local_schedule.proofs.Enabled as may
 use Rattle.thread_local_schedule.proofs.EventRules as rule
@@ -46,13 +46,16 @@ pub returns-clause-goes_on : goal.returns-clause-goes_on
 returns-clause-goes_on g c = λ core n local r. rule.goes_on core n local (clause.fits core r)
 
 pub returns-clause-few_steps : goal.returns-clause-few_steps
-returns-clause-few_steps g c = λ local. few_steps local.doing local.learnt
+returns-clause-few_steps g c = λ announced local. few_steps announced local.doing local.learnt
+
+pub returns-clause-announced_fewer : goal.returns-clause-announced_fewer
+returns-clause-announced_fewer g c = λ local. announced_fewer local.doing local.learnt
 
 pub returns-clause-loads : goal.returns-clause-loads
-returns-clause-loads g c = λ core n local t at. may.step_leaves core n LoadPointer local _ t at (step.loads core.table local)
+returns-clause-loads g c = λ core n local t at. may.step_goes core n LoadPointer local _ t at (step.loads core.table local)
 
 pub returns-clause-looks : goal.returns-clause-looks
-returns-clause-looks g c = λ core n local t at. may.step_leaves core n LookAtFlag local _ t at (step.looks core.table local)
+returns-clause-looks g c = λ core n local t at. may.step_goes core n LookAtFlag local _ t at (step.looks core.table local)
 
 pub returns-clause-asks : goal.returns-clause-asks
 returns-clause-asks g c = rule.asks
@@ -68,6 +71,9 @@ returns-clause-stays_announced g c = announcing.stays_announced
 
 pub returns-clause-announced_before : goal.returns-clause-announced_before
 returns-clause-announced_before g c = λ core event bucket r. announcing.announced_before core event bucket (clause.fits core r)
+
+pub returns-clause-announced_first : goal.returns-clause-announced_first
+returns-clause-announced_first g c = λ core event id v r. announcing.announced_first core event id v (clause.fits core r)
 
 pub returns-clause-fails : goal.returns-clause-fails
 returns-clause-fails g c = λ core n local e r. rule.fails core n local e (clause.fits core r)

@@ -145,7 +145,10 @@ pub returns-clause-one_call : goal.returns-clause-one_call
 returns-clause-one_call g c = λ core m n a b number r. (clause.fits core r).numbers.own_apart m n a b number
 
 pub returns-clause-announced : goal.returns-clause-announced
-returns-clause-announced g c = λ core bucket r. (clause.fits core r).table.announced bucket
+returns-clause-announced g c = λ core id v r. (clause.fits core r).table.announced id v
+
+pub returns-clause-standing_announced : goal.returns-clause-standing_announced
+returns-clause-standing_announced g c = λ core bucket r. (clause.fits core r).table.standing_announced bucket
 
 pub returns-clause-first_announced : goal.returns-clause-first_announced
 returns-clause-first_announced g c = λ core bucket r. (clause.fits core r).table.first_announced bucket

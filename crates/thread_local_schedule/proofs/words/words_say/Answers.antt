@@ -242,7 +242,7 @@ pub returns-clause-replies : goal.returns-clause-replies
 returns-clause-replies g c = says.replies
 
 pub returns-clause-goes_down : goal.returns-clause-goes_down
-returns-clause-goes_down g c = λ before after x. x
+returns-clause-goes_down g c = λ table later before after x. x
 
 pub returns-clause-ends_with : goal.returns-clause-ends_with
 returns-clause-ends_with g c = λ told before after x. (x.none, x.answered)
