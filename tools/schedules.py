@@ -382,7 +382,7 @@ def under_way(doing):
             return count, None
         case ("Started", create) | ("Private", create, _) | ("Filled", create, _, _):
             return 0, create
-        case ("Written", value):
+        case ("Written", value, _):
             return 0, ("Ok", value)
 
 
@@ -583,13 +583,13 @@ def needs(step, local):
         case "FillBucket":
             return doing == "Private"
         case "AnnounceBucket":
-            return doing == "Filled" and not local.doing[3]
+            return doing in ("Filled", "Written") and not local.doing[-1]
         case "InstallBucket":
             return doing == "Filled" and local.doing[3]
         case "WriteValue":
             return doing == "Started" and learnt == "Vacant"
         case "SetFlag":
-            return doing == "Written"
+            return doing == "Written" and local.doing[2]
         case "Reply":
             got = doing == "Gets" and local.doing[1] > 0 and learnt in ("Missing", "Vacant", "Holding")
             return got or (doing == "Started" and learnt == "Holding")
@@ -738,21 +738,23 @@ def clause_writes(m):
     return model.is_exclusive(m.event) or all(model.slot_at(new, k) == it for k, it in slots.items())
 
 
-@tries("events_change", "makes", "fills", "fill_stays", "announces", "announced")
+@tries("events_change", "makes", "fills", "fill_stays", "wrote", "announces", "announced", "announced_beside")
 def clause_makes(m):
-    """A call makes its bucket empty, fills it unseen, and announces it where it doesn't know that, and no other."""
+    """A call makes its bucket empty, fills it unseen or writes beside, and announces it where it doesn't know that, and no other."""
     made, fills, announced = stepped(m, "MakeBucket"), stepped(m, "FillBucket"), stepped(m, "AnnounceBucket")
-    table = m.before.table
+    table, wrote = m.before.table, stepped(m, "WriteValue")
     if made is not None and m.event[2] == ("MakeBucket", False):
         return made[1].doing == ("Private", made[0].doing[1], table.made)
     if fills is not None:
         (_, create, number), own = fills[0].doing, bucket_of(fills[0].id)
         return fills[1].doing == ("Filled", create, number, table.announced[own]) and m.after.table == table
+    if wrote is not None and wrote[0].doing[1][0] == "Ok":
+        return wrote[1].doing == ("Written", wrote[0].doing[1][1], table.announced[bucket_of(wrote[0].id)])
     if announced is None:
         return True
     own = bucket_of(announced[0].id)
     only = all(m.after.table.announced[b] == (b == own or table.announced[b]) for b in range(model.BUCKETS))
-    return only and announced[1].doing == (*announced[0].doing[:3], True)
+    return only and announced[1].doing == (*announced[0].doing[:-1], True)
 
 
 @tries("events_change", "installs_own", "installs")
@@ -873,21 +875,29 @@ def clause_newcomers(m):
     return has_no_call(made) and made.learnt == ("Unknown",)
 
 
+def goes_down(core, after, number):
+    """Whether the calls of a Local have fewer steps left afterwards."""
+    return model.steps_left_on(after.table, live_local(after, number)) < model.steps_left_on(core.table, live_local(core, number))
+
+
 @tries("events_say", "goes_on")
 def clause_call_goes_on(m):
     """A call under way has a step that is enabled and brings it nearer to its end."""
     steps = [("LoadPointer",), ("LookAtFlag",), ("MakeBucket", False), ("MakeBucket", True)]
     steps += [("FillBucket",), ("AnnounceBucket",), ("InstallBucket",), ("WriteValue",), ("SetFlag",), ("Reply",)]
 
-    def goes_on(n, it):
+    def goes_on(n):
         after = [model.step(m.after, ("OfLocal", n, step)) for step in steps]
-        return any(then is not None and model.steps_left(live_local(then, n)) < model.steps_left(it) for then in after)
+        return any(then is not None and goes_down(m.after, then, n) for then in after)
 
-    return m.after.ended or all(has_no_call(it) or goes_on(n, it) for n, it in changed(m))
+    return m.after.ended or all(has_no_call(it) or goes_on(n) for n, it in changed(m))
 
 
+@tries("events_say", "few_steps", "announced_fewer")
 def clause_few_steps(m):
-    return all(model.steps_left(it) <= under_way(it.doing)[0] + 7 for _, it in live(m.after))
+    """No call has many steps left, and none has more where its bucket is announced."""
+    left = [(it, model.steps_left(True, it), model.steps_left(False, it)) for _, it in live(m.after)]
+    return all(fewer <= more <= under_way(it.doing)[0] + 7 for it, fewer, more in left)
 
 
 @tries("events_say", "loads")
@@ -924,30 +934,34 @@ def clause_installs(m):
     return not come or (locals_ is not None and come == [bucket_of(locals_[0].id)])
 
 
-@tries("events_say", "announces", "stays_announced", "announced_before")
+@tries("events_say", "announces", "stays_announced", "announced_before", "announced_first")
 def clause_announces(m):
-    """A bucket is announced by the step for it alone, before it stands, and stays so."""
+    """A bucket is announced by the step for it alone, before it comes to stand and before a value is published in it, and stays so."""
     old, new = m.before.table, m.after.table
     come = [b for b in range(model.BUCKETS) if new.announced[b] and not old.announced[b]]
     locals_ = stepped(m, "AnnounceBucket")
     by_step = not come or (locals_ is not None and come == [bucket_of(locals_[0].id)])
     stands = [b for b in range(model.BUCKETS) if model.bucket_stands(new, b) and not model.bucket_stands(old, b)]
     stays = all(b >= a for a, b in zip(old.announced, new.announced))
-    return by_step and stays and all(old.announced[b] for b in stands)
+    values = zip(model.shadow(m.before).values, model.shadow(m.after).values)
+    filled = [bucket_of(k) for k, (a, b) in enumerate(values) if a is None and b is not None]
+    return by_step and stays and all(old.announced[b] for b in stands + filled)
 
 
-@tries("every_schedule", "announced", "first_announced")
+@tries("every_schedule", "announced", "standing_announced", "first_announced")
 def clause_announced(m):
-    """Each bucket that stands is announced, and the first are so always."""
-    buckets = [b for b in range(model.BUCKETS) if b < model.ANNOUNCED_AT_FIRST or model.bucket_stands(m.after.table, b)]
-    return all(m.after.table.announced[b] for b in buckets)
+    """The bucket of each published value is announced, and so is each that stands and isn't reserved, and the first always."""
+    table, reserved = m.after.table, model.binary_digits(m.after.capacity)
+    buckets = [b for b in range(model.BUCKETS) if b < model.ANNOUNCED_AT_FIRST or (b >= reserved and model.bucket_stands(table, b))]
+    buckets += [bucket_of(k) for k, value in enumerate(model.shadow(m.after).values) if value is not None]
+    return all(table.announced[b] for b in buckets)
 
 
 @tries("made_cores_fit", "announced")
 def clause_made_announced(m):
-    """Those of a new table and the reserved ones are announced, and no others."""
-    first = max(model.ANNOUNCED_AT_FIRST, model.binary_digits(m.capacity))
-    return all(it == (b < first) for b, it in enumerate(model.made_core(m.capacity, 0).table.announced))
+    """The first buckets of a new table are announced, and no others."""
+    announced = model.made_core(m.capacity, 0).table.announced
+    return all(it == (b < model.ANNOUNCED_AT_FIRST) for b, it in enumerate(announced))
 
 
 @tries("a_clear_keeps_the_reserved", "announced")
@@ -1007,14 +1021,14 @@ def clause_room_of_take(m):
 def clause_memory_is_chosen(m):
     """A call that may ask for memory may get it and may be refused, and comes nearer to its end by either."""
 
-    def goes_on(n, it, refused):
+    def goes_on(n, refused):
         after = model.step(m.after, ("OfLocal", n, ("MakeBucket", refused)))
-        return after is not None and model.steps_left(live_local(after, n)) < model.steps_left(it)
+        return after is not None and goes_down(m.after, after, n)
 
     def asks(n):
         return any(model.is_enabled(m.after, ("OfLocal", n, ("MakeBucket", refused))) for refused in (False, True))
 
-    return all(not asks(n) or all(goes_on(n, it, refused) for refused in (False, True)) for n, it in changed(m))
+    return all(not asks(n) or all(goes_on(n, refused) for refused in (False, True)) for n, _ in changed(m))
 
 
 def clause_takes_need_memory(m):
@@ -1422,7 +1436,7 @@ def wrong_bodies():
         return after
 
     def write_last(table, local):
-        if local.doing[0] == "Written":
+        if local.doing[0] == "Written" and local.doing[2]:
             value = local.doing[1]
             told = model.after_call(local, ("GetOr", ("Ok", value), False), ("Answered", value), ("Holding", value), ("Gets", 0))
             return model.with_table_slot(table, local.id, Slot(value, True)), told
@@ -1929,7 +1943,8 @@ def wrong_effects():
 
 def wrong_for_some():
     """Wrong bodies that are right for most ids, Locals, buckets or moments."""
-    right = {name: getattr(model, name) for name in ("give_back", "move_of", "answers", "is_alone", "at_announced", "cleared")}
+    names = ("give_back", "move_of", "answers", "is_alone", "at_announced", "cleared", "made_core")
+    right = {name: getattr(model, name) for name in names}
 
     def steps(**it):
         return {"LOCAL_STEPS": {**model.LOCAL_STEPS, **it}}
@@ -1946,11 +1961,11 @@ def wrong_for_some():
 
     def answers_few(view, calls):
         told = right["answers"](view, calls)
-        return tuple(("Found", None) if k > 4 and it[0] == "Found" else it for k, it in enumerate(told))
+        return tuple(("Found", None) if k > 2 and it[0] == "Found" else it for k, it in enumerate(told))
 
     def replies_few(table, local):
         after = model.reply(table, local)
-        if after is None or len(local.calls) < 5 or after[1].calls[-1] != ("Get",):
+        if after is None or len(local.calls) < 3 or after[1].calls[-1] != ("Get",):
             return after
         return after[0], replace(after[1], answers=local.answers + (("Found", None),))
 
@@ -2007,11 +2022,44 @@ def wrong_for_some():
         after = model.announce_bucket(table, local)
         return after if after is None else (table, after[1])
 
-    def never_known(table, local):
-        after = model.fill_bucket(table, local)
-        if after is None or after[1].doing[0] != "Filled":
+    def announces_below(table, local):
+        after, own = model.announce_bucket(table, local), bucket_of(local.id)
+        return after if after is None else (replace(table, announced=(True,) * (own + 1) + table.announced[own + 1 :]), after[1])
+
+    def announces_filled(table, local):
+        after = model.announce_bucket(table, local)
+        return after if after is None or local.doing[0] == "Filled" else (table, after[1])
+
+    def knows(name, announced):
+        """What the step of that name leaves, where its call knows the bucket to be announced, or not, whatever is so."""
+        it = model.LOCAL_STEPS[name]
+
+        def step(table, local):
+            after = it(table, local)
+            if after is None or after[1].doing[0] not in ("Filled", "Written"):
+                return after
+            return after[0], replace(after[1], doing=(*after[1].doing[:-1], announced))
+
+        return steps(**{name: step})
+
+    def sets_unknown(table, local):
+        unknown = local.doing[0] == "Written" and not local.doing[2]
+        return model.set_flag(table, replace(local, doing=(*local.doing[:2], True)) if unknown else local)
+
+    def sets_first(table, local):
+        after = sets_unknown(table, local)
+        return after if after is None else (model.with_announced(after[0], bucket_of(local.id)), after[1])
+
+    def error_announces(table, local):
+        after = model.write_value(table, local)
+        if after is None or local.doing[1][0] == "Ok":
             return after
-        return after[0], replace(after[1], doing=(*after[1].doing[:3], False))
+        return model.with_announced(table, bucket_of(local.id)), after[1]
+
+    def announces_reserved(capacity, extra):
+        core, digits = right["made_core"](capacity, extra), model.binary_digits(capacity)
+        announced = tuple(it or b < digits for b, it in enumerate(core.table.announced))
+        return replace(core, table=replace(core.table, announced=announced))
 
     def loads_word(table, it):
         after = model.walk_load(table, it)
@@ -2030,7 +2078,7 @@ def wrong_for_some():
     return {
         "an owner calls only while the peak is below five": {"is_alone": lambda core: right["is_alone"](core) and len(core.held) < 5},
         "a sixth Local gives no id back": {"give_back": keeps_sixth, "move_of": moves_none_of_sixth},
-        "a get answers nothing from the sixth call on": {"answers": answers_few, **steps(Reply=replies_few)},
+        "a get answers nothing from the fourth call on": {"answers": answers_few, **steps(Reply=replies_few)},
         "a missing bucket is never looked for again": steps(LoadPointer=loads_once),
         "memory is asked for only where the bucket is missing by now": steps(MakeBucket=asks_where_missing),
         "a walk begins with one load counted": {"begin_walk": begins_with_load},
@@ -2040,7 +2088,16 @@ def wrong_for_some():
         "an install needs no announcement": steps(InstallBucket=installs_unknown),
         "an announcement announces every bucket": steps(AnnounceBucket=announces_all),
         "an announcement announces nothing": steps(AnnounceBucket=announces_nothing),
-        "no call knows its bucket to be announced before it announces it": steps(FillBucket=never_known),
+        "an announcement announces the buckets below too": steps(AnnounceBucket=announces_below),
+        "a call that has written a value announces nothing": steps(AnnounceBucket=announces_filled),
+        "no call knows its bucket to be announced before it announces it": knows("FillBucket", False),
+        "no call that writes knows its bucket to be announced before it announces it": knows("WriteValue", False),
+        "a filled bucket counts as announced": knows("FillBucket", True),
+        "the bucket of a written value counts as announced": knows("WriteValue", True),
+        "a flag needs no announcement": steps(SetFlag=sets_unknown),
+        "a flag is set first, and its bucket announced then": steps(SetFlag=sets_first),
+        "a closure's error announces the bucket": steps(WriteValue=error_announces),
+        "a new table announces what it reserves": {"made_core": announces_reserved},
         "a walk skips the third bucket": {"at_announced": lambda it: it.bucket != 2 and right["at_announced"](it)},
         "a walk may skip an announced bucket": walks(Pass=lambda table, it: model.at_next_bucket(it) if model.may_load(it) else None),
         "a walk loads every pointer": {"at_announced": lambda it: True},
@@ -2174,7 +2231,7 @@ def local_change(before, after):
         said += {
             "Private": [f"own bucket {it}" for it in after.doing[2:3]],
             "Filled": ["knows it to be announced" if before.doing[0] == "Filled" else "has filled it"],
-            "Written": ["has written"],
+            "Written": ["knows its bucket to be announced" if before.doing[0] == "Written" else "has written"],
             "Started": [f"publishing {create and create[1]}"],
             "Gets": [f"{gets} gets"] if gets else [],
         }[after.doing[0]]

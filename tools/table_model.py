@@ -230,7 +230,7 @@ def slots(table):
 class Local:
     id: int
     learnt: tuple  # Unknown, Missing, Standing, Vacant, Holding value
-    doing: tuple  # Gets count, Started create, Private create number, Filled create number announced, Written value
+    doing: tuple  # Gets count, Started create, Private create number, Filled create number announced, Written value announced
     start: View
     calls: tuple = ()
     answers: tuple = ()
@@ -262,7 +262,7 @@ class Core:
 def made_core(capacity, extra):
     digits = binary_digits(capacity)
     pointers = tuple(fresh_bucket(b, b) if b < digits else None for b in range(BUCKETS))
-    announced = tuple(b < max(ANNOUNCED_AT_FIRST, digits) for b in range(BUCKETS))
+    announced = tuple(b < ANNOUNCED_AT_FIRST for b in range(BUCKETS))
     return Core((), capacity + extra, capacity, Table(pointers, announced, digits))
 
 
@@ -361,6 +361,8 @@ def announce_bucket(table, local):
     match local.doing:
         case ("Filled", create, number, False):
             return with_announced(table, bucket_of(local.id)), replace(local, doing=("Filled", create, number, True))
+        case ("Written", value, False):
+            return with_announced(table, bucket_of(local.id)), replace(local, doing=("Written", value, True))
 
 
 def install_bucket(table, local):
@@ -379,14 +381,14 @@ def write_value(table, local):
     match local.doing, local.learnt:
         case ("Started", ("Ok", value)), ("Vacant",):
             slot = replace(slot_at(table, local.id), written=value)
-            return with_table_slot(table, local.id, slot), replace(local, doing=("Written", value))
+            return with_table_slot(table, local.id, slot), replace(local, doing=("Written", value, table.announced[bucket_of(local.id)]))
         case ("Started", ("Err", error)), ("Vacant",):
             return table, after_call(local, ("GetOr", ("Err", error), False), ("Failed", error), ("Vacant",), ("Gets", 0))
 
 
 def set_flag(table, local):
     match local.doing, local.learnt:
-        case ("Written", value), ("Vacant",):
+        case ("Written", value, True), ("Vacant",):
             slot = replace(slot_at(table, local.id), flag=True)
             call = ("GetOr", ("Ok", value), False)
             return with_table_slot(table, local.id, slot), after_call(local, call, ("Answered", value), ("Holding", value), ("Gets", 0))
@@ -442,21 +444,31 @@ def local_step(core, number, step):
     return with_local(replace(core, table=after[0]), number, after[1])
 
 
-def steps_left(local):
-    """How many steps the calls under way still make until all have ended, if each makes no step twice."""
+def announces_left(announced):
+    """How many steps a publishing call makes to announce its bucket."""
+    return 0 if announced else 1
+
+
+def steps_left(announced, local):
+    """How many steps the calls under way still make until all have ended, if each makes no step twice: fewer where the bucket is announced."""
+    more = announces_left(announced)
     match local.doing:
         case ("Gets", 0):
             return 0
         case ("Gets", count):
             return count + {"Unknown": 2, "Standing": 1}.get(local.learnt[0], 0)
         case ("Started", _):
-            return {"Unknown": 7, "Missing": 6, "Standing": 3, "Vacant": 2, "Holding": 1}[local.learnt[0]]
+            return {"Unknown": 6 + more, "Missing": 5 + more, "Standing": 3 + more, "Vacant": 2 + more, "Holding": 1}[local.learnt[0]]
         case ("Private", _, _):
-            return 5
-        case ("Filled", _, _, announced):
-            return 3 if announced else 4
-        case ("Written", _):
-            return 1
+            return 4 + more
+        case ("Filled", _, _, known):
+            return 3 + more if known else 4
+        case ("Written", _, known):
+            return 1 if known else 2
+
+
+def steps_left_on(table, local):
+    return steps_left(table.announced[bucket_of(local.id)], local)
 
 
 def private_slots(identity, doing):
