@@ -125,18 +125,7 @@ goes_on table local h busy =
     goes_by table local local.doing local.learnt refl refl h
     (λ gets closure. busy (record { gets = gets; closure = closure }))
 
--- few steps are left of any call
-one_announces : (announced : Bool) → announces_left announced ≤ 1
-one_announces true = omega arith
-one_announces false = omega arith
-
-started_few : {V : Type 0} (announced : Bool) (learnt : Learnt V) → started_left announced learnt ≤ 7
-started_few announced Unknown = omega (arith, one_announces announced)
-started_few announced Missing = omega (arith, one_announces announced)
-started_few announced Standing = omega (arith, one_announces announced)
-started_few announced Vacant = omega (arith, one_announces announced)
-started_few announced (Holding v) = omega arith
-
+-- few steps are left of any call, and none more where its bucket is announced
 looks_few : {V : Type 0} (learnt : Learnt V) → looks_left learnt ≤ 2
 looks_few Unknown = omega arith
 looks_few Missing = omega arith
@@ -144,31 +133,28 @@ looks_few Standing = omega arith
 looks_few Vacant = omega arith
 looks_few (Holding v) = omega arith
 
-pub few_steps : {V E : Type 0} (announced : Bool) (doing : Doing V E) (learnt : Learnt V)
-    → steps_left announced doing learnt ≤ gets_of doing + 7
-few_steps announced (Gets zero) learnt = omega arith
-few_steps announced (Gets (suc count)) learnt = omega (arith, looks_few learnt)
-few_steps announced (Started create) learnt = started_few announced learnt
-few_steps announced (Private create number) learnt = omega (arith, one_announces announced)
-few_steps announced (Filled create number false) learnt = omega arith
-few_steps announced (Filled create number true) learnt = omega (arith, one_announces announced)
-few_steps announced (Written v false) learnt = omega arith
-few_steps announced (Written v true) learnt = omega arith
+started_few : {V : Type 0} (learnt : Learnt V) → (started_left true learnt ≤ started_left false learnt) × (started_left false learnt ≤ 7)
+started_few Unknown = (omega arith, omega arith)
+started_few Missing = (omega arith, omega arith)
+started_few Standing = (omega arith, omega arith)
+started_few Vacant = (omega arith, omega arith)
+started_few (Holding v) = (omega arith, omega arith)
 
--- and of none more where its bucket is announced
-started_fewer : {V : Type 0} (learnt : Learnt V) → started_left true learnt ≤ started_left false learnt
-started_fewer Unknown = omega arith
-started_fewer Missing = omega arith
-started_fewer Standing = omega arith
-started_fewer Vacant = omega arith
-started_fewer (Holding v) = omega arith
+few_left : {V E : Type 0} (doing : Doing V E) (learnt : Learnt V)
+    → (steps_left true doing learnt ≤ steps_left false doing learnt) × (steps_left false doing learnt ≤ gets_of doing + 7)
+few_left (Gets zero) learnt = (omega arith, omega arith)
+few_left (Gets (suc count)) learnt = (omega arith, omega (arith, looks_few learnt))
+few_left (Started create) learnt = started_few learnt
+few_left (Private create number) learnt = (omega arith, omega arith)
+few_left (Filled create number false) learnt = (omega arith, omega arith)
+few_left (Filled create number true) learnt = (omega arith, omega arith)
+few_left (Written v false) learnt = (omega arith, omega arith)
+few_left (Written v true) learnt = (omega arith, omega arith)
 
 pub announced_fewer : {V E : Type 0} (doing : Doing V E) (learnt : Learnt V) → steps_left true doing learnt ≤ steps_left false doing learnt
-announced_fewer (Gets zero) learnt = omega arith
-announced_fewer (Gets (suc count)) learnt = omega arith
-announced_fewer (Started create) learnt = started_fewer learnt
-announced_fewer (Private create number) learnt = omega arith
-announced_fewer (Filled create number false) learnt = omega arith
-announced_fewer (Filled create number true) learnt = omega arith
-announced_fewer (Written v false) learnt = omega arith
-announced_fewer (Written v true) learnt = omega arith
+announced_fewer doing learnt = (few_left doing learnt).0
+
+pub few_steps : {V E : Type 0} (announced : Bool) (doing : Doing V E) (learnt : Learnt V)
+    → steps_left announced doing learnt ≤ gets_of doing + 7
+few_steps true doing learnt = let few = few_left doing learnt in omega (arith, few.0, few.1)
+few_steps false doing learnt = (few_left doing learnt).1
