@@ -1,17 +1,11 @@
 use Rattle.thread_local_schedule.proofs.WalkStepLaws as laws
 use Rattle.thread_local_schedule.proofs.walks.every_walk_step.Goals as goal
 
-pub returns-clause-begins : goal.returns-clause-begins
-returns-clause-begins g c = laws.begun_walk-fits
-
-pub returns-clause-fits : goal.returns-clause-fits
-returns-clause-fits g c = laws.walk_step-fits
-
-pub returns-clause-adds : goal.returns-clause-adds
-returns-clause-adds g c = laws.walk_step-adds
-
-pub returns-clause-others : goal.returns-clause-others
-returns-clause-others g c = laws.walk_carried
-
-pub returns-clause-complete : goal.returns-clause-complete
-returns-clause-complete g c = laws.complete_cursor
+pub returns : goal.returns
+returns g c = record {
+  begins = laws.begun_walk-fits;
+  fits = laws.walk_step-fits;
+  adds = laws.walk_step-adds;
+  others = laws.walk_carried;
+  complete = laws.complete_cursor;
+}
