@@ -105,8 +105,8 @@ pub fn events_say<V, E>()
         → IsTrue (is_enabled core (OfLocal n WriteValue))
         × IsSomeAnd ((happens core (OfLocal n WriteValue)).locals n) (EndsWith (Failed e) local) }
 
-    // A bucket is announced by the step for it of a Local whose bucket it is, and stays so. That
-    // comes before a value is published in it, and before it stands, if it doesn't from the start.
+    // A bucket is announced before it comes to stand, and before a value is published in it, by the
+    // step for it of a Local whose bucket it is. It stays so.
     ensures announces { (core : Core V E) (event : Event V E) (bucket : ℕ)
         → core.table.announced bucket ≡ false
         → IsTrue ((happens core event).table.announced bucket)
