@@ -115,27 +115,44 @@ fn four_buffers_keep_their_room_and_a_fifth_has_none(rt: HostRuntime) {
     );
 }
 
-/// Of a vector that the pool has, how many bytes it holds and whether it has room for 1000. None
+/// Of a vector that the pool has, how many bytes it holds and whether it has room for so many. None
 /// where the pool had none.
-fn measure_what_was_left<R: Wait>(pool: &Pool, rt: &R, alloc: Global) -> Option<(usize, bool)> {
+fn measure_what_was_left<R: Wait>(
+    pool: &Pool,
+    rt: &R,
+    alloc: Global,
+    room: usize,
+) -> Option<(usize, bool)> {
     let Ok(bytes) = pool.get(rt, || Vec::new(alloc)) else {
         return None;
     };
     if bytes.is_new() {
         return None;
     }
-    Some((bytes.len(), bytes.capacity() >= 1000))
+    Some((bytes.len(), bytes.capacity() >= room))
+}
+
+/// Puts so many bytes into the buffer of a new pool. Answers whether it was empty, and what was left
+/// when it was dropped.
+fn fill_and_measure<R: Wait>(
+    rt: &R,
+    alloc: Global,
+    count: usize,
+) -> Option<(bool, Option<(usize, bool)>)> {
+    let pool = Pool::new(alloc);
+    let was_empty = fill(pool.buffer(rt).ok()?, count).ok()?;
+    Some((was_empty, measure_what_was_left(&pool, rt, alloc, count)))
 }
 
 #[test]
 fn a_dropped_buffer_leaves_no_byte(rt: HostRuntime) {
-    let pool = Pool::new(rt.alloc());
-    let filled = fill_another(&pool, &rt);
-    assert_same(
-        &rt,
-        (filled, measure_what_was_left(&pool, &rt, rt.alloc())),
-        (Some(true), Some((0, true))),
-    );
+    for count in [0usize, 1, 64, 65, 100_000] {
+        assert_same(
+            &rt,
+            fill_and_measure(&rt, rt.alloc(), count),
+            Some((true, Some((0, true)))),
+        );
+    }
 }
 
 /// A struct that holds a pool of bytes.

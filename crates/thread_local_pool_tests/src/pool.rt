@@ -232,6 +232,24 @@ fn a_closure_that_fails_leaves_the_cell_empty(rt: HostRuntime) {
     );
 }
 
+/// Whether twenty closures fail, one after another.
+fn fail_twenty_times<R: Wait>(pool: &Pool<u64>, rt: &R) -> bool {
+    for _ in 0..20 {
+        if tried(pool, rt, Err(1)) != Some(Err(1)) {
+            return false;
+        }
+    }
+    true
+}
+
+// Each gave its id back, so there is one slot.
+#[test]
+fn closures_that_fail_keep_no_id(rt: HostRuntime) {
+    let mut pool = Pool::new(rt.alloc());
+    let failed = fail_twenty_times(&pool, &rt);
+    assert_same(&rt, (failed, pool.slots()), (true, 1));
+}
+
 /// A value that is taken out of a pool, and whether the next is new.
 fn take_out<R: Wait>(pool: &Pool<u64>, rt: &R) -> Option<(u64, bool)> {
     let taken = pool.get(rt, || 5).ok()?.take();

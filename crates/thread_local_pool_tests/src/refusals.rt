@@ -38,8 +38,10 @@ fn two_at_once<R: Wait + Print>(pool: &Pool<u64>, rt: &R) -> Option<(u64, u64, u
 
 #[test]
 fn a_value_that_was_refused_is_had_the_second_time(rt: HostRuntime) {
-    let pool = Pool::new(rt.alloc());
-    assert_same(&rt, two_at_once(&pool, &rt), Some((0, 1, 2)));
+    let mut pool = Pool::new(rt.alloc());
+    let held = two_at_once(&pool, &rt);
+    // A refused call keeps no id, so the two had the ids 0 and 1.
+    assert_same(&rt, (held, pool.slots()), (Some((0, 1, 2)), 3));
 }
 
 /// A buffer, asked for once more where memory was refused.
@@ -63,6 +65,7 @@ fn lengths_of_two<R: Wait + Print>(pool: &Pool<Vec<u8>>, rt: &R) -> Option<[usiz
 
 #[test]
 fn a_buffer_that_was_refused_is_had_the_second_time(rt: HostRuntime) {
-    let pool = Pool::new(rt.alloc());
-    assert_same(&rt, lengths_of_two(&pool, &rt), Some([0, 0]));
+    let mut pool = Pool::new(rt.alloc());
+    let lengths = lengths_of_two(&pool, &rt);
+    assert_same(&rt, (lengths, pool.slots()), (Some([0, 0]), 3));
 }

@@ -43,10 +43,8 @@ fn take_two<R: Wait>(
 
 #[test]
 fn a_refused_buffer_comes_later_and_is_empty(rt: HostRuntime) {
-    let pool = Pool::new(rt.alloc());
-    assert_same(
-        &rt,
-        take_two(&pool, &rt, rt.alloc()),
-        Ok([(true, 0), (true, 0)]),
-    );
+    let mut pool = Pool::new(rt.alloc());
+    let taken = take_two(&pool, &rt, rt.alloc());
+    // A refused call keeps no id, so the two had the ids 0 and 1.
+    assert_same(&rt, (taken, pool.slots()), (Ok([(true, 0), (true, 0)]), 3));
 }
