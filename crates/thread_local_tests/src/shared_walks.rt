@@ -2,6 +2,7 @@
 
 use crate::numbers::publishes;
 use crate::same::assert_same;
+use std::alloc::Global;
 use std::mem::forget;
 use std::sync::Wait;
 use thread_local::ThreadLocal;
@@ -249,35 +250,80 @@ fn a_walk_passes_ten_missing_buckets(rt: HostRuntime) {
     );
 }
 
-/// What a new `Local` holds once it has published a number.
-fn published<R: Wait>(table: &ThreadLocal<u32>, rt: &R, number: u32) -> Option<u32> {
-    let Ok(mut local) = table.local(rt) else {
-        return None;
-    };
-    local.get_or(|| number).ok().copied()
-}
-
-/// The sum of the values, by a `for` loop.
-fn sum(table: &ThreadLocal<u32>) -> u32 {
-    let mut sum = 0u32;
-    for number in table {
-        sum = sum.wrapping_add(*number);
+/// Which of five ids this is, from 1 on. Each is the first of a bucket, of which the last two are the
+/// eighth and the ninth.
+fn number_of(id: usize) -> Option<u32> {
+    match id {
+        0 => Some(1),
+        1 => Some(2),
+        3 => Some(3),
+        127 => Some(4),
+        255 => Some(5),
+        _ => None,
     }
-    sum
 }
 
-/// What three new `Local`s hold, one after another, that publish 1, 2 and 3.
-fn three_published<R: Wait>(table: &ThreadLocal<u32>, rt: &R) -> [Option<u32>; 3] {
-    [
-        published(table, rt, 1),
-        published(table, rt, 2),
-        published(table, rt, 3),
-    ]
+/// Forgets a new `Local`, which publishes the number of its id first, if that has one. Answers
+/// whether it did so.
+fn publish_and_forget<R: Wait>(table: &ThreadLocal<u32>, rt: &R) -> bool {
+    let Ok(mut local) = table.local(rt) else {
+        return false;
+    };
+    let is_done = match number_of(local.id()) {
+        Some(number) => publishes(&mut local, number),
+        None => true,
+    };
+    forget(local);
+    is_done
+}
+
+/// A table with the values 1 to 5 in five buckets.
+fn in_five_buckets<R: Wait>(rt: &R, alloc: Global) -> Option<ThreadLocal<u32>> {
+    let table = ThreadLocal::new(alloc);
+    for _ in 0..256 {
+        if !publish_and_forget(&table, rt) {
+            return None;
+        }
+    }
+    Some(table)
+}
+
+/// The values that a `for` loop gives, as digits.
+fn digits(table: &ThreadLocal<u32>) -> u32 {
+    let mut digits = 0u32;
+    for number in table {
+        digits = digits.wrapping_mul(10).wrapping_add(*number);
+    }
+    digits
+}
+
+/// The same of a loop by `&mut`, which then adds one to each.
+fn digits_and_one(table: &mut ThreadLocal<u32>) -> u32 {
+    let mut digits = 0u32;
+    for number in table {
+        digits = digits.wrapping_mul(10).wrapping_add(*number);
+        *number = number.wrapping_add(1);
+    }
+    digits
+}
+
+/// The same of a loop by value.
+fn moved_digits(table: ThreadLocal<u32>) -> u32 {
+    let mut digits = 0u32;
+    for number in table {
+        digits = digits.wrapping_mul(10).wrapping_add(number);
+    }
+    digits
 }
 
 #[test]
-fn a_table_is_walked_by_a_for_loop(rt: HostRuntime) {
-    let table = ThreadLocal::<u32>::new(rt.alloc());
-    let published = three_published(&table, &rt);
-    assert_same(&rt, (published, sum(&table)), ([Some(1); 3], 1));
+fn loops_go_over_all_buckets(rt: HostRuntime) {
+    let mut table = in_five_buckets(&rt, rt.alloc()).expect(&rt, "a table");
+    let shared = digits(&table);
+    let lent = digits_and_one(&mut table);
+    assert_same(
+        &rt,
+        (shared, lent, moved_digits(table)),
+        (12345, 12345, 23456),
+    );
 }
