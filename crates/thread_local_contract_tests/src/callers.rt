@@ -1,9 +1,10 @@
-//! Callers at concrete types and generic ones, which are proved and not run.
+//! Callers at concrete types and generic ones, and tests that run them.
 ghost use Rattle.std.specs.Prelude.{◌≡◌, IfOk, IfSome, IsSome, None, Some, Ok, OnOk, OnErr, true, sum};
 ghost use Rattle.thread_local.specs.Capacity.{reserved_slots};
 ghost use Rattle.thread_local.specs.IterMut.{iter_mut_rest};
 ghost use Rattle.thread_local.specs.Judged.{Judged};
 
+use crate::same::assert_same;
 use std::alloc::{AllocError, Global};
 use std::cell::{Cell, RefCell};
 use std::default::MadeWith;
@@ -283,7 +284,7 @@ fn with_room(alloc: Global, ids: usize) -> Result<ThreadLocal<u32>, CapacityErro
     ThreadLocal::with_capacity(alloc, ids)
 }
 
-fn sync<T: Send + Sync>(alloc: Global) -> ThreadLocal<T> {
+pub fn sync<T: Send + Sync>(alloc: Global) -> ThreadLocal<T> {
     ThreadLocal::new(alloc)
 }
 
@@ -299,6 +300,186 @@ fn sum(walk: Iter<'_, u32>) -> u32 {
 /// So does that of a `Local`.
 fn sum_of<R: Wait>(local: &Local<'_, u32, R>) -> u32 {
     sum(local.iter())
+}
+
+/// A `Local` of a new table, which holds no value.
+fn empty_local<'a, R: Wait>(table: &'a ThreadLocal<u32>, rt: &'a R) -> Option<Local<'a, u32, R>>
+    ensures { IfSome result (λ local. local.value ≡ None) }
+{
+    let Ok(local) = table.local(rt) else {
+        return None;
+    };
+    if local.get().is_some() {
+        return None;
+    }
+    Some(local)
+}
+
+/// What two callers get at an empty slot, told 1 and 2, where the second's first closure fails.
+fn first_and_second<R: Wait>(rt: &R, alloc: Global) -> Option<[u32; 2]> {
+    let (one, other) = (number(alloc), number(alloc));
+    let first = first_of_two(&mut empty_local(&one, rt)?, 1, 2).ok()?;
+    let second = second_try(&mut empty_local(&other, rt)?, 1, 2).ok()?;
+    Some([first, second])
+}
+
+/// What stands after a closure that fails, and what one that doesn't leaves.
+fn emptied_and_filled<R: Wait>(
+    table: &ThreadLocal<u32>,
+    rt: &R,
+) -> Option<([Option<u32>; 3], u32)> {
+    let mut local = empty_local(table, rt)?;
+    empty_after_an_error(&mut local, 1);
+    let before = local.get().copied();
+    let none = filled_and_read(&mut local, Err(2));
+    if local.get().is_some() {
+        return None;
+    }
+    let some = filled_and_read(&mut local, Ok(3));
+    Some(([before, none, some], *local.get()?))
+}
+
+/// What callers of a lasting reference and of a closure that can't be called get.
+fn lasting_and_held<R: Wait>(rt: &R, alloc: Global) -> Option<[u32; 2]> {
+    let (one, other) = (number(alloc), number(alloc));
+    let lasting = *lasting_second(&mut empty_local(&one, rt)?, 1, 2)?;
+    let held = held(&mut empty_local(&other, rt)?, 3).ok()?;
+    Some([lasting, held])
+}
+
+/// Whether callers are granted memory where they know of a value or of the bucket, each by a new
+/// `Local`. The first publishes 5.
+fn granted<R: Wait>(table: &ThreadLocal<u32>, rt: &R) -> Option<[bool; 4]> {
+    let first = granted_after_an_error(&mut table.local(rt).ok()?, 5);
+    let second = never_refused(&mut table.local(rt).ok()?, 6);
+    let third = held_is_answered_by_default(&mut table.local(rt).ok()?);
+    let fourth = keeps_its_id(&mut table.local(rt).ok()?, 7);
+    Some([first, second, third, fourth])
+}
+
+/// A `Local` that holds a value.
+fn full_local<'a, R: Wait>(table: &'a ThreadLocal<u32>, rt: &'a R) -> Option<Local<'a, u32, R>>
+    ensures { IfSome result (λ local. IsSome local.value) }
+{
+    let Ok(local) = table.local(rt) else {
+        return None;
+    };
+    if local.get().is_none() {
+        return None;
+    }
+    Some(local)
+}
+
+/// Whether callers are answered where a value is held, each by a new `Local`.
+fn answered<R: Wait>(table: &ThreadLocal<u32>, rt: &R) -> Option<[bool; 3]> {
+    let first = held_is_answered(&mut full_local(table, rt)?, 6);
+    let second = held_is_no_error(&mut full_local(table, rt)?);
+    let third = held_is_full(&mut full_local(table, rt)?);
+    Some([first, second, third])
+}
+
+/// The errors that callers are told, and whether a slot of a bucket that stands is filled.
+fn errors_and_filled<R: Wait>(
+    table: &ThreadLocal<u32>,
+    rt: &R,
+) -> Option<([u64; 2], bool, Option<u32>)> {
+    let mut local = empty_local(table, rt)?;
+    let errors = [
+        error_of_the_closure(&mut local, 8),
+        error_of_a_filling(&mut local, 9),
+    ];
+    let filled = filled_or_empty::<u32, bool, R>(&mut local, Ok(10)).is_ok();
+    Some((errors, filled, local.get().copied()))
+}
+
+#[test]
+fn callers_of_an_empty_slot_are_answered(rt: HostRuntime) {
+    let alloc = rt.alloc();
+    assert_same(&rt, first_and_second(&rt, alloc), Some([1, 2]));
+    assert_same(
+        &rt,
+        emptied_and_filled(&number(alloc), &rt),
+        Some(([None, None, Some(3)], 3)),
+    );
+    assert_same(&rt, lasting_and_held(&rt, alloc), Some([2, 3]));
+}
+
+#[test]
+fn callers_are_granted_memory_and_told_errors(rt: HostRuntime) {
+    let alloc = rt.alloc();
+    let table = number(alloc);
+    assert_same(&rt, granted(&table, &rt), Some([true; 4]));
+    assert_same(&rt, answered(&table, &rt), Some([true; 3]));
+    assert_same(
+        &rt,
+        errors_and_filled(&number(alloc), &rt),
+        Some(([8, 9], true, Some(10))),
+    );
+}
+
+/// Whether the first `Local` of a table with a capacity has a reserved slot, which is filled, and a
+/// later one finds the value.
+fn filled_where_reserved<R: Wait>(rt: &R, alloc: Global) -> Option<(bool, Option<u32>)> {
+    let table = with_room(alloc, 4).ok()?;
+    let is_filled = fill_reserved(&table, rt)?;
+    let found = full_local(&table, rt)?.get().copied();
+    Some((is_filled, found))
+}
+
+/// Whether the slot of a new `Local`, if it is reserved, is filled with 4.
+fn fill_reserved<R: Wait>(table: &ThreadLocal<u32>, rt: &R) -> Option<bool> {
+    let Ok(mut local) = table.local(rt) else {
+        return None;
+    };
+    if !local.is_reserved() {
+        return None;
+    }
+    Some(filled_where_known(&mut local, Ok::<u32, bool>(4)))
+}
+
+/// How many slots new tables of two types have.
+fn slots_of_new(alloc: Global) -> [usize; 2] {
+    [generic::<u8>(alloc).slots(), ref_cell(alloc).slots()]
+}
+
+/// What a new `Local` publishes, how many values its walk sums up, and whether two have two ids.
+fn summed_and_apart<R: Wait>(table: &ThreadLocal<u32>, rt: &R) -> Option<(u32, Option<bool>)> {
+    let Ok(mut local) = table.local(rt) else {
+        return None;
+    };
+    local.get_or(|| 6).ok()?;
+    Some((sum_of(&local), have_two_ids(table, rt)))
+}
+
+/// The sum of what an owner's walk gives, where a `Local` published 7.
+fn added_up_to_seven<R: Wait>(mut table: ThreadLocal<u64>, rt: &R) -> Option<u128> {
+    publish_seven(&table, rt)?;
+    Some(added_up(table.iter_mut()))
+}
+
+/// A `Local` publishes 7.
+fn publish_seven<R: Wait>(table: &ThreadLocal<u64>, rt: &R) -> Option<()> {
+    let Ok(mut local) = table.local(rt) else {
+        return None;
+    };
+    local.set(7).ok()
+}
+
+#[test]
+fn callers_of_a_table_are_answered(rt: HostRuntime) {
+    let alloc = rt.alloc();
+    assert_same(&rt, slots_of_new(alloc), [0; 2]);
+    assert_same(
+        &rt,
+        filled_where_reserved(&rt, alloc),
+        Some((true, Some(4))),
+    );
+    assert_same(
+        &rt,
+        summed_and_apart(&sync(alloc), &rt),
+        Some((6, Some(true))),
+    );
+    assert_same(&rt, added_up_to_seven(sync(alloc), &rt), Some(7));
 }
 
 fn generic_local<T: Send, R: Wait + Sync>(local: Local<'_, T, R>) {

@@ -230,6 +230,23 @@ fn walks_give_each_value_with_a_token(rt: HostRuntime) {
     assert_same(&rt, (walked, count, same), (Some([both; 3]), 2, true));
 }
 
+/// Whether a walk gives what a new `Local` holds, which publishes 5.
+fn held_and_given<R: Wait>(table: &ThreadLocal<u32>, rt: &R) -> Option<bool>
+    requires named { IsSome table.now.sharing }
+{
+    let Ok(mut local) = table.local(rt) else {
+        return None;
+    };
+    let value = *local.get_or(|| 5).ok()?;
+    Some(is_given_as_it_is_held(table, &mut local, value))
+}
+
+#[test]
+fn a_walk_gives_what_a_local_holds(rt: HostRuntime) {
+    let table = ThreadLocal::<u32>::new(rt.alloc());
+    assert_same(&rt, held_and_given(&table, &rt), Some(true));
+}
+
 /// Sets 3 where a `Local` finds nothing.
 fn set_three<R: Wait>(local: &mut Local<'_, u32, R>) -> Option<Token<u32>>
     ensures { IfSome result (λ token. token.sharing ≡ local.old.sharing) }

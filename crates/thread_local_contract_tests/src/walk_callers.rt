@@ -1,7 +1,9 @@
-//! Callers of walks at concrete types and generic ones, which are proved and not run.
+//! Callers of walks at concrete types and generic ones, and tests that run them.
 ghost use Rattle.std.specs.Prelude.{◌≡◌, true, Some};
 
-use crate::callers::is_sent;
+use crate::callers::{is_sent, sync};
+use crate::same::assert_same;
+use std::alloc::Global;
 use std::sync::Wait;
 use thread_local::ThreadLocal;
 use thread_local::local::Local;
@@ -80,6 +82,7 @@ fn counted_by_iter<T: Send + Sync>(table: &ThreadLocal<T>) -> usize {
 }
 
 /// A value that holds a reference.
+#[derive(Drop)]
 struct Reading<'a> {
     number: &'a u64,
 }
@@ -118,6 +121,91 @@ fn readings_of_a_local<R: Wait>(local: &Local<'_, Reading<'_>, R>) -> u64 {
     local
         .iter()
         .fold(0u64, |sum, reading| sum.wrapping_add(*reading.number))
+}
+
+/// What callers find where two `Local`s that are held publish 3 and 4: whether the second's walk gives
+/// its own, the last id, the sum, and three counts.
+fn found_of_two<R: Wait>(
+    table: &ThreadLocal<u32>,
+    rt: &R,
+) -> Option<(bool, Option<usize>, u32, [usize; 3])> {
+    let Ok(mut first) = table.local(rt) else {
+        return None;
+    };
+    let Ok(mut second) = table.local(rt) else {
+        return None;
+    };
+    first.get_or(|| 3).ok()?;
+    let own = *second.get_or(|| 4).ok()?;
+    Some((
+        finds_own(&second, own),
+        last_id(table),
+        numbers(table),
+        counts(table),
+    ))
+}
+
+/// How many values a table has, by three walks.
+fn counts<T: Send + Sync>(table: &ThreadLocal<T>) -> [usize; 3] {
+    [
+        counted(table),
+        counted_by_entries(table),
+        counted_by_iter(table),
+    ]
+}
+
+#[test]
+fn walks_give_two_numbers(rt: HostRuntime) {
+    let table = ThreadLocal::new(rt.alloc());
+    assert_same(
+        &rt,
+        found_of_two(&table, &rt),
+        Some((true, Some(1), 7, [2; 3])),
+    );
+}
+
+/// How many bytes walks find where a `Local` publishes a text of four.
+fn bytes_of_four<R: Wait>(
+    table: &ThreadLocal<String>,
+    rt: &R,
+    alloc: Global,
+) -> Option<[usize; 2]> {
+    let text = String::from_str(alloc, "four").ok()?;
+    let Ok(mut local) = table.local(rt) else {
+        return None;
+    };
+    local.set(text).ok()?;
+    Some([texts(table), texts_by_iter(table)])
+}
+
+#[test]
+fn walks_give_a_text(rt: HostRuntime) {
+    judge_sync::<String>();
+    let table = ThreadLocal::new(rt.alloc());
+    assert_same(&rt, bytes_of_four(&table, &rt, rt.alloc()), Some([4; 2]));
+}
+
+/// What walks find where a `Local` publishes a reference to 5.
+fn reading_of_five<R: Wait>(rt: &R, alloc: Global) -> Option<((u64, usize), [u64; 2])> {
+    let number = 5;
+    let table = sync(alloc);
+    let Ok(mut local) = table.local(rt) else {
+        return None;
+    };
+    local.get_or(|| Reading { number: &number }).ok()?;
+    Some((
+        readings(&table),
+        [readings_folded(&table), readings_of_a_local(&local)],
+    ))
+}
+
+#[test]
+fn walks_give_a_value_that_holds_a_reference(rt: HostRuntime) {
+    assert_same(
+        &rt,
+        reading_of_five(&rt, rt.alloc()),
+        Some(((5, 1), [5; 2])),
+    );
 }
 
 fn shared_walk<T: Send + Sync>(walk: &Iter<'_, T>) {
