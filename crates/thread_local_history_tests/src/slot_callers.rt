@@ -196,6 +196,18 @@ fn locals_held_at_once_use_fewer_than_twice_as_many_slots(rt: HostRuntime) {
     }
 }
 
+/// How many slots a new table has, by its history, once three `Local`s that are held at once published.
+fn slots_of_three<R: Wait>(alloc: Global, rt: &R) -> (bool, usize) {
+    let table = ThreadLocal::<u32>::new(alloc);
+    let published = publish_held(&table, rt, alloc, 3);
+    (published, slots_of_history(&table, rt).0)
+}
+
+#[test]
+fn slots_are_counted_by_the_history(rt: HostRuntime) {
+    assert_same(&rt, slots_of_three(rt.alloc(), &rt), (true, 3));
+}
+
 #[test]
 fn a_cleared_table_counts_slots_and_peak_anew(rt: HostRuntime) {
     assert_same(&rt, held_again(rt.alloc(), &rt, 2), (true, (3, 2)));

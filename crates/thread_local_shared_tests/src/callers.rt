@@ -1,4 +1,4 @@
-//! Callers at concrete types and generic ones, which are proved and not run.
+//! Callers at concrete types and generic ones, and tests that run them.
 mod buckets;
 mod claims;
 mod judged;

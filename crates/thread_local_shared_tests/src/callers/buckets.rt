@@ -2,10 +2,13 @@
 ghost use Rattle.std.specs.Prelude.{◌≡◌, ◌^◌, ◌<◌, ◌≤◌};
 ghost use Rattle.thread_local_base.specs.Judged.{Judged};
 
-use crate::steps::{has_bit, share, take_back};
+use crate::same::assert_same;
+use crate::steps::{Table, has_bit, share, take_back};
+use std::alloc::{AllocError, Global};
 use std::cell::{Cell, RefCell};
-use thread_local_base::{Judge, bucket_size, judge_sync};
-use thread_local_buckets::{Buckets, flag_word_at};
+use std::test::Fail;
+use thread_local_base::{Judge, Thread, bucket_size, judge_sync};
+use thread_local_buckets::{Buckets, CapacityError, flag_word_at};
 use thread_local_ids::{Page, Token, Told};
 use thread_local_shared_buckets::{Row, Shared, SharedBucket};
 
@@ -111,4 +114,66 @@ fn published<'a>(row: &Row<'a, String>, bucket: usize, index: usize) -> Option<&
 
 fn bucket_crosses(bucket: &SharedBucket<RefCell<String>>) {
     crosses(bucket)
+}
+
+/// How many slots are reserved in shared buckets of a capacity of 8, at four types.
+fn reserved_at_types(alloc: Global) -> Result<[usize; 4], CapacityError> {
+    let page = Table::new(alloc).start;
+    Ok([
+        number(Buckets::with_capacity(alloc, 8)?, &page).reserved(),
+        boxed(Buckets::with_capacity(alloc, 8)?, &page).reserved(),
+        ref_cell(Buckets::with_capacity(alloc, 8)?, &page).reserved(),
+        sync::<u8>(Buckets::with_capacity(alloc, 8)?, &page).reserved(),
+    ])
+}
+
+/// Whether bucket 3 stands in shared buckets of cells, of a capacity of 8.
+fn has_cell_row(alloc: Global) -> Result<bool, CapacityError> {
+    let page = Table::new(alloc).start;
+    let shared = cell(Buckets::with_capacity(alloc, 8)?, &page);
+    bucket_crosses_of(alloc, &page);
+    Ok(cell_row(&shared).is_some())
+}
+
+/// Looks at a bucket of texts in cells.
+fn bucket_crosses_of(alloc: Global, page: &Page) {
+    bucket_crosses(ref_cell(Buckets::new(alloc), page).bucket(0));
+}
+
+/// How many slots threads, an owner and a later owner count in buckets of a capacity of 8.
+fn slots_of_three(alloc: Global) -> Result<[usize; 3], CapacityError> {
+    RefCell::<String>::judge();
+    let page = Table::new(alloc).start;
+    let mut shared = generic(Buckets::with_capacity(alloc, 8)?, &page);
+    let by_threads = slots(&shared, &page);
+    let by_owner = owner_slots(&mut shared);
+    let mut buckets = back(anew(shared, &page));
+    Ok([by_threads, by_owner, buckets.slots()])
+}
+
+/// How many bytes the text has that is found at id 0.
+fn length_at_the_first(alloc: Global) -> Result<Option<usize>, AllocError> {
+    let page = Table::new(alloc).start;
+    let mut buckets = Buckets::new(alloc);
+    if buckets
+        .insert(Thread::new(0), String::from_str(alloc, "four")?)
+        .is_err()
+    {
+        return Err(AllocError);
+    }
+    let shared = text(buckets, &page);
+    let Some(row) = shared.bucket(0).load(&Told::new()) else {
+        return Ok(None);
+    };
+    Ok(published(&row, 0, 0).map(|found| found.len()))
+}
+
+#[test]
+fn buckets_are_shared_at_each_type(rt: HostRuntime) -> Result<(), Fail> {
+    let alloc = rt.alloc();
+    assert_same(&rt, reserved_at_types(alloc)?, [15; 4]);
+    assert_same(&rt, has_cell_row(alloc)?, true);
+    assert_same(&rt, slots_of_three(alloc)?, [15; 3]);
+    assert_same(&rt, length_at_the_first(alloc)?, Some(4));
+    Ok(())
 }

@@ -6,10 +6,12 @@ ghost use Rattle.thread_local_base.specs.Learnt.{Missing, Vacant, Holding};
 ghost use Rattle.thread_local_base.specs.Place.{bucket_of};
 ghost use Rattle.thread_local_ids.specs.Sharings.{Belongs};
 
+use crate::same::assert_same;
+use crate::steps::{Table, share};
 use std::alloc::Global;
 use std::cell::{Cell, RefCell};
 use thread_local_base::{Thread, bucket_size};
-use thread_local_buckets::Block;
+use thread_local_buckets::{Block, Buckets};
 use thread_local_ids::{HeldId, Token};
 use thread_local_shared_buckets::{Claim, Shared};
 
@@ -123,4 +125,68 @@ fn left_empty<T: Send>(claim: &mut Claim<'_, T>, alloc: &Global)
     if let Ok(Some(block)) = claim.room(alloc, thread) {
         block.release(alloc, bucket_size(thread.bucket));
     }
+}
+
+/// A claim whose slot is empty is filled with 7. Answers whether there was memory, and the id with what
+/// the claim has seen.
+fn filled_and_seen(
+    shared: &Shared<u32>,
+    held: HeldId,
+    alloc: Global,
+) -> Option<(bool, usize, Option<u32>)>
+    requires table { held.right.table ≡ shared.now.table }
+    requires sharing { Belongs shared.now.sharing shared.now.table }
+{
+    let mut claim = shared.claim(visit(shared, held));
+    if claim.get().is_some() {
+        number(claim);
+        return None;
+    }
+    left_empty(&mut claim, &alloc);
+    if claim.get().is_some() {
+        number(claim);
+        return None;
+    }
+    let is_filled = filled(&mut claim, &alloc, 7);
+    if claim.is_missing() {
+        number(claim);
+        return None;
+    }
+    let (held, found) = number_seen(claim);
+    Some((is_filled, held.id, found.map(|(_, value)| *value)))
+}
+
+/// A claim whose bucket is missing is told that a block for it is installed. Answers what it holds then.
+fn settled_and_held(shared: &Shared<u32>, held: HeldId, alloc: Global) -> Option<u32>
+    requires table { held.right.table ≡ shared.now.table }
+    requires sharing { Belongs shared.now.sharing shared.now.table }
+{
+    let mut claim = shared.claim(held);
+    if !claim.is_missing() {
+        number(claim);
+        return None;
+    }
+    let thread = Thread::new(claim.id());
+    if let Ok(block) = Block::new(&alloc, bucket_size(thread.bucket)) {
+        settled_number(&mut claim, block, &alloc);
+    }
+    let value = claim.get().copied();
+    number(claim);
+    value
+}
+
+#[test]
+fn claims_of_numbers_are_filled(rt: HostRuntime) {
+    let table = Table::new(rt.alloc());
+    let shared = share(Buckets::new(rt.alloc()), &table.start);
+    let first = table.take(&rt).expect(&rt, "an id");
+    let second = table.take(&rt).expect(&rt, "an id");
+    assert_same(
+        &rt,
+        (
+            filled_and_seen(&shared, first, rt.alloc()),
+            settled_and_held(&shared, second, rt.alloc()),
+        ),
+        (Some((true, 0, Some(7))), Some(7)),
+    );
 }

@@ -1,8 +1,10 @@
 //! Types that are judged.
 ghost use Rattle.thread_local_base.specs.Judged.{Judged};
 
-use std::alloc::Global;
+use crate::same::assert_same;
+use std::alloc::{AllocError, Global};
 use std::cell::{Cell, RefCell};
+use std::test::Fail;
 use thread_local_base::{Judge, judge_sync};
 
 /// Stands for a call that asks for the fact.
@@ -95,4 +97,47 @@ fn nested(
     vector: Vec<Box<Option<Cell<u64>>>>,
 ) -> (RefCell<Vec<Option<Cell<u64>>>>, Vec<Box<Option<Cell<u64>>>>) {
     (judging(cell), judging(vector))
+}
+
+/// The numbers that come back of 5 to 8, of which three were in boxes.
+fn numbers(alloc: Global) -> Result<[u32; 4], AllocError> {
+    let in_box = boxed(Box::new(alloc, 6u32)?);
+    let (other, in_cell) = in_boxes(Box::new(alloc, 7u32)?, Box::new(alloc, Cell::new(8u32))?);
+    Ok([number(), *in_box, *other, in_cell.get()])
+}
+
+/// How many bytes the texts have that come back, with the number beside one.
+fn lengths(alloc: Global) -> Result<([usize; 3], u32), AllocError> {
+    let one = text(String::from_str(alloc, "a")?);
+    let two = texts(String::from_str(alloc, "bb")?);
+    let (number, three) = pair((9, String::from_str(alloc, "ccc")?));
+    Ok(([one.len(), two.len(), three.len()], number))
+}
+
+/// What comes back in cells, in an option and in vectors.
+fn in_cells(alloc: Global) -> ([u64; 2], Option<u8>, [usize; 2]) {
+    let (number, in_cell) = in_options();
+    let (texts, cells) = in_vectors(alloc);
+    let (nested, vector) = nested(RefCell::new(Vec::new(alloc)), Vec::new(alloc));
+    let found = ref_cell(RefCell::new(12)).into_inner();
+    let in_option = in_cell.map(|cell| cell.get()).unwrap_or(0);
+    (
+        [cell(Cell::new(11)).get(), u64::from(found)],
+        if in_option == 14 { number } else { None },
+        [
+            texts.len().wrapping_add(cells.len()),
+            nested.into_inner().len().wrapping_add(vector.len()),
+        ],
+    )
+}
+
+#[test]
+fn judged_values_come_back(rt: HostRuntime) -> Result<(), Fail> {
+    unsigned_numbers();
+    signed_numbers();
+    other_plain_values();
+    assert_same(&rt, numbers(rt.alloc())?, [5, 6, 7, 8]);
+    assert_same(&rt, lengths(rt.alloc())?, ([1, 2, 3], 9));
+    assert_same(&rt, in_cells(rt.alloc()), ([11, 12], Some(13), [0, 0]));
+    Ok(())
 }
