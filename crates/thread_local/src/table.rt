@@ -516,6 +516,6 @@ impl<'a, T: Sync> IntoIterator for &'a ThreadLocal<T> {
     /// may share the values, which is shown where the walk is used: the check shows it at most
     /// types and at a generic `T: Sync`, and `judge_sync` shows it at the others.
     fn into_iter(self) -> Iter<'a, T> {
-        Iter::unshown(&self.buckets)
+        Iter::unshown(&self.buckets, Told::new())
     }
 }

@@ -4,7 +4,7 @@ ghost use Rattle.std.specs.Iterator.{UpTo};
 ghost use Rattle.std.specs.Iterator.SizeHint.{IsWithinCount};
 ghost use Rattle.thread_local_base.specs.Cursor.{cursor_id};
 ghost use Rattle.thread_local_shared_buckets.specs.Positions.{owed, OwnIsTold};
-ghost use Rattle.thread_local_shared_buckets.specs.Walks.{WalkView, fresh, fresh_with, IsNext, IsNextWithToken, CanGo, ids_left};
+ghost use Rattle.thread_local_shared_buckets.specs.Walks.{WalkView, fresh_with, IsNext, IsNextWithToken, CanGo, ids_left};
 
 use crate::announcements::load_announced;
 use crate::shared::Shared;
@@ -98,11 +98,11 @@ impl<'a, T> Iter<'a, T> {
         }
     }
 
-    /// A walk without the fact that threads may share the values: whoever calls `next` shows it.
-    pub fn unshown(buckets: &'a Shared<T>) -> Iter<'a, T>
-        ensures { result ≡ fresh buckets.now.sharing None false }
+    /// `new`, without the fact that threads may share the values: whoever calls `next` shows it.
+    pub fn unshown(buckets: &'a Shared<T>, told: Told<T>) -> Iter<'a, T>
+        ensures { result ≡ fresh_with buckets.now.sharing None false told }
     {
-        Iter::begun(buckets, None, None, Told::new())
+        Iter::begun(buckets, None, None, told)
     }
 }
 
