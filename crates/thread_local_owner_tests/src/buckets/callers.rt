@@ -165,6 +165,29 @@ fn values_are_drained_at_any_type(rt: HostRuntime) -> Result<(), Fail> {
     Ok(())
 }
 
+/// The sum of the values 3 and 4 once the first is written by a walk.
+fn written_first(alloc: Global) -> Result<u128, u32> {
+    let mut buckets = two(alloc)?;
+    write_first(&mut buckets, 5);
+    Ok(drained_sum(&mut buckets))
+}
+
+/// The sum of the values 3 and 4 once both are written.
+fn written_everywhere(alloc: Global) -> Result<u128, u32> {
+    let mut buckets = two(alloc)?;
+    write_all(&mut buckets, 8);
+    Ok(drained_sum(&mut buckets))
+}
+
+#[test]
+fn values_are_written(rt: HostRuntime) {
+    assert_same(
+        &rt,
+        [written_first(rt.alloc()), written_everywhere(rt.alloc())],
+        [Ok(9), Ok(16)],
+    );
+}
+
 #[test]
 fn a_value_that_stands_is_kept(rt: HostRuntime) {
     assert_same(&rt, written(rt.alloc()).ok(), Some(5));
