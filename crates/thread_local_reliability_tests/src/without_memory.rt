@@ -261,3 +261,26 @@ fn a_capacity_that_is_too_large_is_told_without_memory(rt: HostRuntime) -> Resul
     assert_same(&rt, make_without_memory(rt.alloc())?, (true, true));
     Ok(())
 }
+
+/// Makes so many tables with room for 65535 ids, and drops each, where four MiB are left. Answers
+/// how many were had. Their values have no bytes.
+fn count_made(alloc: Global, count: usize) -> Result<usize, AllocError> {
+    let spare = Vec::<u8>::with_capacity(alloc, 1 << 22)?;
+    let taken = take_all(alloc)?;
+    drop(spare);
+    let mut made = 0usize;
+    for _ in 0..count {
+        if ThreadLocal::<()>::with_capacity(alloc, 65535).is_ok() {
+            made = made.wrapping_add(1);
+        }
+    }
+    drop(taken);
+    Ok(made)
+}
+
+// The ids of each take 8 KiB, those of all 8 MiB.
+#[test]
+fn the_ids_of_a_dropped_table_are_freed(rt: HostRuntime) -> Result<(), Fail> {
+    assert_same(&rt, count_made(rt.alloc(), 1000)?, 1000);
+    Ok(())
+}
