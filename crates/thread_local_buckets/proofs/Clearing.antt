@@ -1,5 +1,5 @@
 -- Contents that are being cleared, bucket by bucket, from the last one down that may stand.
-use Rattle.std.proofs.Common.{◌≡◌, ◌≢◌, ℕ, suc, ◌+◌, ◌*◌, ◌^◌, ◌<◌, ◌≤◌, ◌⊎◌, Bool, true, false, cond, inl, inr, List, Option, None, [], length, bit_or, refl, sym, ap, ◌∙◌, subst, arith}
+use Rattle.std.proofs.Common.{◌≡◌, ◌≢◌, ℕ, suc, ◌+◌, ◌*◌, ◌^◌, ◌<◌, ◌≤◌, ◌⊎◌, Bool, true, false, cond, inl, inr, List, Option, None, [], length, refl, sym, ap, ◌∙◌, subst, arith}
 use Rattle.std.proofs.Common.{⊎_elim}
 use Rattle.std.specs.Prelude.{nat_lt, slice_index_or}
 use Rattle.std.proofs.Math.Nat.{two-pow-succ}

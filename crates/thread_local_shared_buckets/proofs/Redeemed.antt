@@ -260,7 +260,7 @@ module _ {M : Type 1} {𝓤 : Ura M} (𝓛 : Logic 𝓤) (R : RattleType) (L : L
         (λ bare j. are.1.flags j ∙ ap is_some (bare j))) $
         move ! (0 ∷ 1 ∷ []) $ fjoin ! $ move ! (1 ∷ 0 ∷ []) $ rewrite ! 0 (λ (m : ℕ). ‵ (each (flags_at R m b o) ns 0)) long refl $
         nothing ! $ fpack ! (AreFlagWords R n ns) (λ _. ftrue) (are_words R n ns cs long are) $
-        fjoin3 ! $ 
+        fjoin3 ! $
         fpack ! (List ℕ) (slots_under R n b o (λ z. fsep (announced_where d z) (slots_rest R d.sharing k n 0 b o z))) ns $
         done !))
 
