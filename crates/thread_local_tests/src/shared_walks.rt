@@ -5,8 +5,10 @@ use crate::same::assert_same;
 use std::alloc::Global;
 use std::mem::forget;
 use std::sync::Wait;
+use std::test::Fail;
 use thread_local::ThreadLocal;
 use thread_local::local::Local;
+use thread_local_buckets::CapacityError;
 use thread_local_shared_buckets::{Entries, Iter};
 
 /// Whether a walk gives these values and then none, and again none.
@@ -248,6 +250,38 @@ fn a_walk_passes_ten_missing_buckets(rt: HostRuntime) {
         (found, table.slots()),
         (Some((1023, true, true, true)), 1024),
     );
+}
+
+/// Whether an owner's walk has one value to give, and gives this one.
+fn lends_one(table: &mut ThreadLocal<u32>, value: u32) -> bool {
+    let mut values = table.iter_mut();
+    values.len() == 1 && values.next().copied() == Some(value)
+}
+
+/// Whether no value is left once they are drained, and this one comes out.
+fn drains_one(table: &mut ThreadLocal<u32>, value: u32) -> bool {
+    let drained = table.drain().next() == Some(value);
+    drained && gives(table.iter(), &[])
+}
+
+fn with_capacity(alloc: Global, capacity: usize) -> Result<ThreadLocal<u32>, CapacityError> {
+    ThreadLocal::with_capacity(alloc, capacity)
+}
+
+#[test]
+fn walks_find_a_value_in_a_reserved_bucket_behind_the_first_seven(
+    rt: HostRuntime,
+) -> Result<(), Fail> {
+    let mut table = with_capacity(rt.alloc(), 2000)?;
+    let found = publish_past_ten_buckets(&table, &rt);
+    let slots = table.slots();
+    let lent = lends_one(&mut table, 5);
+    assert_same(
+        &rt,
+        (found, slots, lent, drains_one(&mut table, 5)),
+        (Some((1023, true, true, true)), 2047, true, true),
+    );
+    Ok(())
 }
 
 /// Which of five ids this is, from 1 on. Each is the first of a bucket, of which the last two are the
