@@ -1,10 +1,10 @@
 //! How the cost of calls grows: with the number of threads that make them at once on one table, and
 //! with the number of values that a walk meets.
 
-use crate::table::{find_by_two, iter, publish_all, taken};
+use crate::Round;
+use crate::table::{find_by_two, iter, publish_all, take_and_drop, taken};
 use crate::values::{fill, first, into_iter_of_many, iter_mut};
-use crate::workers::{Counter, add};
-use crate::{Round, least_of};
+use crate::workers::{Counter, add, count_up};
 use std::alloc::{AllocError, Global};
 use std::cell::Cell;
 use std::default::MadeWith;
@@ -37,6 +37,7 @@ pub(crate) enum Work {
     GetHit(u64, u64),
     Tally(u64),
     LocalAndDrop(u64),
+    Count(u64),
 }
 
 impl Work {
@@ -54,13 +55,17 @@ impl Work {
             Work::GetHit(_, _) => "get_hit",
             Work::Tally(_) => "tally",
             Work::LocalAndDrop(_) => "local_and_drop",
+            Work::Count(_) => "count",
         }
     }
 
     /// For how many operations a time is given.
     fn operations(self) -> u64 {
         match self {
-            Work::GetHit(times, _) | Work::Tally(times) | Work::LocalAndDrop(times) => times,
+            Work::GetHit(times, _)
+            | Work::Tally(times)
+            | Work::LocalAndDrop(times)
+            | Work::Count(times) => times,
         }
     }
 
@@ -90,8 +95,9 @@ impl Work {
     ) -> Result<(), AllocError> {
         match self {
             Work::GetHit(times, mask) => find_all(table, rt, times, mask),
-            Work::Tally(times) => add(table, rt, thread, threads, times).map_err(|_| AllocError),
+            Work::Tally(times) => add(table, rt, thread, threads, times),
             Work::LocalAndDrop(times) => take_and_drop(table, rt, times),
+            Work::Count(times) => count_up(table, rt, times),
         }
     }
 }
@@ -109,16 +115,13 @@ fn find_all<T: Counter, R: Clock + Wait>(
     }
 }
 
-/// Takes `Local`s of a table and drops them.
-fn take_and_drop<T, R: Wait>(table: &ThreadLocal<T>, rt: &R, times: u64) -> Result<(), AllocError> {
-    for _ in 0..times {
-        drop(taken(table, rt)?);
-    }
-    Ok(())
-}
-
 /// So many threads work on one table. An operation is one of each thread, but of a tally one number.
-fn by_threads<T, R>(table: &ThreadLocal<T>, rt: &R, work: Work, threads: u64) -> io::Result<Round>
+pub(crate) fn by_threads<T, R>(
+    table: &ThreadLocal<T>,
+    rt: &R,
+    work: Work,
+    threads: u64,
+) -> io::Result<Round>
 where
     T: Counter + Send,
     R: Clock + Threads + Wait + Sync,
@@ -157,6 +160,15 @@ fn deal<'a, R: Wait>(
     Ok(())
 }
 
+/// A hand for each of so many threads, with room for so many.
+fn empty_hands<T: Drop>(alloc: Global, threads: u32, each: u32) -> Result<Vec<Vec<T>>, AllocError> {
+    let mut hands = Vec::with_capacity(alloc, threads as usize)?;
+    for _ in 0..threads {
+        hands.push(Vec::with_capacity(alloc, each as usize)?)?;
+    }
+    Ok(hands)
+}
+
 /// `Local`s of a table, dealt to so many threads: each gets every so-manieth id, and so many of them.
 fn dealt<'a, R: Wait>(
     table: &'a ThreadLocal<u64>,
@@ -165,10 +177,7 @@ fn dealt<'a, R: Wait>(
     threads: u32,
     each: u32,
 ) -> Result<Vec<Vec<Local<'a, u64, R>>>, AllocError> {
-    let mut hands = Vec::with_capacity(alloc, threads as usize)?;
-    for _ in 0..threads {
-        hands.push(Vec::with_capacity(alloc, each as usize)?)?;
-    }
+    let mut hands = empty_hands(alloc, threads, each)?;
     for _ in 0..each {
         deal(table, rt, &mut hands)?;
     }
@@ -208,43 +217,80 @@ pub(crate) fn publish_by<R: Clock + Threads + Wait + Sync>(
     })
 }
 
-/// Prints a line for what was measured: its name, its size, and the nanoseconds of one operation.
-fn report<R: Print>(rt: &R, name: &str, size: u32, picoseconds: u128) -> io::Result<()> {
-    println!(rt;
-        "{name} {size} {}.{:03}",
-        picoseconds / 1000,
-        picoseconds % 1000
-    )
+/// A call that so many threads make at once, or a walk over so many values.
+#[derive(Clone, Copy)]
+enum Growing {
+    Call(Work),
+    Publish,
+    Iter,
+    IterMut,
+    IntoIter,
 }
 
-/// Measures the calls that so many threads make at once: the least of so many rounds. Of the mask of
-/// `find_by_two` no compiler knows that it is 1.
-fn run_calls<R: Clock + Threads + Wait + Sync + Print>(
+impl Growing {
+    /// Of the mask of `find_by_two` no compiler knows that it is 1.
+    fn calls(mask: u64) -> [Growing; 4] {
+        let [get_hit, tally, local_and_drop] = Work::all(mask);
+        [
+            Growing::Call(get_hit),
+            Growing::Call(tally),
+            Growing::Call(local_and_drop),
+            Growing::Publish,
+        ]
+    }
+
+    const WALKS: [Growing; 3] = [Growing::Iter, Growing::IterMut, Growing::IntoIter];
+
+    fn name(self) -> &'static str {
+        match self {
+            Growing::Call(work) => work.name(),
+            Growing::Publish => "publish",
+            Growing::Iter => "iter",
+            Growing::IterMut => "iter_mut",
+            Growing::IntoIter => "into_iter",
+        }
+    }
+
+    /// Makes the call by so many threads, or walks over so many values.
+    fn round<R: Clock + Threads + Wait + Sync>(
+        self,
+        rt: &R,
+        alloc: Global,
+        size: u32,
+    ) -> io::Result<Round> {
+        let walks = VALUES / size.max(1);
+        match self {
+            Growing::Call(work) => work.timed(rt, alloc, u64::from(size)),
+            Growing::Publish => publish_by(rt, alloc, size, VALUES),
+            Growing::Iter => iter(rt, alloc, first(size), walks),
+            Growing::IterMut => iter_mut::<u64, R>(rt, alloc, first(size), walks),
+            Growing::IntoIter => into_iter_of_many(rt, alloc, size, walks),
+        }
+    }
+}
+
+/// Measures these at one size, and prints a line for each: its name, the size, and the nanoseconds of
+/// one operation in the round that took the least.
+fn run_all<R: Clock + Threads + Wait + Sync + Print>(
     rt: &R,
     alloc: Global,
     rounds: u64,
-    threads: u32,
+    all: &[Growing],
+    size: u32,
 ) -> io::Result<()> {
-    for work in Work::all(rounds.min(1)) {
-        let time = least_of(rounds, || work.timed(rt, alloc, u64::from(threads)))?;
-        report(rt, work.name(), threads, time)?;
+    for growing in all {
+        let mut least = u128::MAX;
+        for _ in 0..rounds {
+            least = least.min(growing.round(rt, alloc, size)?.picoseconds());
+        }
+        println!(rt;
+            "{} {size} {}.{:03}",
+            growing.name(),
+            least / 1000,
+            least % 1000
+        )?;
     }
-    let time = least_of(rounds, || publish_by(rt, alloc, threads, VALUES))?;
-    report(rt, "publish", threads, time)
-}
-
-/// Measures the walks over so many values.
-fn run_walks<R: Clock + Print>(rt: &R, alloc: Global, rounds: u64, values: u32) -> io::Result<()> {
-    let walks = VALUES / values.max(1);
-    let time = least_of(rounds, || iter(rt, alloc, first(values), walks))?;
-    report(rt, "iter", values, time)?;
-    let time = least_of(
-        rounds,
-        || iter_mut::<u64, R>(rt, alloc, first(values), walks),
-    )?;
-    report(rt, "iter_mut", values, time)?;
-    let time = least_of(rounds, || into_iter_of_many(rt, alloc, values, walks))?;
-    report(rt, "into_iter", values, time)
+    Ok(())
 }
 
 /// Measures each call at each of its sizes.
@@ -254,10 +300,10 @@ pub(crate) fn run<R: Clock + Threads + Wait + Sync + Print>(
     rounds: u64,
 ) -> io::Result<()> {
     for threads in [1u32, 2, 4] {
-        run_calls(rt, alloc, rounds, threads)?;
+        run_all(rt, alloc, rounds, &Growing::calls(rounds.min(1)), threads)?;
     }
     for values in SIZES {
-        run_walks(rt, alloc, rounds, values)?;
+        run_all(rt, alloc, rounds, &Growing::WALKS, values)?;
     }
     Ok(())
 }

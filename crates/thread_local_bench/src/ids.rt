@@ -8,9 +8,9 @@ use std::io;
 use std::time::{Clock, Instant};
 use thread_local_base::ThreadIdManager;
 
-/// Takes the first id and gives it back.
-pub(crate) fn few<R: Clock>(rt: &R, alloc: Global, pairs: u64) -> io::Result<Round> {
-    let mut manager = ThreadIdManager::new(alloc);
+/// Takes the lowest id and gives it back, so often.
+#[inline(always)]
+fn take_and_give<R: Clock>(manager: &mut ThreadIdManager, rt: &R, pairs: u64) -> io::Result<Round> {
     let start = Instant::now(rt)?;
     for _ in 0..pairs {
         if let Ok(id) = manager.alloc() {
@@ -22,6 +22,11 @@ pub(crate) fn few<R: Clock>(rt: &R, alloc: Global, pairs: u64) -> io::Result<Rou
         operations: pairs,
         time,
     })
+}
+
+/// Takes the first id and gives it back.
+pub(crate) fn few<R: Clock>(rt: &R, alloc: Global, pairs: u64) -> io::Result<Round> {
+    take_and_give(&mut ThreadIdManager::new(alloc), rt, pairs)
 }
 
 /// A manager with so many ids held, if it isn't refused one.

@@ -21,16 +21,26 @@ mod workers;
 mod workload;
 
 use sizes::{FEW, MANY, Sizes};
+use std::alloc::Global;
 use std::io;
 use std::io::Print;
-use std::time::Duration;
-use workload::{Alone, Named, Small, Together};
+use std::sync::Wait;
+use std::thread::Threads;
+use std::time::{Clock, Duration};
+use workload::{Alone, Small, Together, Workload};
 
 /// What one round of a workload made: how many operations, and in what time.
 #[derive(Drop)]
 pub struct Round {
     pub operations: u64,
     pub time: Duration,
+}
+
+impl Round {
+    /// The picoseconds of one operation.
+    fn picoseconds(self) -> u128 {
+        self.time.as_nanos().saturating_mul(1000) / u128::from(self.operations.max(1))
+    }
 }
 
 /// The number that a word is.
@@ -55,43 +65,27 @@ impl Asked {
         }
     }
 
-    /// Runs a workload if it is asked for, and prints its line: so many rounds, or once on few ids.
-    fn run<F: Fn(&Sizes) -> io::Result<Round>, R: Print>(
+    /// Runs a workload if it is asked for, and prints its line: so many rounds, of which the least
+    /// time counts, or once on few ids.
+    fn run<R: Clock + Threads + Wait + Sync + Print>(
         &self,
         rt: &R,
-        name: &str,
-        round: F,
-    ) -> io::Result<()>
-        requires { F.IsAlwaysCallable round }
-    {
+        alloc: Global,
+        workload: Workload,
+    ) -> io::Result<()> {
+        let name = workload.name();
         if !self.is_for(name) {
             return Ok(());
         }
-        match self.rounds {
-            None => {
-                round(&FEW)?;
-                println!(rt; "{name}")
-            }
-            Some(rounds) => {
-                let picoseconds = least_of(rounds, || round(&MANY))?;
-                println!(rt; "{name} {}.{:03}", picoseconds / 1000, picoseconds % 1000)
-            }
+        let Some(rounds) = self.rounds else {
+            workload.round(rt, alloc, &FEW)?;
+            return println!(rt; "{name}");
+        };
+        let mut least = u128::MAX;
+        for _ in 0..rounds {
+            least = least.min(workload.round(rt, alloc, &MANY)?.picoseconds());
         }
-    }
-
-    /// Runs those of these workloads that are asked for.
-    fn run_all<W: Named, F: Fn(W, &Sizes) -> io::Result<Round>, R: Print>(
-        &self,
-        rt: &R,
-        all: &[W],
-        round: F,
-    ) -> io::Result<()>
-        requires { F.IsAlwaysCallable round }
-    {
-        for workload in all {
-            self.run(rt, workload.name(), |sizes| round(*workload, sizes))?;
-        }
-        Ok(())
+        println!(rt; "{name} {}.{:03}", least / 1000, least % 1000)
     }
 }
 
@@ -113,32 +107,14 @@ fn main(rt: HostRuntime) -> io::Result<()> {
         name: second,
     };
     let alloc = rt.alloc();
-    asked.run_all(
-        &rt,
-        &Small::ALL,
-        |workload, sizes| workload.round(&rt, alloc, sizes),
-    )?;
-    asked.run_all(
-        &rt,
-        &Alone::ALL,
-        |workload, sizes| workload.round(&rt, alloc, sizes),
-    )?;
-    asked.run_all(
-        &rt,
-        &Together::ALL,
-        |workload, sizes| workload.round(&rt, alloc, sizes),
-    )
-}
-
-/// The picoseconds of one operation, in the round that took the least.
-pub(crate) fn least_of<F: Fn() -> io::Result<Round>>(rounds: u64, round: F) -> io::Result<u128>
-    requires { F.IsAlwaysCallable round }
-{
-    let mut least = u128::MAX;
-    for _ in 0..rounds {
-        let Round { operations, time } = round()?;
-        let picoseconds = time.as_nanos().saturating_mul(1000) / u128::from(operations.max(1));
-        least = least.min(picoseconds);
+    for workload in Small::ALL {
+        asked.run(&rt, alloc, Workload::Small(workload))?;
     }
-    Ok(least)
+    for workload in Alone::ALL {
+        asked.run(&rt, alloc, Workload::Alone(workload))?;
+    }
+    for workload in Together::ALL {
+        asked.run(&rt, alloc, Workload::Together(workload))?;
+    }
+    Ok(())
 }

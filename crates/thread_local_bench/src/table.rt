@@ -18,7 +18,10 @@ pub(crate) fn taken<'a, T, R: Wait>(
     table: &'a ThreadLocal<T>,
     rt: &'a R,
 ) -> Result<Local<'a, T, R>, AllocError> {
-    table.local(rt).map_err(|_| AllocError)
+    match table.local(rt) {
+        Ok(local) => Ok(local),
+        Err(_) => Err(AllocError),
+    }
 }
 
 /// A `Local` of a table, with a count of 0.
@@ -110,6 +113,16 @@ pub(crate) fn get_or_hit<R: Clock + Wait>(
     Ok(counted(table, times, time))
 }
 
+/// Publishes a number with a `Local`.
+#[inline(always)]
+pub(crate) fn publish_number<R: Wait>(
+    local: &mut Local<'_, u64, R>,
+    number: u64,
+) -> Result<(), AllocError> {
+    local.get_or(|| number)?;
+    Ok(())
+}
+
 /// Makes a table and a `Local`, publishes its first value, and drops all.
 pub(crate) fn new_first_drop<R: Clock + Wait>(
     rt: &R,
@@ -120,8 +133,32 @@ pub(crate) fn new_first_drop<R: Clock + Wait>(
     for number in 0..times {
         let table = ThreadLocal::<u64>::new(alloc);
         let mut local = taken(&table, rt)?;
-        local.get_or(|| number)?;
+        publish_number(&mut local, number)?;
     }
+    let time = start.elapsed(rt)?;
+    Ok(Round {
+        operations: times,
+        time,
+    })
+}
+
+/// Takes a `Local` of a table and drops it, so often.
+#[inline(always)]
+pub(crate) fn take_and_drop<T, R: Wait>(
+    table: &ThreadLocal<T>,
+    rt: &R,
+    times: u64,
+) -> Result<(), AllocError> {
+    for _ in 0..times {
+        drop(taken(table, rt)?);
+    }
+    Ok(())
+}
+
+/// The same with one table, timed.
+fn time_locals<R: Clock + Wait>(table: &ThreadLocal<u64>, rt: &R, times: u64) -> io::Result<Round> {
+    let start = Instant::now(rt)?;
+    take_and_drop(table, rt, times)?;
     let time = start.elapsed(rt)?;
     Ok(Round {
         operations: times,
@@ -135,16 +172,7 @@ pub(crate) fn local_and_drop<R: Clock + Wait>(
     alloc: Global,
     times: u64,
 ) -> io::Result<Round> {
-    let table = ThreadLocal::<u64>::new(alloc);
-    let start = Instant::now(rt)?;
-    for _ in 0..times {
-        drop(taken(&table, rt)?);
-    }
-    let time = start.elapsed(rt)?;
-    Ok(Round {
-        operations: times,
-        time,
-    })
+    time_locals(&ThreadLocal::new(alloc), rt, times)
 }
 
 /// `Local`s of a table, as many as given, which are held at once.
@@ -165,7 +193,7 @@ fn all_taken<'a, R: Wait>(
 pub(crate) fn publish_all<R: Wait>(locals: &mut Vec<Local<'_, u64, R>>) -> Result<(), AllocError> {
     let mut number = 0u64;
     for local in locals {
-        local.get_or(|| number)?;
+        publish_number(local, number)?;
         number = number.wrapping_add(1);
     }
     Ok(())
@@ -182,6 +210,16 @@ pub(crate) fn publish_first<R: Wait>(
     publish_all(&mut locals)
 }
 
+/// Publishes a value with each `Local`, and answers how long that took.
+fn time_publishing<R: Clock + Wait>(
+    locals: &mut Vec<Local<'_, u64, R>>,
+    rt: &R,
+) -> io::Result<Duration> {
+    let start = Instant::now(rt)?;
+    publish_all(locals)?;
+    start.elapsed(rt)
+}
+
 /// Publishes a value at each reserved id of a new table, whose `Local`s are taken before, and answers
 /// how long that took.
 fn publish_reserved<R: Clock + Wait>(rt: &R, alloc: Global, values: u32) -> io::Result<Duration> {
@@ -189,9 +227,7 @@ fn publish_reserved<R: Clock + Wait>(rt: &R, alloc: Global, values: u32) -> io::
         return Err(io::Error::from(AllocError));
     };
     let mut locals = all_taken(&table, rt, alloc, values)?;
-    let start = Instant::now(rt)?;
-    publish_all(&mut locals)?;
-    start.elapsed(rt)
+    time_publishing(&mut locals, rt)
 }
 
 /// Publishes a value at each reserved id of so many tables. The `Local`s of a table with a thousand

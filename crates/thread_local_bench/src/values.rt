@@ -3,7 +3,7 @@
 use crate::Round;
 use std::alloc::{AllocError, Global};
 use std::io;
-use std::time::{Clock, Instant};
+use std::time::{Clock, Duration, Instant};
 use thread_local_base::Thread;
 use thread_local_buckets::Buckets;
 
@@ -115,6 +115,20 @@ pub(crate) fn insert<T: Value, R: Clock>(rt: &R, alloc: Global, count: u32) -> i
     })
 }
 
+/// Writes each value of a table `times` times, and answers how long that took.
+#[inline(always)]
+fn write_often<T: Value, R: Clock>(
+    buckets: &mut Buckets<T>,
+    rt: &R,
+    times: u32,
+) -> io::Result<Duration> {
+    let start = Instant::now(rt)?;
+    for _ in 0..times {
+        write_all(buckets);
+    }
+    start.elapsed(rt)
+}
+
 /// Writes each value of a table, `times` times.
 pub(crate) fn iter_mut<T: Value, R: Clock>(
     rt: &R,
@@ -123,11 +137,7 @@ pub(crate) fn iter_mut<T: Value, R: Clock>(
     times: u32,
 ) -> io::Result<Round> {
     let mut buckets = filled::<T>(alloc, ids)?;
-    let start = Instant::now(rt)?;
-    for _ in 0..times {
-        write_all(&mut buckets);
-    }
-    let time = start.elapsed(rt)?;
+    let time = write_often(&mut buckets, rt, times)?;
     Ok(Round {
         operations: u64::from(ids.count) * u64::from(times),
         time,
@@ -146,11 +156,7 @@ pub(crate) fn iter_mut_reserved<R: Clock>(
         return Err(io::Error::from(AllocError));
     };
     fill(&mut buckets, first(4))?;
-    let start = Instant::now(rt)?;
-    for _ in 0..times {
-        write_all(&mut buckets);
-    }
-    let time = start.elapsed(rt)?;
+    let time = write_often(&mut buckets, rt, times)?;
     Ok(Round {
         operations: u64::from(times),
         time,
@@ -175,6 +181,25 @@ pub(crate) fn into_iter<T: Value, R: Clock>(rt: &R, alloc: Global, ids: Ids) -> 
     })
 }
 
+/// So many tables with a value at each of the first ids.
+fn filled_tables(alloc: Global, count: u32, tables: u32) -> Result<Vec<Buckets<u64>>, AllocError> {
+    let mut filled_before = Vec::with_capacity(alloc, tables as usize)?;
+    for _ in 0..tables {
+        filled_before.push(filled::<u64>(alloc, first(count))?)?;
+    }
+    Ok(filled_before)
+}
+
+/// Takes each value out of tables, and answers the sum of all.
+#[inline(always)]
+fn total_of_all(tables: Vec<Buckets<u64>>) -> u64 {
+    let mut sum = 0u64;
+    for buckets in tables {
+        sum = sum.wrapping_add(total(buckets));
+    }
+    sum
+}
+
 /// The same of `tables` tables, which were filled before.
 pub(crate) fn into_iter_of_many<R: Clock>(
     rt: &R,
@@ -182,15 +207,9 @@ pub(crate) fn into_iter_of_many<R: Clock>(
     count: u32,
     tables: u32,
 ) -> io::Result<Round> {
-    let mut filled_before = Vec::with_capacity(alloc, tables as usize)?;
-    for _ in 0..tables {
-        filled_before.push(filled::<u64>(alloc, first(count))?)?;
-    }
-    let mut sum = 0u64;
+    let filled_before = filled_tables(alloc, count, tables)?;
     let start = Instant::now(rt)?;
-    for buckets in filled_before {
-        sum = sum.wrapping_add(total(buckets));
-    }
+    let sum = total_of_all(filled_before);
     let time = start.elapsed(rt)?;
     let wanted = sum_below(count).wrapping_mul(u64::from(tables));
     let operations = u64::from(count) * u64::from(tables);

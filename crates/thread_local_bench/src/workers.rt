@@ -1,14 +1,16 @@
 //! Threads that count in a table, each in a cell of its own, and threads that come and go.
 use crate::Round;
+use crate::growth::{Work, by_threads};
+use crate::table::taken;
 use std::alloc::{AllocError, Global};
 use std::cell::Cell;
 use std::default::MadeWith;
 use std::sync::Wait;
 use std::thread::Threads;
-use std::time::{Clock, Duration, Instant};
+use std::time::{Clock, Instant};
 use std::{io, thread};
 use thread_local::{Padded, ThreadLocal};
-use thread_local_base::{Judge, LocalError};
+use thread_local_base::Judge;
 
 /// Adds a number to a sum. It isn't inlined, so that each sum is stored.
 #[inline(never)]
@@ -24,8 +26,8 @@ pub(crate) fn add<T: Counter, R: Wait>(
     worker: u64,
     workers: u64,
     end: u64,
-) -> Result<(), LocalError> {
-    let mut local = table.local(rt)?;
+) -> Result<(), AllocError> {
+    let mut local = taken(table, rt)?;
     if let Ok(counter) = local.get_or(|| T::zero()) {
         let sum = counter.cell();
         for turn in 0..end / workers.max(1) {
@@ -78,8 +80,8 @@ pub(crate) fn tally_4_threads<R: Clock + Threads + Wait + Sync>(
 }
 
 /// Finds the value of the thread's own `Local` and adds one to it.
-fn come_and_go<R: Wait>(table: &ThreadLocal<Cell<u64>>, rt: &R) -> Result<(), LocalError> {
-    let mut local = table.local(rt)?;
+fn come_and_go<R: Wait>(table: &ThreadLocal<Cell<u64>>, rt: &R) -> Result<(), AllocError> {
+    let mut local = taken(table, rt)?;
     if let Ok(count) = local.get_or(|| Cell::new(0)) {
         count.set(count.get().wrapping_add(1));
     }
@@ -148,12 +150,12 @@ fn count(cell: &Cell<u64>) {
 }
 
 /// Counts in the counter of an id of its own.
-fn count_up<T: Counter, R: Wait>(
+pub(crate) fn count_up<T: Counter, R: Wait>(
     table: &ThreadLocal<T>,
     rt: &R,
     times: u64,
-) -> Result<(), LocalError> {
-    let mut local = table.local(rt)?;
+) -> Result<(), AllocError> {
+    let mut local = taken(table, rt)?;
     if let Ok(counter) = local.get_or(|| T::zero()) {
         // Four counts in each turn, so that where the loop lies in memory matters less.
         for _ in 0..times / 4 {
@@ -166,40 +168,17 @@ fn count_up<T: Counter, R: Wait>(
     Ok(())
 }
 
-/// Four threads count, each in its own counter. Answers how long it took, or None where a thread was
-/// refused.
-fn count_by_four<T, R>(table: &ThreadLocal<T>, rt: &R, times: u64) -> io::Result<Option<Duration>>
+/// Four threads count, each in its own counter, while ids 0 to 2 are held, so that the slots of the
+/// four are neighbours.
+fn count_side_by_side<T, R>(table: &ThreadLocal<T>, rt: &R, times: u64) -> io::Result<Round>
 where
     T: Counter + Send,
     R: Clock + Threads + Wait + Sync,
 {
-    let start = Instant::now(rt)?;
-    let started = thread::scope(thread::scope_env(), rt, |scope| {
-        for _ in 0..4 {
-            if scope.spawn(move || count_up(table, rt, times)).is_err() {
-                return false;
-            }
-        }
-        true
-    });
-    let time = start.elapsed(rt)?;
-    Ok(started.then_some(time))
-}
-
-/// The same while ids 0 to 2 are held, so that the slots of the four are neighbours.
-fn count_side_by_side<T, R>(
-    table: &ThreadLocal<T>,
-    rt: &R,
-    times: u64,
-) -> io::Result<Option<Duration>>
-where
-    T: Counter + Send,
-    R: Clock + Threads + Wait + Sync,
-{
-    let _first = table.local(rt).map_err(|_| AllocError)?;
-    let _second = table.local(rt).map_err(|_| AllocError)?;
-    let _third = table.local(rt).map_err(|_| AllocError)?;
-    count_by_four(table, rt, times)
+    let _first = taken(table, rt)?;
+    let _second = taken(table, rt)?;
+    let _third = taken(table, rt)?;
+    by_threads(table, rt, Work::Count(times), 4)
 }
 
 /// Four threads count, each in its own counter. An operation is a count of each.
@@ -209,16 +188,13 @@ where
     R: Clock + Threads + Wait + Sync,
 {
     let table = ThreadLocal::<T>::made_with(alloc);
-    let time = count_side_by_side(&table, rt, times)?;
+    let round = count_side_by_side(&table, rt, times)?;
     let counted = table.into_iter().fold(
         0u64,
         |sum, counter| sum.wrapping_add(counter.cell().get()),
     );
-    match time {
-        Some(time) if counted == times.wrapping_mul(4) => Ok(Round {
-            operations: times,
-            time,
-        }),
-        _ => Err(io::Error::from(AllocError)),
+    if counted != times.wrapping_mul(4) {
+        return Err(io::Error::from(AllocError));
     }
+    Ok(round)
 }

@@ -17,9 +17,36 @@ use std::thread::Threads;
 use std::time::Clock;
 use thread_local::Padded;
 
-/// What has a name, by which it is asked for and printed.
-pub(crate) trait Named: Copy {
-    fn name(self) -> &'static str;
+/// What is timed, with a name by which it is asked for and printed.
+#[derive(Clone, Copy)]
+pub(crate) enum Workload {
+    Small(Small),
+    Alone(Alone),
+    Together(Together),
+}
+
+impl Workload {
+    pub(crate) fn name(self) -> &'static str {
+        match self {
+            Workload::Small(workload) => workload.name(),
+            Workload::Alone(workload) => workload.name(),
+            Workload::Together(workload) => workload.name(),
+        }
+    }
+
+    /// Runs the workload once, of those sizes.
+    pub(crate) fn round<R: Clock + Threads + Wait + Sync>(
+        self,
+        rt: &R,
+        alloc: Global,
+        sizes: &Sizes,
+    ) -> io::Result<Round> {
+        match self {
+            Workload::Small(workload) => workload.round(rt, alloc, sizes),
+            Workload::Alone(workload) => workload.round(rt, alloc, sizes),
+            Workload::Together(workload) => workload.round(rt, alloc, sizes),
+        }
+    }
 }
 
 /// Workloads on tables that have as many values as a program has threads.
@@ -57,8 +84,25 @@ impl Small {
         Small::Pool4,
     ];
 
-    /// Runs the workload once, of those sizes.
-    pub(crate) fn round<R: Clock + Threads + Wait + Sync>(
+    fn name(self) -> &'static str {
+        match self {
+            Small::FirstInFresh => "first_in_fresh",
+            Small::NewFirstDrop => "new_first_drop",
+            Small::Iter8 => "iter_8",
+            Small::IterMut8 => "iter_mut_8",
+            Small::IntoIter8 => "into_iter_8",
+            Small::Drain8 => "drain_8",
+            Small::Clear8 => "clear_8",
+            Small::Len8 => "len_8",
+            Small::Iter64 => "iter_64",
+            Small::IterMut64 => "iter_mut_64",
+            Small::Pool1 => "pool_1",
+            Small::Pool2 => "pool_2",
+            Small::Pool4 => "pool_4",
+        }
+    }
+
+    fn round<R: Clock + Threads + Wait + Sync>(
         self,
         rt: &R,
         alloc: Global,
@@ -79,26 +123,6 @@ impl Small {
             Small::Pool1 => pools::pool(rt, alloc, 1, sizes.uses),
             Small::Pool2 => pools::pool(rt, alloc, 2, sizes.uses / 4),
             Small::Pool4 => pools::pool(rt, alloc, 4, sizes.uses / 16),
-        }
-    }
-}
-
-impl Named for Small {
-    fn name(self) -> &'static str {
-        match self {
-            Small::FirstInFresh => "first_in_fresh",
-            Small::NewFirstDrop => "new_first_drop",
-            Small::Iter8 => "iter_8",
-            Small::IterMut8 => "iter_mut_8",
-            Small::IntoIter8 => "into_iter_8",
-            Small::Drain8 => "drain_8",
-            Small::Clear8 => "clear_8",
-            Small::Len8 => "len_8",
-            Small::Iter64 => "iter_64",
-            Small::IterMut64 => "iter_mut_64",
-            Small::Pool1 => "pool_1",
-            Small::Pool2 => "pool_2",
-            Small::Pool4 => "pool_4",
         }
     }
 }
@@ -162,8 +186,37 @@ impl Alone {
         Alone::IdsHighest,
     ];
 
-    /// Runs the workload once, of those sizes.
-    pub(crate) fn round<R: Clock + Threads + Wait + Sync>(
+    fn name(self) -> &'static str {
+        match self {
+            Alone::GetHit => "get_hit",
+            Alone::GetOrHit => "get_or_hit",
+            Alone::LocalAndDrop => "local_and_drop",
+            Alone::Publish1023 => "publish_1023",
+            Alone::Iter1023 => "iter_1023",
+            Alone::IterMut1023 => "iter_mut_1023",
+            Alone::IntoIter1023 => "into_iter_1023",
+            Alone::Clear1023 => "clear_1023",
+            Alone::Publish => "publish",
+            Alone::Insert => "insert",
+            Alone::Iter => "iter",
+            Alone::IterMut => "iter_mut",
+            Alone::IntoIter => "into_iter",
+            Alone::Clear => "clear",
+            Alone::Insert64Bytes => "insert_64_bytes",
+            Alone::IterMut64Bytes => "iter_mut_64_bytes",
+            Alone::IntoIter64Bytes => "into_iter_64_bytes",
+            Alone::IterSparse => "iter_sparse",
+            Alone::IterMutSparse => "iter_mut_sparse",
+            Alone::IntoIterSparse => "into_iter_sparse",
+            Alone::IterReserved => "iter_reserved",
+            Alone::IterMutReserved => "iter_mut_reserved",
+            Alone::IdsFew => "ids_few",
+            Alone::IdsMany => "ids_many",
+            Alone::IdsHighest => "ids_highest",
+        }
+    }
+
+    fn round<R: Clock + Threads + Wait + Sync>(
         self,
         rt: &R,
         alloc: Global,
@@ -205,38 +258,6 @@ impl Alone {
     }
 }
 
-impl Named for Alone {
-    fn name(self) -> &'static str {
-        match self {
-            Alone::GetHit => "get_hit",
-            Alone::GetOrHit => "get_or_hit",
-            Alone::LocalAndDrop => "local_and_drop",
-            Alone::Publish1023 => "publish_1023",
-            Alone::Iter1023 => "iter_1023",
-            Alone::IterMut1023 => "iter_mut_1023",
-            Alone::IntoIter1023 => "into_iter_1023",
-            Alone::Clear1023 => "clear_1023",
-            Alone::Publish => "publish",
-            Alone::Insert => "insert",
-            Alone::Iter => "iter",
-            Alone::IterMut => "iter_mut",
-            Alone::IntoIter => "into_iter",
-            Alone::Clear => "clear",
-            Alone::Insert64Bytes => "insert_64_bytes",
-            Alone::IterMut64Bytes => "iter_mut_64_bytes",
-            Alone::IntoIter64Bytes => "into_iter_64_bytes",
-            Alone::IterSparse => "iter_sparse",
-            Alone::IterMutSparse => "iter_mut_sparse",
-            Alone::IntoIterSparse => "into_iter_sparse",
-            Alone::IterReserved => "iter_reserved",
-            Alone::IterMutReserved => "iter_mut_reserved",
-            Alone::IdsFew => "ids_few",
-            Alone::IdsMany => "ids_many",
-            Alone::IdsHighest => "ids_highest",
-        }
-    }
-}
-
 /// Workloads of several threads at once, or one after another.
 #[derive(Clone, Copy)]
 pub(crate) enum Together {
@@ -262,8 +283,20 @@ impl Together {
         Together::ThreadComeAndGo,
     ];
 
-    /// Runs the workload once, of those sizes.
-    pub(crate) fn round<R: Clock + Threads + Wait + Sync>(
+    fn name(self) -> &'static str {
+        match self {
+            Together::FirstFourThreads => "first_4_threads",
+            Together::PublishFourThreads => "publish_4_threads",
+            Together::LocalAndDropFourThreads => "local_and_drop_4_threads",
+            Together::OwnValueFourThreads => "own_value_4_threads",
+            Together::TallyFourThreads => "tally_4_threads",
+            Together::CountersFourThreads => "counters_4_threads",
+            Together::CountersFourThreadsPadded => "counters_4_threads_padded",
+            Together::ThreadComeAndGo => "thread_come_and_go",
+        }
+    }
+
+    fn round<R: Clock + Threads + Wait + Sync>(
         self,
         rt: &R,
         alloc: Global,
@@ -284,21 +317,6 @@ impl Together {
                 workers::counters_4_threads::<Padded<Cell<u64>>, R>(rt, alloc, sizes.counts)
             }
             Together::ThreadComeAndGo => workers::thread_come_and_go(rt, alloc, sizes.threads),
-        }
-    }
-}
-
-impl Named for Together {
-    fn name(self) -> &'static str {
-        match self {
-            Together::FirstFourThreads => "first_4_threads",
-            Together::PublishFourThreads => "publish_4_threads",
-            Together::LocalAndDropFourThreads => "local_and_drop_4_threads",
-            Together::OwnValueFourThreads => "own_value_4_threads",
-            Together::TallyFourThreads => "tally_4_threads",
-            Together::CountersFourThreads => "counters_4_threads",
-            Together::CountersFourThreadsPadded => "counters_4_threads_padded",
-            Together::ThreadComeAndGo => "thread_come_and_go",
         }
     }
 }
