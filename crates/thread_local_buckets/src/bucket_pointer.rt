@@ -17,7 +17,7 @@ mod lends;
 /// A bucket's pointer: null, or to a block of slots, with the right to free it. It has no slots
 /// where it is null. No call takes memory.
 pub struct BucketPointer<T> {
-    pub at: *mut Chunk<T>,
+    pub(crate) at: *mut Chunk<T>,
     pub ghost slots: { List (Option T) } by { coded_list (coded_option T.code) },
 }
 

@@ -36,7 +36,7 @@ impl Move for Announcements {
 /// Shows to proofs that a bucket is announced. It has no bytes.
 #[derive(Drop)]
 pub struct Announced {
-    pub marker: PhantomData<()>,
+    marker: PhantomData<()>,
     pub ghost by: { Announcing } by { announcing_coded },
     pub ghost bucket: { ℕ },
 }

@@ -15,7 +15,7 @@ use thread_local_ids::Token;
 #[derive(Drop)]
 pub struct Seen<'a, T> {
     /// The address of the value of the chunk's first slot.
-    pub values: *const T,
+    pub(crate) values: *const T,
     pub flags: u64,
     pub marker: PhantomData<&'a T>,
     pub ghost of: { BucketView } by { bucket_view_coded },
