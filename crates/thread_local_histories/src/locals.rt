@@ -6,6 +6,7 @@ use std::alloc::AllocError;
 use std::mem::forget;
 use std::sync::Wait;
 use thread_local::ThreadLocal;
+use thread_local::iter::{Entries, Iter, Tokens};
 use thread_local::local::{Local, SetError, TryError};
 use thread_local::table::Token;
 use thread_local::thread_id::LocalError;
@@ -44,6 +45,20 @@ impl<'a> Told<'a> {
     }
 }
 
+/// Takes a `Local`, and answers its id or why there is none.
+fn local_or_none<'a, R: Wait>(
+    table: &'a ThreadLocal<u64>,
+    rt: &'a R,
+) -> (Answer, Option<Local<'a, u64, R>>)
+    ensures { IfSome result.1 (λ local. local.sharing ≡ table.now.sharing) }
+{
+    match table.local(rt) {
+        Ok(local) => (Answer::Number(local.id() as u64), Some(local)),
+        Err(LocalError::Memory(_)) => (Answer::Memory, None),
+        Err(LocalError::Exhausted) => (Answer::Exhausted, None),
+    }
+}
+
 /// Takes a `Local`, or records why there is none.
 fn taken<'a, R: Wait>(
     table: &'a ThreadLocal<u64>,
@@ -54,20 +69,54 @@ fn taken<'a, R: Wait>(
     ensures { IfOk result (λ taken. IfSome taken (λ local. local.sharing ≡ table.now.sharing)) }
 {
     let before = record.begin();
-    match table.local(rt) {
-        Ok(local) => {
-            let id = Answer::Number(local.id() as u64);
-            record.ended(before, "local", Some(number), None, id)?;
-            Ok(Some(local))
-        }
-        Err(LocalError::Memory(_)) => {
-            record.ended(before, "local", Some(number), None, Answer::Memory)?;
-            Ok(None)
-        }
-        Err(LocalError::Exhausted) => {
-            record.ended(before, "local", Some(number), None, Answer::Exhausted)?;
-            Ok(None)
-        }
+    let (answer, local) = local_or_none(table, rt);
+    record.ended(before, "local", Some(number), None, answer)?;
+    Ok(local)
+}
+
+/// Publishes a value. Answers the id or why it isn't published, and a token where it is.
+fn published<R: Wait>(local: &mut Local<'_, u64, R>, value: u64) -> (Answer, Option<Token<u64>>)
+    ensures told { IfSome result.1 (λ token. token.sharing ≡ local.old.sharing) }
+    ensures same { local.new.sharing ≡ local.old.sharing }
+{
+    match local.publish(value) {
+        Ok(token) => (Answer::Number(token.id() as u64), Some(token)),
+        Err(SetError::Occupied(back)) => (Answer::Back(back), None),
+        Err(SetError::Memory(_)) => (Answer::Memory, None),
+    }
+}
+
+/// What `get_or` answers.
+fn got_or_made<R: Wait>(local: &mut Local<'_, u64, R>, value: u64) -> Answer {
+    match local.get_or(|| value) {
+        Ok(there) => Answer::Number(*there),
+        Err(_) => Answer::Memory,
+    }
+}
+
+/// What `get_or_try` answers, with a closure that makes a value or fails.
+fn tried<R: Wait>(local: &mut Local<'_, u64, R>, made: Result<u64, u64>) -> Answer {
+    match local.get_or_try(|| made) {
+        Ok(there) => Answer::Number(*there),
+        Err(TryError::Memory(_)) => Answer::Memory,
+        Err(TryError::Create(error)) => Answer::Error(error),
+    }
+}
+
+/// What `set` answers.
+fn set<R: Wait>(local: &mut Local<'_, u64, R>, value: u64) -> Answer {
+    match local.set(value) {
+        Ok(()) => Answer::Nothing,
+        Err(SetError::Occupied(back)) => Answer::Back(back),
+        Err(SetError::Memory(_)) => Answer::Memory,
+    }
+}
+
+/// The id of the token that a `Local` tells.
+fn token_of<R: Wait>(local: &Local<'_, u64, R>) -> Answer {
+    match local.token() {
+        Some(token) => Answer::Number(token.id() as u64),
+        None => Answer::Nothing,
     }
 }
 
@@ -81,26 +130,11 @@ fn publish<R: Wait>(
 {
     let value = record.fresh();
     let before = record.begin();
-    match local.publish(value) {
-        Ok(token) => {
-            let id = Answer::Number(token.id() as u64);
-            record.ended(before, "publish", Some(number), Some(value), id)?;
-            Ok(Some(token))
-        }
-        Err(SetError::Occupied(back)) => {
-            record.ended(
-                before,
-                "publish",
-                Some(number),
-                Some(value),
-                Answer::Back(back),
-            )?;
-            Ok(local.token())
-        }
-        Err(SetError::Memory(_)) => {
-            record.ended(before, "publish", Some(number), Some(value), Answer::Memory)?;
-            Ok(None)
-        }
+    let (answer, told) = published(local, value);
+    record.ended(before, "publish", Some(number), Some(value), answer)?;
+    match answer {
+        Answer::Back(_) => Ok(local.token()),
+        _ => Ok(told),
     }
 }
 
@@ -161,20 +195,14 @@ impl<'a, R: Wait> Held<'a, R> {
 
     pub(crate) fn token(&self, record: &mut Record<'_>) -> Result<(), AllocError> {
         let before = record.begin();
-        let answer = match self.local.token() {
-            Some(token) => Answer::Number(token.id() as u64),
-            None => Answer::Nothing,
-        };
+        let answer = token_of(&self.local);
         record.ended(before, "token", Some(self.number), None, answer)
     }
 
     pub(crate) fn get_or(&mut self, record: &mut Record<'_>) -> Result<(), AllocError> {
         let value = record.fresh();
         let before = record.begin();
-        let answer = match self.local.get_or(|| value) {
-            Ok(there) => Answer::Number(*there),
-            Err(_) => Answer::Memory,
-        };
+        let answer = got_or_made(&mut self.local, value);
         record.ended(before, "get_or", Some(self.number), Some(value), answer)
     }
 
@@ -182,11 +210,7 @@ impl<'a, R: Wait> Held<'a, R> {
     pub(crate) fn get_or_try(&mut self, record: &mut Record<'_>) -> Result<(), AllocError> {
         let value = record.fresh();
         let before = record.begin();
-        let answer = match self.local.get_or_try(|| -> Result<u64, u64> { Ok(value) }) {
-            Ok(there) => Answer::Number(*there),
-            Err(TryError::Memory(_)) => Answer::Memory,
-            Err(TryError::Create(error)) => Answer::Error(error),
-        };
+        let answer = tried(&mut self.local, Ok(value));
         record.ended(before, "get_or_try", Some(self.number), Some(value), answer)
     }
 
@@ -194,22 +218,14 @@ impl<'a, R: Wait> Held<'a, R> {
     pub(crate) fn fail(&mut self, record: &mut Record<'_>) -> Result<(), AllocError> {
         let error = record.fresh();
         let before = record.begin();
-        let answer = match self.local.get_or_try(|| -> Result<u64, u64> { Err(error) }) {
-            Ok(there) => Answer::Number(*there),
-            Err(TryError::Memory(_)) => Answer::Memory,
-            Err(TryError::Create(error)) => Answer::Error(error),
-        };
+        let answer = tried(&mut self.local, Err(error));
         record.ended(before, "fail", Some(self.number), Some(error), answer)
     }
 
     pub(crate) fn set(&mut self, record: &mut Record<'_>) -> Result<(), AllocError> {
         let value = record.fresh();
         let before = record.begin();
-        let answer = match self.local.set(value) {
-            Ok(()) => Answer::Nothing,
-            Err(SetError::Occupied(back)) => Answer::Back(back),
-            Err(SetError::Memory(_)) => Answer::Memory,
-        };
+        let answer = set(&mut self.local, value);
         record.ended(before, "set", Some(self.number), Some(value), answer)
     }
 
@@ -221,20 +237,60 @@ impl<'a, R: Wait> Held<'a, R> {
 
     /// A walk that gives up to `most` values, and ends there.
     pub(crate) fn walk(&self, most: usize, record: &mut Record<'_>) -> Result<(), AllocError> {
-        let mut items = Vec::with_capacity(record.alloc, ROOM)?;
+        let items = Vec::with_capacity(record.alloc, ROOM)?;
         let before = record.begin();
-        for value in self.local.iter() {
-            items.push(Item::value(*value))?;
-            if items.len() == most {
-                break;
-            }
-        }
+        let items = with_values(items, self.local.iter(), most)?;
         walked("walk", Some(self.number), most, before, items, record)
     }
 }
 
 /// How many values a walk's memory has room for at first.
 const ROOM: usize = 32;
+
+/// Adds up to `most` values of a walk.
+fn with_values(
+    mut items: Vec<Item>,
+    walk: Iter<'_, u64>,
+    most: usize,
+) -> Result<Vec<Item>, AllocError> {
+    for value in walk {
+        items.push(Item::value(*value))?;
+        if items.len() == most {
+            break;
+        }
+    }
+    Ok(items)
+}
+
+/// Adds up to `most` values with their ids.
+fn with_entries(
+    mut items: Vec<Item>,
+    walk: Entries<'_, u64>,
+    most: usize,
+) -> Result<Vec<Item>, AllocError> {
+    for (id, value) in walk {
+        items.push(Item::entry(id, *value))?;
+        if items.len() == most {
+            break;
+        }
+    }
+    Ok(items)
+}
+
+/// Adds up to `most` values with the ids of their tokens.
+fn with_tokens(
+    mut items: Vec<Item>,
+    walk: Tokens<'_, u64>,
+    most: usize,
+) -> Result<Vec<Item>, AllocError> {
+    for (token, value) in walk {
+        items.push(Item::entry(token.id(), *value))?;
+        if items.len() == most {
+            break;
+        }
+    }
+    Ok(items)
+}
 
 /// Keeps a walk that gave up to `most` values.
 fn walked(
@@ -261,14 +317,9 @@ pub(crate) fn walk(
     most: usize,
     record: &mut Record<'_>,
 ) -> Result<(), AllocError> {
-    let mut items = Vec::with_capacity(record.alloc, ROOM)?;
+    let items = Vec::with_capacity(record.alloc, ROOM)?;
     let before = record.begin();
-    for value in table.iter() {
-        items.push(Item::value(*value))?;
-        if items.len() == most {
-            break;
-        }
-    }
+    let items = with_values(items, table.iter(), most)?;
     walked("walk", None, most, before, items, record)
 }
 
@@ -278,14 +329,9 @@ pub(crate) fn entries(
     most: usize,
     record: &mut Record<'_>,
 ) -> Result<(), AllocError> {
-    let mut items = Vec::with_capacity(record.alloc, ROOM)?;
+    let items = Vec::with_capacity(record.alloc, ROOM)?;
     let before = record.begin();
-    for (id, value) in table.entries() {
-        items.push(Item::entry(id, *value))?;
-        if items.len() == most {
-            break;
-        }
-    }
+    let items = with_entries(items, table.entries(), most)?;
     walked("entries", None, most, before, items, record)
 }
 
@@ -296,13 +342,8 @@ pub(crate) fn tokens(
     most: usize,
     record: &mut Record<'_>,
 ) -> Result<(), AllocError> {
-    let mut items = Vec::with_capacity(record.alloc, ROOM)?;
+    let items = Vec::with_capacity(record.alloc, ROOM)?;
     let before = record.begin();
-    for (token, value) in table.tokens() {
-        items.push(Item::entry(token.id(), *value))?;
-        if items.len() == most {
-            break;
-        }
-    }
+    let items = with_tokens(items, table.tokens(), most)?;
     walked("tokens", None, most, before, items, record)
 }

@@ -165,6 +165,27 @@ fn live<R: Threads + Wait + Sync, W: Write>(
     owner.write(out)
 }
 
+/// A round of threads that share a pool, then the owner's calls.
+fn play_pool<R: Threads + Wait + Sync, W: Write>(
+    rt: &R,
+    clock: &AtomicU64,
+    pool: &mut Pool<u64>,
+    plan: Plan,
+    step: u64,
+    owner: &mut Record<'_>,
+    out: &mut W,
+) -> io::Result<()> {
+    let gate = Gate::new(plan.threads);
+    let Some(records) = pools::round(pool, rt, owner.alloc, clock, &gate, plan) else {
+        return Err(AllocError.into());
+    };
+    for record in records {
+        record.write(out)?;
+    }
+    pools::between(pool, step, owner)?;
+    Ok(())
+}
+
 /// The rounds of one pool.
 fn live_pool<R: Threads + Wait + Sync, W: Write>(
     rt: &R,
@@ -182,14 +203,7 @@ fn live_pool<R: Threads + Wait + Sync, W: Write>(
         let plan = asked.plan(past, LOCALS);
         writeln!(out, "round")?;
         let mut owner = Record::new(alloc, clock, asked.threads, asked.numbers(past));
-        let gate = Gate::new(plan.threads);
-        let Some(records) = pools::round(&pool, rt, alloc, clock, &gate, plan) else {
-            return Err(AllocError.into());
-        };
-        for record in records {
-            record.write(out)?;
-        }
-        pools::between(&mut pool, step, &mut owner)?;
+        play_pool(rt, clock, &mut pool, plan, step, &mut owner, out)?;
         owner.write(out)?;
     }
     let first = asked.numbers(before.wrapping_add(ROUNDS));

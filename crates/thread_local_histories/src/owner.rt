@@ -4,6 +4,7 @@ ghost use Rattle.std.specs.Prelude.{OnOk, IsSome};
 use crate::history::{Answer, Call, Item, Record};
 use std::alloc::AllocError;
 use thread_local::ThreadLocal;
+use thread_local::iter::{EntriesMut, IterMut};
 
 /// Keeps a walk of an owner that has just ended.
 fn walked(
@@ -19,17 +20,41 @@ fn walked(
     record.keep(before, after, Call::walk(name, None, asked, answer, items))
 }
 
+/// Writes another value in the place of each that a walk lends.
+fn write_each(
+    walk: IterMut<'_, u64>,
+    items: &mut Vec<Item>,
+    record: &mut Record<'_>,
+) -> Result<(), AllocError> {
+    for value in walk {
+        let written = record.fresh();
+        items.push(Item::written(None, *value, written))?;
+        *value = written;
+    }
+    Ok(())
+}
+
+/// The same by a walk that tells ids.
+fn write_each_entry(
+    walk: EntriesMut<'_, u64>,
+    items: &mut Vec<Item>,
+    record: &mut Record<'_>,
+) -> Result<(), AllocError> {
+    for (id, value) in walk {
+        let written = record.fresh();
+        items.push(Item::written(Some(id as u64), *value, written))?;
+        *value = written;
+    }
+    Ok(())
+}
+
 /// Writes another value in the place of each.
 fn iter_mut(table: &mut ThreadLocal<u64>, record: &mut Record<'_>) -> Result<(), AllocError> {
     let mut items = Vec::new(record.alloc);
     let before = record.begin();
     let walk = table.iter_mut();
     let length = walk.len();
-    for value in walk {
-        let written = record.fresh();
-        items.push(Item::written(None, *value, written))?;
-        *value = written;
-    }
+    write_each(walk, &mut items, record)?;
     walked(record, "iter_mut", before, None, length, items)
 }
 
@@ -39,11 +64,7 @@ fn entries_mut(table: &mut ThreadLocal<u64>, record: &mut Record<'_>) -> Result<
     let before = record.begin();
     let walk = table.entries_mut();
     let length = walk.len();
-    for (id, value) in walk {
-        let written = record.fresh();
-        items.push(Item::written(Some(id as u64), *value, written))?;
-        *value = written;
-    }
+    write_each_entry(walk, &mut items, record)?;
     walked(record, "entries_mut", before, None, length, items)
 }
 
@@ -146,27 +167,39 @@ pub(crate) fn between(
     slots(table, record)
 }
 
+/// Moves the values out with their ids.
+fn into_buckets(table: ThreadLocal<u64>, record: &mut Record<'_>) -> Result<(), AllocError> {
+    let mut items = Vec::new(record.alloc);
+    let before = record.begin();
+    let walk = table.into_buckets().into_entries();
+    let length = walk.len();
+    for (id, value) in walk {
+        items.push(Item::entry(id, value))?;
+    }
+    walked(record, "into_buckets", before, None, length, items)
+}
+
+/// Moves the values out.
+fn into_iter(table: ThreadLocal<u64>, record: &mut Record<'_>) -> Result<(), AllocError> {
+    let mut items = Vec::new(record.alloc);
+    let before = record.begin();
+    let walk = table.into_iter();
+    let length = walk.len();
+    for value in walk {
+        items.push(Item::value(value))?;
+    }
+    walked(record, "into_iter", before, None, length, items)
+}
+
 /// Ends a table: its values are moved out.
 pub(crate) fn end(
     table: ThreadLocal<u64>,
     with_ids: bool,
     record: &mut Record<'_>,
 ) -> Result<(), AllocError> {
-    let mut items = Vec::new(record.alloc);
-    let before = record.begin();
     if with_ids {
-        let walk = table.into_buckets().into_entries();
-        let length = walk.len();
-        for (id, value) in walk {
-            items.push(Item::entry(id, value))?;
-        }
-        walked(record, "into_buckets", before, None, length, items)
+        into_buckets(table, record)
     } else {
-        let walk = table.into_iter();
-        let length = walk.len();
-        for value in walk {
-            items.push(Item::value(value))?;
-        }
-        walked(record, "into_iter", before, None, length, items)
+        into_iter(table, record)
     }
 }

@@ -80,6 +80,36 @@ struct Room<'a, R: Wait> {
     loans: usize,
 }
 
+impl<'a, R: Wait> Room<'a, R> {
+    /// Borrows a value.
+    fn take(&self, hand: &mut Vec<Loan<'a, R>>, record: &mut Record<'_>) -> Result<(), AllocError> {
+        if let Some(loan) = Loan::take(self.pool, self.rt, record)? {
+            hand.push(loan)?;
+        }
+        Ok(())
+    }
+}
+
+/// Makes a call of the last loan at hand.
+fn use_last<R: Wait>(
+    hand: &mut Vec<Loan<'_, R>>,
+    choice: u64,
+    record: &mut Record<'_>,
+) -> Result<(), AllocError> {
+    let Some(mut loan) = hand.pop() else {
+        return Ok(());
+    };
+    match choice {
+        0 | 8 => return loan.keep(record),
+        9 | 10 => {
+            loan.write(record)?;
+            hand.push(loan)?;
+        }
+        _ => return loan.put(record),
+    }
+    Ok(())
+}
+
 impl<'a, R: Wait> Moves for Room<'a, R> {
     /// At the end it puts back what it has.
     fn moves(&self, record: &mut Record<'_>, count: usize, seed: u64) -> Result<(), AllocError> {
@@ -92,18 +122,9 @@ impl<'a, R: Wait> Moves for Room<'a, R> {
             state = stirred(state);
             let choice = (state >> 33) % 16;
             if choice < 8 && hand.len() < self.loans {
-                if let Some(loan) = Loan::take(self.pool, self.rt, record)? {
-                    hand.push(loan)?;
-                }
-            } else if let Some(mut loan) = hand.pop() {
-                match choice {
-                    0 | 8 => loan.keep(record)?,
-                    9 | 10 => {
-                        loan.write(record)?;
-                        hand.push(loan)?;
-                    }
-                    _ => loan.put(record)?,
-                }
+                self.take(&mut hand, record)?;
+            } else {
+                use_last(&mut hand, choice, record)?;
             }
         }
         for loan in hand {
