@@ -156,6 +156,7 @@ pub(crate) fn take_and_drop<T, R: Wait>(
 }
 
 /// The same with one table, timed.
+#[inline(always)]
 fn time_locals<R: Clock + Wait>(table: &ThreadLocal<u64>, rt: &R, times: u64) -> io::Result<Round> {
     let start = Instant::now(rt)?;
     take_and_drop(table, rt, times)?;
