@@ -20,7 +20,7 @@ mod values;
 mod workers;
 mod workload;
 
-use sizes::{FEW, MANY, Sizes};
+use sizes::{FEW, MANY};
 use std::alloc::Global;
 use std::io;
 use std::io::Print;
