@@ -1,5 +1,5 @@
 #!/usr/bin/env python3
-"""Runs random schedules of the table's model and checks every clause of the theorems after every event.
+"""Runs random schedules of the table's model and checks the theorems' clauses after each event, or at a schedule's end.
 
     tools/schedules.py                      a clause that fails is printed with its schedule; under five minutes
     tools/schedules.py --short              the same on fewer schedules; under 20 seconds

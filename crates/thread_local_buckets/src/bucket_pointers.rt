@@ -28,7 +28,7 @@ mod placing;
 pub struct BucketPointers<T> {
     pointers: PointerArray<T>,
     alloc: Global,
-    /// The announced buckets: each that holds a value, and the first seven.
+    /// The announced buckets, among them each that holds a value and the first seven.
     announced: BucketBits,
     /// The buckets that were made here. Each other one that stands is announced.
     made: BucketBits,

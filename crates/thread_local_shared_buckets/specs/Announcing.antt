@@ -1,5 +1,5 @@
--- The word by which threads announce buckets before they install them, and what is known for good of
--- each bucket that is announced.
+-- The word by which threads announce buckets, and what is known for good of each bucket that is
+-- announced.
 --
 -- The buckets that were announced when a sharing began stay so, and this is all that is known of them.
 -- For each other bucket there is a right, with one holder, to tell that it is announced. It lies with

@@ -1,5 +1,4 @@
-//! The word by which threads announce buckets before they install them, and what shows that a bucket
-//! is announced.
+//! The word by which threads announce buckets, and what shows that a bucket is announced.
 ghost use Rattle.std.specs.Prelude.{◌≡◌, ℕ, ◌*◌, ◌%◌, ◌^◌, ◌<◌, true, false};
 ghost use Rattle.thread_local_base.specs.Bits.{is_set};
 ghost use Rattle.thread_local_base.specs.SharedWord.{word_shares, word_owns};
@@ -15,8 +14,8 @@ use thread_local_base::BUCKETS;
 use thread_local_ids::Told;
 
 /// The announced buckets, a bit each. While threads share the word no bit is unset. A contract sees
-/// the name under which proofs know which buckets are announced, and the word as it was when the
-/// sharing began.
+/// the name under which proofs know which buckets are announced, the word as it was when the sharing
+/// began, and the buckets that an owner had made then.
 pub struct Announcements {
     word: u64,
 }

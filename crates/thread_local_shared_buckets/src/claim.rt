@@ -31,7 +31,7 @@ use thread_local_ids::{HeldId, Page, Right, Token};
 pub struct Claim<'a, T> {
     slot: ClaimedSlot<'a, T>,
     id: usize,
-    /// The word in which the claim announces its bucket before it installs one.
+    /// The word in which the claim announces its bucket.
     announcements: &'a Announcements,
     right: Right,
 }
