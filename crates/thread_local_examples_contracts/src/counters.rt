@@ -4,22 +4,20 @@ ghost use Rattle.std.specs.Prelude.{◌≡◌, ◌+◌, ◌^◌, ◌<◌};
 
 use std::alloc::Global;
 use std::cell::Cell;
+use std::default::MadeWith;
 use std::sync::Wait;
-use thread_local::table::Judge;
 use thread_local::thread_id::LocalError;
 use thread_local::{Padded, ThreadLocal};
 use thread_local_pool::Pooled;
 
 /// A table of counters, where threads count often and at the same time.
 pub fn padded(alloc: Global) -> ThreadLocal<Padded<Cell<u64>>> {
-    Padded::<Cell<u64>>::judge();
-    ThreadLocal::new(alloc)
+    ThreadLocal::made_with(alloc)
 }
 
 /// A table of counters, where threads seldom count: it takes a sixteenth of the memory.
 pub fn plain(alloc: Global) -> ThreadLocal<Cell<u64>> {
-    Cell::<u64>::judge();
-    ThreadLocal::new(alloc)
+    ThreadLocal::made_with(alloc)
 }
 
 /// Adds `times` ones.

@@ -1,6 +1,6 @@
 -- Whose tokens are there.
 use Rattle.std.proofs.Common.{◌≡◌, All, map, take}
-use Rattle.thread_local_uses.proofs.sums.tokens_of.Given as goal
+use Rattle.thread_local_examples_contracts.proofs.sums.tokens_of.Given as goal
 
 -- the tokens of the first parts, in their order
 abbrev pub invariant-loop-index : goal.invariant-loop-index

@@ -2,7 +2,7 @@
 //! the table holds. The contract says that this is the sum of the parts.
 ghost use Rattle.std.specs.Prelude.{◌≡◌, ◌≢◌, ◌<◌, true, All, IfOk, IfSome, IsSome, length, map, slice_index_or, sum};
 ghost use Rattle.std.specs.List.{AllPairs};
-ghost use Rattle.thread_local_uses.specs.Sums.{HaveParts};
+ghost use Rattle.thread_local_examples_contracts.specs.Sums.{HaveParts};
 
 use std::alloc::{AllocError, Global};
 use std::sync::Wait;

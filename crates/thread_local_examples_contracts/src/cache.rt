@@ -3,7 +3,7 @@
 //! holder, walk and owner of the table finds it kept.
 ghost use Rattle.std.specs.Prelude.{◌≡◌, IfOk, eqb};
 ghost use Rattle.std.specs.List.{list_any};
-ghost use Rattle.thread_local_uses.specs.declared.cache.TheConstants.{PATTERN};
+ghost use Rattle.thread_local_examples_contracts.specs.declared.cache.TheConstants.{PATTERN};
 
 use std::alloc::{AllocError, Global};
 use std::sync::Wait;

@@ -1,7 +1,7 @@
 -- Of which tokens it is known that their ids differ.
 use Rattle.std.proofs.Common.{◌≢◌, ◌<◌, ℕ, List, length, slice_index_or}
 use Rattle.thread_local.specs.TokenViews.{TokenView}
-use Rattle.thread_local_uses.proofs.sums.differ.Given as goal
+use Rattle.thread_local_examples_contracts.proofs.sums.differ.Given as goal
 
 -- the ids of two tokens differ
 abbrev pub Differ : List (TokenView ℕ) → ℕ → ℕ → Type 0

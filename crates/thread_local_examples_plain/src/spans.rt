@@ -2,18 +2,17 @@
 //! of work the owner looks over all stacks.
 use std::alloc::Global;
 use std::cell::RefCell;
+use std::default::MadeWith;
 use std::sync::Wait;
 use thread_local::ThreadLocal;
 use thread_local::local::Local;
-use thread_local::table::Judge;
 
 /// The spans that a thread is in, the innermost last.
 pub type Stack = RefCell<Vec<u64>>;
 
-/// A table of stacks. A `RefCell` is judged by itself, whatever it holds.
+/// A table of stacks.
 pub fn stacks(alloc: Global) -> ThreadLocal<Stack> {
-    Stack::judge();
-    ThreadLocal::new(alloc)
+    ThreadLocal::made_with(alloc)
 }
 
 /// Enters a span. False means out of memory, and the thread is in no further span then.

@@ -1,4 +1,4 @@
-use Rattle.thread_local_uses.proofs.snapshot.snapshot.Goals as goal
+use Rattle.thread_local_examples_contracts.proofs.snapshot.snapshot.Goals as goal
 
 pub loop-id-preserved : goal.loop-id-preserved
 loop-id-preserved g c = record {

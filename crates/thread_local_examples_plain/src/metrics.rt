@@ -2,12 +2,12 @@
 //! an `Arc` it goes to threads that are spawned and may outlive the function that made it.
 use std::alloc::{AllocError, Global};
 use std::cell::Cell;
+use std::default::MadeWith;
 use std::sync::{Arc, Wait};
 use std::thread;
 use std::thread::{JoinHandle, Threads};
 use thread_local::ThreadLocal;
 use thread_local::local::Local;
-use thread_local::table::Judge;
 use thread_local::thread_id::LocalError;
 
 /// How many requests were handled, a count for each id. The handle is `Copy`, so the struct keeps
@@ -21,9 +21,8 @@ pub struct Metrics<R: Wait> {
 impl<R: Wait> Metrics<R> {
     /// Metrics of no request.
     pub fn new(alloc: Global, rt: R) -> Metrics<R> {
-        Cell::<u64>::judge();
         Metrics {
-            requests: ThreadLocal::new(alloc),
+            requests: ThreadLocal::made_with(alloc),
             rt,
         }
     }

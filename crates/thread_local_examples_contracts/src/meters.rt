@@ -2,7 +2,7 @@
 ghost use Rattle.std.specs.Borrow.{u64};
 ghost use Rattle.thread_local.specs.Containing.{cell};
 ghost use Rattle.thread_local.specs.Parts.{structure};
-ghost use Rattle.thread_local_uses.specs.contracts.meters.Meter.{the_type};
+ghost use Rattle.thread_local_examples_contracts.specs.contracts.meters.Meter.{the_type};
 
 use std::cell::Cell;
 use std::sync::Wait;
@@ -42,6 +42,7 @@ pub fn handle<R: Wait>(meters: &ThreadLocal<Meter>, rt: &R, sizes: &[u64]) -> bo
 #[cfg(test)]
 mod tests {
     use super::*;
+    use std::default::MadeWith;
     use std::thread;
 
     /// How many requests of how many bytes all meters have.
@@ -57,8 +58,7 @@ mod tests {
 
     #[test]
     fn workers_meter_what_they_handle(rt: HostRuntime) {
-        Meter::judge();
-        let meters = ThreadLocal::<Meter>::new(rt.alloc());
+        let meters = ThreadLocal::<Meter>::made_with(rt.alloc());
         let handled = thread::join(
             &rt,
             || handle(&meters, &rt, &[5, 7]),

@@ -2,10 +2,10 @@
 //! all jobs that come to it, and does each in the same room, as with `map_init` of rayon.
 use std::alloc::Global;
 use std::cell::Cell;
+use std::default::MadeWith;
 use std::sync::Wait;
 use std::sync::atomic::{AtomicUsize, Ordering};
 use thread_local::ThreadLocal;
-use thread_local::table::Judge;
 use thread_local::thread_id::LocalError;
 
 /// What a worker keeps from job to job: room for a job's digits, and how many jobs it did.
@@ -13,8 +13,7 @@ pub type Kept = Cell<(Vec<u8>, u64)>;
 
 /// A table of what workers keep.
 pub fn workers(alloc: Global) -> ThreadLocal<Kept> {
-    Kept::judge();
-    ThreadLocal::new(alloc)
+    ThreadLocal::made_with(alloc)
 }
 
 /// The sum of a number's decimal digits, which are written into the room first.

@@ -1,6 +1,6 @@
 use Rattle.std.proofs.Common.{◌≡◌, ◌+◌, ◌*◌, ◌^◌, ◌≤◌, length}
 use Rattle.std.specs.Prelude.{sum}
-use Rattle.thread_local_uses.proofs.sums.added_up.Given as goal
+use Rattle.thread_local_examples_contracts.proofs.sums.added_up.Given as goal
 
 -- what was added, and what is still to come
 abbrev pub invariant-loop-value : goal.invariant-loop-value

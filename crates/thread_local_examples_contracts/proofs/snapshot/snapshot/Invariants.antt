@@ -1,5 +1,5 @@
 use Rattle.thread_local.specs.Walks.{HasGiven}
-use Rattle.thread_local_uses.proofs.snapshot.snapshot.Given as goal
+use Rattle.thread_local_examples_contracts.proofs.snapshot.snapshot.Given as goal
 
 -- the walk may go on and ends, and what it has given
 abbrev pub invariant-loop-id : goal.invariant-loop-id

@@ -2,10 +2,10 @@
 #![tactic(auto)]
 
 use std::cell::Cell;
+use std::default::MadeWith;
 use std::sync::Wait;
 use std::thread;
 use thread_local::ThreadLocal;
-use thread_local::table::Judge;
 
 /// Counts in a cell of its own. None: memory is out, or no id is left.
 fn count<R: Wait>(table: &ThreadLocal<Cell<u64>>, runtime: &R, times: u64) -> Option<()> {
@@ -18,8 +18,7 @@ fn count<R: Wait>(table: &ThreadLocal<Cell<u64>>, runtime: &R, times: u64) -> Op
 }
 
 fn main(runtime: HostRuntime) -> std::io::Result<()> {
-    Cell::<u64>::judge();
-    let table = ThreadLocal::new(runtime.alloc());
+    let table = ThreadLocal::<Cell<u64>>::made_with(runtime.alloc());
     let done = thread::join(
         &runtime,
         || count(&table, &runtime, 1000),

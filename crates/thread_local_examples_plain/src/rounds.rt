@@ -4,15 +4,14 @@
 //! `spans.rt` does.
 use std::alloc::Global;
 use std::cell::Cell;
+use std::default::MadeWith;
 use std::sync::Wait;
 use thread_local::ThreadLocal;
-use thread_local::table::Judge;
 use thread_local::thread_id::LocalError;
 
 /// A table of counts.
 pub fn counts(alloc: Global) -> ThreadLocal<Cell<u64>> {
-    Cell::<u64>::judge();
-    ThreadLocal::new(alloc)
+    ThreadLocal::made_with(alloc)
 }
 
 /// Adds numbers to what was counted under this worker's id in this round. The worker keeps its
