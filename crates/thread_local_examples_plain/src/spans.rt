@@ -7,8 +7,8 @@ use std::sync::Wait;
 use thread_local::ThreadLocal;
 use thread_local::local::Local;
 
-/// The spans that a thread is in, the innermost last.
-pub type Stack = RefCell<Vec<u64>>;
+/// The names of the spans that a thread is in, the innermost last.
+pub type Stack = RefCell<Vec<&'static str>>;
 
 /// A table of stacks.
 pub fn stacks(alloc: Global) -> ThreadLocal<Stack> {
@@ -16,7 +16,7 @@ pub fn stacks(alloc: Global) -> ThreadLocal<Stack> {
 }
 
 /// Enters a span. False means out of memory, and the thread is in no further span then.
-pub fn enter<R: Wait>(local: &mut Local<'_, Stack, R>, alloc: Global, span: u64) -> bool {
+pub fn enter<R: Wait>(local: &mut Local<'_, Stack, R>, alloc: Global, span: &'static str) -> bool {
     let Ok(stack) = local.get_or(|| RefCell::new(Vec::new(alloc))) else {
         return false;
     };
@@ -27,7 +27,7 @@ pub fn enter<R: Wait>(local: &mut Local<'_, Stack, R>, alloc: Global, span: u64)
 }
 
 /// Leaves the innermost span.
-pub fn leave<R: Wait>(local: &Local<'_, Stack, R>) -> Option<u64> {
+pub fn leave<R: Wait>(local: &Local<'_, Stack, R>) -> Option<&'static str> {
     local.get()?.try_borrow_mut().ok()?.pop()
 }
 
@@ -52,8 +52,8 @@ mod tests {
         table: &ThreadLocal<Stack>,
         rt: &R,
         alloc: Global,
-        spans: &[u64],
-    ) -> Option<u64> {
+        spans: &[&'static str],
+    ) -> Option<&'static str> {
         let mut local = table.local(rt).ok()?;
         for span in spans {
             if !enter(&mut local, alloc, *span) {
@@ -69,10 +69,10 @@ mod tests {
         let mut table = stacks(alloc);
         let innermost = thread::join(
             &rt,
-            || work(&table, &rt, alloc, &[1, 2, 3]),
-            || work(&table, &rt, alloc, &[40, 50]),
+            || work(&table, &rt, alloc, &["serve", "read", "parse"]),
+            || work(&table, &rt, alloc, &["serve", "write"]),
         );
         let open = (leave_all(&mut table), leave_all(&mut table));
-        assert!(rt; (innermost, open) == ((Some(3), Some(50)), (3, 0)));
+        assert!(rt; (innermost, open) == ((Some("parse"), Some("write")), (3, 0)));
     }
 }
