@@ -37,10 +37,9 @@ ghost use Rattle.thread_local_schedule.specs.Story.{after_publishing, after_walk
 /// and, until a rewrite or a drain, which values there are; and the most ids held at once bounds,
 /// with the capacity, what is installed, made, published and refused.
 ///
-/// A clause about a reached core holds after every event of every schedule. The owner's calls are
-/// `iter_mut`, `entries_mut`, `get_mut`, `slots`, `drain`, `clear`, `into_iter`, `into_entries`,
-/// `into_buckets` and the drop: the schedules are of tables that never lend their buckets by
-/// `buckets_mut`, which may leave any buckets.
+/// A clause about a reached core holds after every event of every schedule. Each call of a table's
+/// owner is an event, and so is the drop, but for `buckets_mut`, which may leave any buckets, also
+/// with a book, and for `renew`.
 pub fn every_schedule<V, E>()
     // The sheet that users see changes by its moves alone, and an event that isn't enabled changes
     // nothing.
