@@ -192,22 +192,54 @@ fn first_four(mut values: IntoIter<u32>) -> [Option<u32>; 4] {
     [values.next(), values.next(), values.next(), values.next()]
 }
 
+/// What is published where three `Local`s publish beside so many that hold their ids. None where a
+/// call doesn't do as it promises.
+fn published_beside<R: Wait + Print>(
+    call: Publishing,
+    rt: &R,
+    alloc: Global,
+    held: usize,
+) -> Result<Option<[Option<u32>; 4]>, LocalError> {
+    let table = with_held(rt, alloc, held)?;
+    let as_promised = call.by_three(&table, rt)?;
+    let published = first_four(table.into_iter());
+    Ok(as_promised.then_some(published))
+}
+
+/// What is published in two tables. Of three ids the second is the first that needs memory, or the
+/// first is the last of its bucket.
+fn published_in_two<R: Wait + Print>(
+    call: Publishing,
+    rt: &R,
+    alloc: Global,
+) -> Result<[Option<[Option<u32>; 4]>; 2], LocalError> {
+    let first = published_beside(call, rt, alloc, 57)?;
+    let second = published_beside(call, rt, alloc, 62)?;
+    Ok([first, second])
+}
+
 #[test]
-fn a_call_that_was_refused_succeeds_when_it_is_made_again(rt: HostRuntime) -> Result<(), Fail> {
-    for call in Publishing::ALL {
-        // Of three ids the second is the first that needs memory, or the first is the last of its bucket.
-        for held in [57, 62] {
-            let table = with_held(&rt, rt.alloc(), held)?;
-            let as_promised = call.by_three(&table, &rt) == Ok(true);
-            let wanted = [6, 7, 8].map(|number| Some(call.wanted(number).0));
-            assert_same(
-                &rt,
-                (as_promised, first_four(table.into_iter())),
-                (true, [wanted[0], wanted[1], wanted[2], None]),
-            );
-        }
-    }
-    Ok(())
+fn a_refused_get_or_succeeds_when_it_is_made_again(rt: HostRuntime) {
+    let published = published_in_two(Publishing::GetOr, &rt, rt.alloc());
+    assert!(rt; published == Ok([Some([Some(6), Some(7), Some(8), None]); 2]));
+}
+
+#[test]
+fn a_refused_get_or_try_succeeds_when_it_is_made_again(rt: HostRuntime) {
+    let published = published_in_two(Publishing::GetOrTry, &rt, rt.alloc());
+    assert!(rt; published == Ok([Some([Some(6), Some(7), Some(8), None]); 2]));
+}
+
+#[test]
+fn a_refused_get_or_default_succeeds_when_it_is_made_again(rt: HostRuntime) {
+    let published = published_in_two(Publishing::GetOrDefault, &rt, rt.alloc());
+    assert!(rt; published == Ok([Some([Some(0), Some(0), Some(0), None]); 2]));
+}
+
+#[test]
+fn a_refused_set_succeeds_when_it_is_made_again(rt: HostRuntime) {
+    let published = published_in_two(Publishing::Set, &rt, rt.alloc());
+    assert!(rt; published == Ok([Some([Some(6), Some(7), Some(8), None]); 2]));
 }
 
 /// What is drained of a table, of the first four values.
