@@ -22,3 +22,5 @@ pub mod seeds;
 pub mod snapshot;
 #[cfg(test)]
 pub mod sums;
+#[cfg(test)]
+pub mod totals;
