@@ -39,7 +39,7 @@ ghost use Rattle.thread_local_schedule.specs.Story.{after_publishing, after_walk
 ///
 /// A clause about a reached core holds after every event of every schedule. Each call of a table's
 /// owner is an event, and so is the drop, but for `buckets_mut`, which may leave any buckets, also
-/// with a book, and for `renew`.
+/// with a book, for `renew`, and for a `drain` whose walk is forgotten part way.
 pub fn every_schedule<V, E>()
     // The sheet that users see changes by its moves alone, and an event that isn't enabled changes
     // nothing.
