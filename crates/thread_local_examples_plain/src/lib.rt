@@ -11,6 +11,8 @@ pub mod matcher;
 #[cfg(test)]
 pub mod metrics;
 #[cfg(test)]
+pub mod records;
+#[cfg(test)]
 pub mod registry;
 #[cfg(test)]
 pub mod rounds;
