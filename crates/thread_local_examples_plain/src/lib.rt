@@ -3,6 +3,8 @@
 #![tactic(auto)]
 
 #[cfg(test)]
+pub mod connections;
+#[cfg(test)]
 pub mod formatting;
 #[cfg(test)]
 pub mod jobs;
