@@ -13,6 +13,8 @@ pub mod matcher;
 #[cfg(test)]
 pub mod metrics;
 #[cfg(test)]
+pub mod recorder;
+#[cfg(test)]
 pub mod records;
 #[cfg(test)]
 pub mod registry;
