@@ -1,12 +1,16 @@
-//! A total of what was published, read through tokens. And a value that is found again, where the
-//! proof rules out that it is made twice.
-ghost use Rattle.std.specs.Prelude.{◌≡◌, All, IfOk, IfSome, IsSome, map, sum};
+//! Totals of what was published, read through tokens: of tokens at hand, and of the parts of several
+//! threads. And a value that is found again, where the proof rules out that it is made twice.
+ghost use Rattle.std.specs.Prelude.{◌≡◌, ◌<◌, All, IfOk, IfSome, IsSome, length, map, slice_index_or, sum};
+ghost use Rattle.thread_local_examples_contracts.specs.Sums.{HaveParts};
 
-use std::alloc::AllocError;
+use std::alloc::{AllocError, Global};
 use std::sync::Wait;
+use std::thread;
+use std::thread::Threads;
 use thread_local::ThreadLocal;
 use thread_local::local::Local;
 use thread_local::table::Token;
+use thread_local::thread_id::LocalError;
 
 /// The sum of the values that the tokens name, where it fits into 64 bits. A fold needs no proof
 /// file, but it has to be bound before it is answered.
@@ -19,6 +23,64 @@ pub fn total(table: &ThreadLocal<u64>, tokens: &[Token<u64>]) -> Option<u64>
         .iter()
         .try_fold(0u64, |sum, token| sum.checked_add(*table.value(token)))?;
     Some(total)
+}
+
+/// Publishes a part, and answers a token of it. The `Local` keeps the id until it is dropped.
+fn publish<'a, R: Wait>(
+    table: &'a ThreadLocal<u64>,
+    rt: &'a R,
+    part: u64,
+) -> Result<(Local<'a, u64, R>, Token<u64>), LocalError>
+    ensures { IfOk result (λ kept. (kept.1.sharing ≡ table.now.sharing) × (kept.1.value ≡ part)) }
+{
+    let mut local = table.local(rt)?;
+    match local.publish(part) {
+        Ok(token) => Ok((local, token)),
+        Err(_) => Err(LocalError::Memory(AllocError)),
+    }
+}
+
+/// The sum of the parts, each read by its worker's token.
+fn added_up<R: Wait>(
+    table: &ThreadLocal<u64>,
+    parts: &[u64],
+    answers: &[Result<(Local<'_, u64, R>, Token<u64>), LocalError>],
+) -> Option<u64>
+    requires as_many { length answers.now ≡ length parts.now }
+    requires each { HaveParts table.now.sharing parts.now answers.now }
+    requires named { IsSome table.now.sharing }
+    ensures { IfSome result (λ total. total ≡ sum parts.now) }
+{
+    let mut total = 0u64;
+    for index in 0..parts.len() {
+        match &answers[index] {
+            Ok((_, token)) => total = total.checked_add(*table.value(token))?,
+            Err(_) => return None,
+        }
+    }
+    Some(total)
+}
+
+/// The sum of the parts, each of which a thread of its own publishes. None: no id or no memory was
+/// left, or the sum doesn't fit into 64 bits.
+pub fn sum_of_parts<R: Threads + Wait + Sync>(rt: &R, alloc: Global, parts: &[u64]) -> Option<u64>
+    ensures { IfSome result (λ total. total ≡ sum parts.now) }
+{
+    let table = ThreadLocal::new(alloc);
+    let answers = thread::map_indices(
+        rt,
+        alloc,
+        parts.len(),
+        &|index: usize| -> Result<(Local<'_, u64, R>, Token<u64>), LocalError>
+            requires { index < length parts.now }
+            ensures { IfOk result (λ kept.
+                (kept.1.sharing ≡ table.sharing) × (kept.1.value ≡ slice_index_or parts.entry.now index 0)) }
+        { publish(&table, rt, parts[index]) },
+    );
+    match answers {
+        Ok(answers) => added_up(&table, parts, &answers),
+        Err(AllocError) => None,
+    }
 }
 
 /// Gives this `Local` a number where it has none, and finds what it has. The second closure is proved
@@ -38,19 +100,6 @@ pub fn given_and_found<R: Wait>(
 mod tests {
     use super::*;
 
-    /// Publishes a part, and answers a token of it. The `Local` keeps the id until it is dropped.
-    fn publish<'a, R: Wait>(
-        table: &'a ThreadLocal<u64>,
-        rt: &'a R,
-        part: u64,
-    ) -> Option<(Local<'a, u64, R>, Token<u64>)>
-        ensures { IfSome result (λ kept. (kept.1.sharing ≡ table.now.sharing) × (kept.1.value ≡ part)) }
-    {
-        let mut local = table.local(rt).ok()?;
-        let token = local.publish(part).ok()?;
-        Some((local, token))
-    }
-
     /// The total of two parts, by their tokens.
     fn total_of_two<R: Wait>(
         table: &ThreadLocal<u64>,
@@ -60,8 +109,8 @@ mod tests {
     ) -> Option<Option<u64>>
         requires named { IsSome table.now.sharing }
     {
-        let (_first, one) = publish(table, rt, first)?;
-        let (_second, other) = publish(table, rt, second)?;
+        let (_first, one) = publish(table, rt, first).ok()?;
+        let (_second, other) = publish(table, rt, second).ok()?;
         Some(total(table, &[one, other]))
     }
 
@@ -71,6 +120,14 @@ mod tests {
             let table = ThreadLocal::new(rt.alloc());
             assert!(rt; total_of_two(&table, &rt, 7, second) == Some(wanted));
         }
+    }
+
+    #[test]
+    fn parts_of_threads_are_added_up(rt: HostRuntime) {
+        let two = sum_of_parts(&rt, rt.alloc(), &[7, 35]);
+        let none = sum_of_parts(&rt, rt.alloc(), &[]);
+        let large = sum_of_parts(&rt, rt.alloc(), &[u64::MAX, 1]);
+        assert!(rt; (two, none, large) == (Some(42), Some(0), None));
     }
 
     /// What a first `Local` of a table was given, and what it found.

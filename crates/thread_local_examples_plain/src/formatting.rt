@@ -1,6 +1,7 @@
 //! A pool of buffers: threads format lines of a text, each in a buffer that earlier lines have
 //! grown.
 use std::alloc::AllocError;
+use std::io::Write;
 use std::sync::Wait;
 use thread_local::thread_id::LocalError;
 use thread_local_pool::Pool;
@@ -33,6 +34,19 @@ pub fn size_on_page<R: Wait>(
     Ok(bytes)
 }
 
+/// Whether a line is the heading of this chapter. `write!` appends to a buffer as to any writer, and
+/// fails only where memory is out.
+pub fn is_heading<R: Wait>(
+    pool: &Pool<Vec<u8>>,
+    rt: &R,
+    line: &str,
+    chapter: u64,
+) -> Result<bool, LocalError> {
+    let mut buffer = pool.buffer(rt)?;
+    write!(buffer.bytes_mut(), "Chapter {chapter}").map_err(|_| AllocError)?;
+    Ok(buffer.bytes().as_slice() == line.as_bytes())
+}
+
 #[cfg(test)]
 mod tests {
     use super::*;
@@ -47,5 +61,15 @@ mod tests {
             || size_on_page(&pool, &rt, &["plain", ""]),
         );
         assert!(rt; sizes == (Ok(17), Ok(5)));
+    }
+
+    #[test]
+    fn a_number_is_formatted_into_a_buffer(rt: HostRuntime) {
+        let pool = Pool::new(rt.alloc());
+        let told = (
+            is_heading(&pool, &rt, "Chapter 12", 12),
+            is_heading(&pool, &rt, "Chapter 12", 1),
+        );
+        assert!(rt; told == (Ok(true), Ok(false)));
     }
 }

@@ -3,6 +3,8 @@
 #![tactic(auto)]
 
 #[cfg(test)]
+pub mod connections;
+#[cfg(test)]
 pub mod formatting;
 #[cfg(test)]
 pub mod jobs;
@@ -10,6 +12,10 @@ pub mod jobs;
 pub mod matcher;
 #[cfg(test)]
 pub mod metrics;
+#[cfg(test)]
+pub mod recorder;
+#[cfg(test)]
+pub mod records;
 #[cfg(test)]
 pub mod registry;
 #[cfg(test)]
