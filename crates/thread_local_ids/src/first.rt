@@ -32,7 +32,10 @@ pub(crate) const FIRST_IDS: usize = 58;
 /// The bits of the ids where all of the first are held.
 const ALL: u64 = (1 << 58) - 1;
 
-/// How often a take tries to exchange the word.
+/// The word once id 0 of a new table is taken: the id's bit, and a peak of 1.
+const FIRST_TAKEN: u64 = 64 + 1;
+
+/// How often a take tries to exchange the word, in a new table after a first try.
 const TRIES: u64 = 16;
 
 /// Which of the first 58 ids are held, a bit each, and their peak in the 6 bits below. A contract sees
@@ -123,6 +126,14 @@ impl FirstIds {
         ensures none { result ≡ None → page.new ≡ page.old }
     {
         let mut seen = self.seen();
+        if seen == 0 {
+            // In a new table the word to store is known, so the exchange waits for no sum.
+            let (found, right) = self.try_take(0, FIRST_TAKEN, 0, page);
+            if found == 0 {
+                return Some(right.into_held(0, page));
+            }
+            seen = found;
+        }
         for _ in 0..TRIES {
             let id = (seen >> 6).trailing_ones() as usize;
             if id >= FIRST_IDS {

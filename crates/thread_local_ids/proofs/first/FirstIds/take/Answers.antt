@@ -1,4 +1,4 @@
-use Rattle.std.proofs.Common.{ℕ, ◌/◌, ◌^◌, ◌<◌, sym, subst, arith}
+use Rattle.std.proofs.Common.{ℕ, ◌/◌, ◌^◌, ◌<◌, refl, sym, subst, arith}
 use Rattle.std.specs.Int.{w64, trailing_ones}
 use Rattle.thread_local_base.specs.Bits.{IsLowestUnset}
 use Rattle.thread_local_base.proofs.Word.{lowest_unset}
@@ -13,6 +13,10 @@ pub word_with-requires-clause-lowest : goal.word_with-requires-clause-lowest
 word_with-requires-clause-lowest c =
     subst (IsLowestUnset (c.loop.seen / 64)) (sym c.trailing_ones-id.ensures) (lowest c.loop.seen (omega arith))
 
-pub try_take-found-requires-clause-lowest : goal.try_take-found-requires-clause-lowest
-try_take-found-requires-clause-lowest c =
+pub try_take-found-requires-in-loop-clause-lowest : goal.try_take-found-requires-in-loop-clause-lowest
+try_take-found-requires-in-loop-clause-lowest c =
     subst (IsLowestUnset (c.loop.seen / 64)) (sym c.trailing_ones-id.ensures) (lowest c.loop.seen (omega arith))
+
+pub try_take-found-requires-clause-lowest : goal.try_take-found-requires-clause-lowest
+try_take-found-requires-clause-lowest _ =
+    record { within = omega arith; unset = refl; lower = λ _ below. absurd (omega (arith, below)) }
