@@ -1,7 +1,7 @@
 //! Tables of few values, as most tables are: made, filled, walked over, drained and cleared.
 
 use crate::Round;
-use crate::table::{publish_first, publish_number, taken};
+use crate::table::publish_first;
 use crate::values::sum_below;
 use std::alloc::{AllocError, Global};
 use std::mem::forget;
@@ -69,24 +69,15 @@ fn filled<R: Wait>(
     Ok(tables)
 }
 
-/// Publishes a number by a `Local`, which is forgotten: its drop isn't timed.
-#[inline(always)]
-fn publish_and_forget<R: Wait>(
-    table: &ThreadLocal<u64>,
-    rt: &R,
-    number: u64,
-) -> Result<(), AllocError> {
-    let mut local = taken(table, rt)?;
-    publish_number(&mut local, number)?;
-    forget(local);
-    Ok(())
-}
-
-/// Publishes the first value of each table.
+/// Publishes the first value of each table, by a `Local` that is forgotten: its drop isn't timed.
 fn publish_one_each<R: Wait>(tables: &Vec<ThreadLocal<u64>>, rt: &R) -> Result<(), AllocError> {
     let mut number = 0u64;
     for table in tables {
-        publish_and_forget(table, rt, number)?;
+        let Ok(mut local) = table.local(rt) else {
+            return Err(AllocError);
+        };
+        local.get_or(|| number)?;
+        forget(local);
         number = number.wrapping_add(1);
     }
     Ok(())

@@ -81,6 +81,11 @@ pub(crate) fn get_hit<R: Clock + Wait>(
     Ok(counted(table, times, time))
 }
 
+/// The first of two, or the second.
+fn either<'x, T>(first: &'x mut T, second: &'x mut T, is_first: bool) -> &'x mut T {
+    if is_first { first } else { second }
+}
+
 /// Adds one to the value that `get_or` answers.
 fn add<R: Wait>(local: &mut Local<'_, Cell<u64>, R>) {
     if let Ok(count) = local.get_or(|| Cell::new(0)) {
@@ -102,11 +107,7 @@ pub(crate) fn get_or_hit<R: Clock + Wait>(
         let mut second = published(&table, rt)?;
         let start = Instant::now(rt)?;
         for number in 0..times {
-            if number & mask == 0 {
-                add(&mut first);
-            } else {
-                add(&mut second);
-            }
+            add(either(&mut first, &mut second, number & mask == 0));
         }
         start.elapsed(rt)?
     };
@@ -221,18 +222,22 @@ fn time_publishing<R: Clock + Wait>(
     start.elapsed(rt)
 }
 
-/// Publishes a value at each reserved id of a new table, whose `Local`s are taken before, and answers
-/// how long that took.
+/// Makes a table and publishes a value at each of its reserved ids, and answers how long both took.
+/// The making counts, since on one side it writes the memory of each slot, and on the other the
+/// publishing does. The `Local`s are taken in between.
 fn publish_reserved<R: Clock + Wait>(rt: &R, alloc: Global, values: u32) -> io::Result<Duration> {
-    let Ok(table) = ThreadLocal::<u64>::with_capacity(alloc, values as usize) else {
+    let start = Instant::now(rt)?;
+    let made = ThreadLocal::<u64>::with_capacity(alloc, values as usize);
+    let time = start.elapsed(rt)?;
+    let Ok(table) = made else {
         return Err(io::Error::from(AllocError));
     };
     let mut locals = all_taken(&table, rt, alloc, values)?;
-    time_publishing(&mut locals, rt)
+    Ok(time.saturating_add(time_publishing(&mut locals, rt)?))
 }
 
-/// Publishes a value at each reserved id of so many tables. The `Local`s of a table with a thousand
-/// slots lie in the processor's cache.
+/// Makes so many tables, and publishes a value at each reserved id of theirs. The `Local`s of a table
+/// with a thousand slots lie in the processor's cache.
 pub(crate) fn publish<R: Clock + Wait>(
     rt: &R,
     alloc: Global,
