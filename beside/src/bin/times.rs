@@ -5,7 +5,10 @@
 //!
 //! With `growth ROUNDS` it times calls by one, two and four threads, and walks over 2^10 to 2^20
 //! values. With `hold N` it makes a table of N values and drops it.
+//!
+//! All its code lies as many bytes further on as PLACE said when it was built.
 
+use std::arch::global_asm;
 use std::cell::Cell;
 use std::hint::black_box;
 use std::sync::{Barrier, Mutex};
@@ -13,6 +16,12 @@ use std::thread;
 use std::time::{Duration, Instant};
 use thread_local::opened::{self, Manager};
 use thread_local::ThreadLocal;
+
+global_asm!(
+    r#".pushsection .text.unlikely.place, "axR", @progbits"#,
+    concat!(".skip ", env!("PLACE")),
+    ".popsection"
+);
 
 /// How many operations a round made, and in what time.
 type Round = (u64, Duration);
@@ -76,13 +85,14 @@ fn local_and_drop() -> Round {
     (TIMES, start.elapsed())
 }
 
-/// Publishes a value at each reserved id of so many tables. The ids are counted, so each is in a
-/// register. On the other side each is a `Local`'s, of which a thousand lie in the processor's cache.
+/// Makes so many tables, and publishes a value at each reserved id of theirs. The ids are counted, so
+/// each is in a register. On the other side each is a `Local`'s, of which a thousand lie in the
+/// processor's cache.
 fn publish(count: usize, tables: usize) -> Round {
     let mut time = Duration::ZERO;
     for _ in 0..tables {
-        let table = ThreadLocal::with_capacity(count);
         let start = Instant::now();
+        let table = ThreadLocal::with_capacity(count);
         for id in 0..count {
             opened::insert(&table, id, id as u64);
         }
