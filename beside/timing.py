@@ -1,6 +1,12 @@
-"""What compare, growth and peers share: both sides are built, run and shown in one way."""
+"""What compare, growth and peers share: both sides are built, run and shown in one way.
+
+How long a small loop takes hangs on where its code lies: a few bytes further on it may take half as
+long, or twice. So compare and peers link each side at four places, and their goes take these in turn.
+"""
 import os
 import platform
+import shutil
+import statistics
 import subprocess
 import sys
 
@@ -9,11 +15,28 @@ BENCH = '../crates/thread_local_bench'
 HERE = BENCH + '/out/thread_local_bench'
 THERE = 'target/release/times'
 
+# How far on the code of a side lies, in bytes.
+PLACES = (16, 32, 48, 64)
+
+# What goes before the code, where `ld` puts it first.
+BEFORE = '''.section .text.unlikely, "ax", @progbits
+.skip {}
+.section .note.GNU-stack, "", @progbits
+'''
+
 
 def arguments(goes, rounds):
     """The numbers of goes and of rounds that the command names, or these."""
     words = sys.argv[1:3]
     return int(words[0]) if words else goes, int(words[1]) if len(words) > 1 else rounds
+
+
+def goes_by_place(goes, rounds):
+    """The same where there must be a go for each place."""
+    goes, rounds = arguments(goes, rounds)
+    if goes < len(PLACES):
+        sys.exit(f'there must be {len(PLACES)} goes, one for each place')
+    return goes, rounds
 
 
 def build():
@@ -23,6 +46,32 @@ def build():
     if made.returncode != 0:
         sys.exit(made.stdout + made.stderr)
     return [line.split()[0] for line in made.stdout.splitlines() if len(line.split()) == 1]
+
+
+def placed():
+    """Links both sides, which are built, at each place, and answers the programs of each place."""
+    kit = os.path.dirname(output('rt', 'doc').strip())
+    linked = [f'{BENCH}/out/thread_local_bench.o', f'{kit}/c/libos_c.a', f'{kit}/c/liblibc_c.a', '-lpthread']
+    programs = []
+    for far in PLACES:
+        here, there = f'target/here_{far}', f'target/there_{far}'
+        with open(f'target/before_{far}.s', 'w') as file:
+            file.write(BEFORE.format(far))
+        subprocess.run(['cc', f'target/before_{far}.s', *linked, '-o', here], check=True)
+        subprocess.run(['./build'], check=True, env={**os.environ, 'PLACE': str(far)})
+        shutil.copy(THERE, there)
+        programs.append((here, there))
+    return programs
+
+
+def place_of(go):
+    """The number of the place whose turn it is."""
+    return go % len(PLACES)
+
+
+def least(by_place):
+    """The mean of the leasts that the places have."""
+    return statistics.mean(map(min, by_place.values()))
 
 
 def output(*command):
