@@ -9,11 +9,14 @@ import shutil
 import statistics
 import subprocess
 import sys
+import timeit
 
 os.chdir(os.path.dirname(os.path.abspath(__file__)))
 BENCH = '../crates/thread_local_bench'
 HERE = BENCH + '/out/thread_local_bench'
 THERE = 'target/release/times'
+
+PROCESSORS = os.sched_getaffinity(0)
 
 # How far on the code of a side lies, in bytes.
 PLACES = (16, 32, 48, 64)
@@ -69,9 +72,54 @@ def place_of(go):
     return go % len(PLACES)
 
 
+def writes_at_once(name):
+    """Whether several threads write at once in a round of a workload. In `thread_come_and_go` they come one after another."""
+    return name.endswith(('_4_threads', '_4_threads_padded')) or name in ('pool_2', 'pool_4')
+
+
+def has_threads(name):
+    return writes_at_once(name) or name == 'thread_come_and_go'
+
+
+def all_processors():
+    """Lets what runs from now on use all processors."""
+    os.sched_setaffinity(0, PROCESSORS)
+
+
+def choose_processors(name):
+    """Gives a workload with threads all processors, and another the one that is fastest just then. On a
+    shared machine a processor may take twice as long as the others, for a second or for minutes."""
+    if has_threads(name):
+        all_processors()
+    else:
+        os.sched_setaffinity(0, {min(PROCESSORS, key=loop_time)})
+
+
+def loop_time(processor):
+    """The time of a loop on this processor, the least of three."""
+    os.sched_setaffinity(0, {processor})
+    return min(timeit.repeat('sum(number * number for number in range(10_000))', number=1, repeat=3))
+
+
+def processes(name, rounds):
+    """How many rounds each process of a go takes. Where threads write at once, each round is a process
+    of its own: later rounds of one process lie where `malloc` finds room, and threads whose values
+    share a line of the cache wait for each other."""
+    return [1] * rounds if writes_at_once(name) else [rounds]
+
+
 def least(by_place):
     """The mean of the leasts that the places have."""
     return statistics.mean(map(min, by_place.values()))
+
+
+def median(by_place):
+    """The median of all times."""
+    return statistics.median(all_of(by_place))
+
+
+def all_of(by_place):
+    return [number for numbers in by_place.values() for number in numbers]
 
 
 def output(*command):
