@@ -138,7 +138,8 @@ fn held<R: Wait>(local: &mut Local<'_, u32, R>, value: u32) -> Result<u32, Alloc
 /// Where a value is held, no call is refused memory, and none ends with an error of its closure.
 fn held_is_answered<R: Wait>(local: &mut Local<'_, u32, R>, value: u32) -> bool
     requires { IsSome local.old.value }
-    ensures { result ≡ true }
+    ensures answered { result ≡ true }
+    ensures held { IsSome local.new.value }
 {
     local.get_or(|| value).is_ok()
 }
@@ -158,7 +159,8 @@ fn held_is_no_error<R: Wait>(local: &mut Local<'_, u32, R>) -> bool
 
 fn held_is_full<R: Wait>(local: &mut Local<'_, u32, R>) -> bool
     requires { IsSome local.old.value }
-    ensures { result ≡ true }
+    ensures answered { result ≡ true }
+    ensures held { IsSome local.new.value }
 {
     local.try_fill(|| Err::<u32, bool>(false)).is_ok()
 }
@@ -302,7 +304,7 @@ fn sum_of<R: Wait>(local: &Local<'_, u32, R>) -> u32 {
     sum(local.iter())
 }
 
-/// A `Local` of a new table, which holds no value.
+/// A `Local` that holds no value.
 fn empty_local<'a, R: Wait>(table: &'a ThreadLocal<u32>, rt: &'a R) -> Option<Local<'a, u32, R>>
     ensures { IfSome result (λ local. local.value ≡ None) }
 {
@@ -315,146 +317,145 @@ fn empty_local<'a, R: Wait>(table: &'a ThreadLocal<u32>, rt: &'a R) -> Option<Lo
     Some(local)
 }
 
-/// What two callers get at an empty slot, told 1 and 2, where the second's first closure fails.
-fn first_and_second<R: Wait>(rt: &R, alloc: Global) -> Option<[u32; 2]> {
-    let (one, other) = (number(alloc), number(alloc));
-    let first = first_of_two(&mut empty_local(&one, rt)?, 1, 2).ok()?;
-    let second = second_try(&mut empty_local(&other, rt)?, 1, 2).ok()?;
-    Some([first, second])
+/// Which caller is run at an empty slot.
+#[derive(Drop)]
+enum Caller {
+    FirstOfTwo,
+    SecondTry,
+    LastingSecond,
+    Held,
+    EmptyAfterAnError,
+    FailedAndRead,
+    FilledAndRead,
 }
 
-/// What stands after a closure that fails, and what one that doesn't leaves.
-fn emptied_and_filled<R: Wait>(
-    table: &ThreadLocal<u32>,
-    rt: &R,
-) -> Option<([Option<u32>; 3], u32)> {
-    let mut local = empty_local(table, rt)?;
-    empty_after_an_error(&mut local, 1);
-    let before = local.get().copied();
-    let none = filled_and_read(&mut local, Err(2));
-    if local.get().is_some() {
-        return None;
-    }
-    let some = filled_and_read(&mut local, Ok(3));
-    Some(([before, none, some], *local.get()?))
-}
-
-/// What callers of a lasting reference and of a closure that can't be called get.
-fn lasting_and_held<R: Wait>(rt: &R, alloc: Global) -> Option<[u32; 2]> {
-    let (one, other) = (number(alloc), number(alloc));
-    let lasting = *lasting_second(&mut empty_local(&one, rt)?, 1, 2)?;
-    let held = held(&mut empty_local(&other, rt)?, 3).ok()?;
-    Some([lasting, held])
-}
-
-/// Whether callers are granted memory where they know of a value or of the bucket, each by a new
-/// `Local`. The first publishes 5.
-fn granted<R: Wait>(table: &ThreadLocal<u32>, rt: &R) -> Option<[bool; 4]> {
-    let first = granted_after_an_error(&mut table.local(rt).ok()?, 5);
-    let second = never_refused(&mut table.local(rt).ok()?, 6);
-    let third = held_is_answered_by_default(&mut table.local(rt).ok()?);
-    let fourth = keeps_its_id(&mut table.local(rt).ok()?, 7);
-    Some([first, second, third, fourth])
-}
-
-/// A `Local` that holds a value.
-fn full_local<'a, R: Wait>(table: &'a ThreadLocal<u32>, rt: &'a R) -> Option<Local<'a, u32, R>>
-    ensures { IfSome result (λ local. IsSome local.value) }
+/// What a caller gets at an empty slot, told 1 and 2 or one of them, and what the slot holds then.
+fn got<R: Wait>(local: &mut Local<'_, u32, R>, caller: Caller) -> [Option<u32>; 2]
+    requires { local.old.value ≡ None }
 {
-    let Ok(local) = table.local(rt) else {
-        return None;
+    let got = match caller {
+        Caller::FirstOfTwo => first_of_two(local, 1, 2).ok(),
+        Caller::SecondTry => second_try(local, 1, 2).ok(),
+        Caller::LastingSecond => lasting_second(local, 1, 2).copied(),
+        Caller::Held => held(local, 1).ok(),
+        Caller::EmptyAfterAnError => {
+            empty_after_an_error(local, 1);
+            None
+        }
+        Caller::FailedAndRead => filled_and_read(local, Err(1)),
+        Caller::FilledAndRead => filled_and_read(local, Ok(2)),
     };
-    if local.get().is_none() {
-        return None;
-    }
-    Some(local)
+    [got, local.get().copied()]
 }
 
-/// Whether callers are answered where a value is held, each by a new `Local`.
-fn answered<R: Wait>(table: &ThreadLocal<u32>, rt: &R) -> Option<[bool; 3]> {
-    let first = held_is_answered(&mut full_local(table, rt)?, 6);
-    let second = held_is_no_error(&mut full_local(table, rt)?);
-    let third = held_is_full(&mut full_local(table, rt)?);
-    Some([first, second, third])
-}
-
-/// The errors that callers are told, and whether a slot of a bucket that stands is filled.
-fn errors_and_filled<R: Wait>(
-    table: &ThreadLocal<u32>,
-    rt: &R,
-) -> Option<([u64; 2], bool, Option<u32>)> {
-    let mut local = empty_local(table, rt)?;
-    let errors = [
-        error_of_the_closure(&mut local, 8),
-        error_of_a_filling(&mut local, 9),
-    ];
-    let filled = filled_or_empty::<u32, bool, R>(&mut local, Ok(10)).is_ok();
-    Some((errors, filled, local.get().copied()))
+/// The same by a `Local` of a new table.
+fn got_anew<R: Wait>(rt: &R, alloc: Global, caller: Caller) -> Option<[Option<u32>; 2]> {
+    let table = number(alloc);
+    Some(got(&mut empty_local(&table, rt)?, caller))
 }
 
 #[test]
 fn callers_of_an_empty_slot_are_answered(rt: HostRuntime) {
     let alloc = rt.alloc();
-    assert_same(&rt, first_and_second(&rt, alloc), Some([1, 2]));
+    let filled = [
+        got_anew(&rt, alloc, Caller::FirstOfTwo),
+        got_anew(&rt, alloc, Caller::Held),
+        got_anew(&rt, alloc, Caller::SecondTry),
+        got_anew(&rt, alloc, Caller::LastingSecond),
+        got_anew(&rt, alloc, Caller::FilledAndRead),
+    ];
+    let left_empty = [
+        got_anew(&rt, alloc, Caller::EmptyAfterAnError),
+        got_anew(&rt, alloc, Caller::FailedAndRead),
+    ];
+    let (one, two) = (Some([Some(1); 2]), Some([Some(2); 2]));
     assert_same(
         &rt,
-        emptied_and_filled(&number(alloc), &rt),
-        Some(([None, None, Some(3)], 3)),
+        (filled, left_empty),
+        ([one, one, two, two, two], [Some([None; 2]); 2]),
     );
-    assert_same(&rt, lasting_and_held(&rt, alloc), Some([2, 3]));
+}
+
+/// Whether a `Local` with an empty slot is granted memory after an error, keeps its id, and is
+/// answered by default.
+fn granted<R: Wait>(local: &mut Local<'_, u32, R>) -> [bool; 3] {
+    [
+        granted_after_an_error(local, 5),
+        keeps_its_id(local, 6),
+        held_is_answered_by_default(local),
+    ]
+}
+
+/// Whether callers are answered where a value is held.
+fn answered<R: Wait>(local: &mut Local<'_, u32, R>) -> [bool; 3]
+    requires { IsSome local.old.value }
+{
+    [
+        held_is_answered(local, 7),
+        held_is_full(local),
+        held_is_no_error(local),
+    ]
+}
+
+/// Both, one after the other, and what the slot holds then.
+fn granted_and_answered<R: Wait>(
+    local: &mut Local<'_, u32, R>,
+) -> Option<([bool; 3], [bool; 3], u32)> {
+    let granted = granted(local);
+    if local.get().is_none() {
+        return None;
+    }
+    let answered = answered(local);
+    Some((granted, answered, *local.get()?))
+}
+
+/// The errors that callers are told at an empty slot, whether another fills it with 10, and the sum
+/// of the table's values then.
+fn errors_and_filled<R: Wait>(local: &mut Local<'_, u32, R>) -> ([u64; 2], bool, u32) {
+    let errors = [error_of_the_closure(local, 8), error_of_a_filling(local, 9)];
+    let is_filled = filled_or_empty::<u32, bool, R>(local, Ok(10)).is_ok();
+    (errors, is_filled, sum_of(local))
 }
 
 #[test]
 fn callers_are_granted_memory_and_told_errors(rt: HostRuntime) {
-    let alloc = rt.alloc();
-    let table = number(alloc);
-    assert_same(&rt, granted(&table, &rt), Some([true; 4]));
-    assert_same(&rt, answered(&table, &rt), Some([true; 3]));
+    let (one, other) = (number(rt.alloc()), number(rt.alloc()));
+    let granted = granted_and_answered(&mut one.local(&rt).expect(&rt, "an id"));
+    let told = errors_and_filled(&mut other.local(&rt).expect(&rt, "an id"));
     assert_same(
         &rt,
-        errors_and_filled(&number(alloc), &rt),
-        Some(([8, 9], true, Some(10))),
+        (granted, told),
+        (Some(([true; 3], [true; 3], 5)), ([8, 9], true, 10)),
     );
 }
 
-/// Whether the first `Local` of a table with a capacity has a reserved slot, which is filled, and a
-/// later one finds the value.
-fn filled_where_reserved<R: Wait>(rt: &R, alloc: Global) -> Option<(bool, Option<u32>)> {
-    let table = with_room(alloc, 4).ok()?;
-    let is_filled = fill_reserved(&table, rt)?;
-    let found = full_local(&table, rt)?.get().copied();
-    Some((is_filled, found))
-}
-
-/// Whether the slot of a new `Local`, if it is reserved, is filled with 4.
-fn fill_reserved<R: Wait>(table: &ThreadLocal<u32>, rt: &R) -> Option<bool> {
-    let Ok(mut local) = table.local(rt) else {
-        return None;
-    };
+/// Whether callers aren't refused memory at a reserved slot, which is filled with 4.
+fn fill_reserved<R: Wait>(local: &mut Local<'_, u32, R>) -> Option<([bool; 2], u32)> {
     if !local.is_reserved() {
         return None;
     }
-    Some(filled_where_known(&mut local, Ok::<u32, bool>(4)))
+    let granted = [
+        filled_where_known(local, Ok::<u32, bool>(4)),
+        never_refused(local, 5),
+    ];
+    Some((granted, *local.get()?))
 }
 
-/// How many slots new tables of two types have.
-fn slots_of_new(alloc: Global) -> [usize; 2] {
-    [generic::<u8>(alloc).slots(), ref_cell(alloc).slots()]
+/// A table with room for four ids, of which seven slots are reserved.
+fn with_seven(alloc: Global) -> Option<ThreadLocal<u32>>
+    ensures { IfSome result (λ table. table.reserved ≡ 7) }
+{
+    with_room(alloc, 4).ok()
 }
 
-/// What a new `Local` publishes, how many values its walk sums up, and whether two have two ids.
-fn summed_and_apart<R: Wait>(table: &ThreadLocal<u32>, rt: &R) -> Option<(u32, Option<bool>)> {
-    let Ok(mut local) = table.local(rt) else {
-        return None;
-    };
-    local.get_or(|| 6).ok()?;
-    Some((sum_of(&local), have_two_ids(table, rt)))
-}
-
-/// The sum of what an owner's walk gives, where a `Local` published 7.
-fn added_up_to_seven<R: Wait>(mut table: ThreadLocal<u64>, rt: &R) -> Option<u128> {
-    publish_seven(&table, rt)?;
-    Some(added_up(table.iter_mut()))
+/// How many slots new tables of four types have.
+fn slots_of_new(alloc: Global) -> [usize; 4] {
+    [
+        generic::<u8>(alloc).slots(),
+        ref_cell(alloc).slots(),
+        text(alloc).slots(),
+        cell(alloc).slots(),
+    ]
 }
 
 /// A `Local` publishes 7.
@@ -465,21 +466,23 @@ fn publish_seven<R: Wait>(table: &ThreadLocal<u64>, rt: &R) -> Option<()> {
     local.set(7).ok()
 }
 
+/// The sum of what an owner's walk gives, where a `Local` published 7.
+fn added_up_to_seven<R: Wait>(mut table: ThreadLocal<u64>, rt: &R) -> Option<u128> {
+    publish_seven(&table, rt)?;
+    Some(added_up(table.iter_mut()))
+}
+
 #[test]
 fn callers_of_a_table_are_answered(rt: HostRuntime) {
-    let alloc = rt.alloc();
-    assert_same(&rt, slots_of_new(alloc), [0; 2]);
+    let table = with_seven(rt.alloc()).expect(&rt, "memory");
+    let filled = fill_reserved(&mut table.local(&rt).expect(&rt, "an id"));
+    let of_ids = (reserved_below_seven(&table, &rt), have_two_ids(&table, &rt));
+    let added = added_up_to_seven(sync(rt.alloc()), &rt);
     assert_same(
         &rt,
-        filled_where_reserved(&rt, alloc),
-        Some((true, Some(4))),
+        (slots_of_new(rt.alloc()), filled, of_ids, added),
+        ([0; 4], Some(([true; 2], 4)), (true, Some(true)), Some(7)),
     );
-    assert_same(
-        &rt,
-        summed_and_apart(&sync(alloc), &rt),
-        Some((6, Some(true))),
-    );
-    assert_same(&rt, added_up_to_seven(sync(alloc), &rt), Some(7));
 }
 
 fn generic_local<T: Send, R: Wait + Sync>(local: Local<'_, T, R>) {

@@ -123,28 +123,6 @@ fn readings_of_a_local<R: Wait>(local: &Local<'_, Reading<'_>, R>) -> u64 {
         .fold(0u64, |sum, reading| sum.wrapping_add(*reading.number))
 }
 
-/// What callers find where two `Local`s that are held publish 3 and 4: whether the second's walk gives
-/// its own, the last id, the sum, and three counts.
-fn found_of_two<R: Wait>(
-    table: &ThreadLocal<u32>,
-    rt: &R,
-) -> Option<(bool, Option<usize>, u32, [usize; 3])> {
-    let Ok(mut first) = table.local(rt) else {
-        return None;
-    };
-    let Ok(mut second) = table.local(rt) else {
-        return None;
-    };
-    first.get_or(|| 3).ok()?;
-    let own = *second.get_or(|| 4).ok()?;
-    Some((
-        finds_own(&second, own),
-        last_id(table),
-        numbers(table),
-        counts(table),
-    ))
-}
-
 /// How many values a table has, by three walks.
 fn counts<T: Send + Sync>(table: &ThreadLocal<T>) -> [usize; 3] {
     [
@@ -154,57 +132,68 @@ fn counts<T: Send + Sync>(table: &ThreadLocal<T>) -> [usize; 3] {
     ]
 }
 
+/// Two `Local`s publish 3 and 4. Answers whether the walk of the second gives its own.
+fn publish_two<R: Wait>(
+    first: &mut Local<'_, u32, R>,
+    second: &mut Local<'_, u32, R>,
+) -> Option<bool> {
+    first.get_or(|| 3).ok()?;
+    let own = *second.get_or(|| 4).ok()?;
+    Some(finds_own(second, own))
+}
+
 #[test]
 fn walks_give_two_numbers(rt: HostRuntime) {
     let table = ThreadLocal::new(rt.alloc());
+    let own = publish_two(
+        &mut table.local(&rt).expect(&rt, "an id"),
+        &mut table.local(&rt).expect(&rt, "an id"),
+    );
     assert_same(
         &rt,
-        found_of_two(&table, &rt),
-        Some((true, Some(1), 7, [2; 3])),
+        (own, last_id(&table), numbers(&table), counts(&table)),
+        (Some(true), Some(1), 7, [2; 3]),
     );
 }
 
-/// How many bytes walks find where a `Local` publishes a text of four.
-fn bytes_of_four<R: Wait>(
-    table: &ThreadLocal<String>,
-    rt: &R,
-    alloc: Global,
-) -> Option<[usize; 2]> {
-    let text = String::from_str(alloc, "four").ok()?;
-    let Ok(mut local) = table.local(rt) else {
-        return None;
-    };
-    local.set(text).ok()?;
-    Some([texts(table), texts_by_iter(table)])
+/// Whether a `Local` publishes a text of four bytes.
+fn publish_four<R: Wait>(local: &mut Local<'_, String, R>, alloc: Global) -> bool {
+    match String::from_str(alloc, "four") {
+        Ok(text) => local.set(text).is_ok(),
+        Err(_) => false,
+    }
 }
 
 #[test]
 fn walks_give_a_text(rt: HostRuntime) {
     judge_sync::<String>();
     let table = ThreadLocal::new(rt.alloc());
-    assert_same(&rt, bytes_of_four(&table, &rt, rt.alloc()), Some([4; 2]));
+    let is_set = publish_four(&mut table.local(&rt).expect(&rt, "an id"), rt.alloc());
+    assert_same(
+        &rt,
+        (is_set, texts(&table), texts_by_iter(&table)),
+        (true, 4, 4),
+    );
 }
 
-/// What walks find where a `Local` publishes a reference to 5.
-fn reading_of_five<R: Wait>(rt: &R, alloc: Global) -> Option<((u64, usize), [u64; 2])> {
-    let number = 5;
-    let table = sync(alloc);
-    let Ok(mut local) = table.local(rt) else {
-        return None;
-    };
-    local.get_or(|| Reading { number: &number }).ok()?;
-    Some((
-        readings(&table),
-        [readings_folded(&table), readings_of_a_local(&local)],
-    ))
+/// A `Local` publishes a reference to a number. Answers the sum that its walk gives.
+fn publish_reading<'a, R: Wait>(
+    local: &mut Local<'_, Reading<'a>, R>,
+    number: &'a u64,
+) -> Option<u64> {
+    local.get_or(|| Reading { number }).ok()?;
+    Some(readings_of_a_local(local))
 }
 
 #[test]
 fn walks_give_a_value_that_holds_a_reference(rt: HostRuntime) {
+    let number = 5;
+    let table = sync(rt.alloc());
+    let own = publish_reading(&mut table.local(&rt).expect(&rt, "an id"), &number);
     assert_same(
         &rt,
-        reading_of_five(&rt, rt.alloc()),
-        Some(((5, 1), [5; 2])),
+        (own, readings(&table), readings_folded(&table)),
+        (Some(5), (5, 1), 5),
     );
 }
 

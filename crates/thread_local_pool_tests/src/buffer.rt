@@ -46,15 +46,15 @@ pub fn measure_another<R: Wait>(pool: &Pool<Vec<u8>>, rt: &R) -> Option<(usize, 
     Some((bytes.len(), bytes.capacity()))
 }
 
-/// Puts 1000 bytes into a new buffer. Answers whether it was empty.
-fn fill_another<R: Wait>(pool: &Pool<Vec<u8>>, rt: &R) -> Option<bool> {
-    fill(pool.buffer(rt).ok()?, 1000).ok()
+/// Puts so many bytes into a new buffer. Answers whether it was empty.
+fn fill_another<R: Wait>(pool: &Pool<Vec<u8>>, rt: &R, count: usize) -> Option<bool> {
+    fill(pool.buffer(rt).ok()?, count).ok()
 }
 
 #[test]
 fn a_buffer_keeps_its_room(rt: HostRuntime) {
     let pool = Pool::new(rt.alloc());
-    let filled = fill_another(&pool, &rt);
+    let filled = fill_another(&pool, &rt, 1000);
     assert_same(
         &rt,
         (filled, another_has_room(&pool, &rt)),
@@ -132,26 +132,14 @@ fn measure_what_was_left<R: Wait>(
     Some((bytes.len(), bytes.capacity() >= room))
 }
 
-/// Puts so many bytes into the buffer of a new pool. Answers whether it was empty, and what was left
-/// when it was dropped.
-fn fill_and_measure<R: Wait>(
-    rt: &R,
-    alloc: Global,
-    count: usize,
-) -> Option<(bool, Option<(usize, bool)>)> {
-    let pool = Pool::new(alloc);
-    let was_empty = fill(pool.buffer(rt).ok()?, count).ok()?;
-    Some((was_empty, measure_what_was_left(&pool, rt, alloc, count)))
-}
-
 #[test]
 fn a_dropped_buffer_leaves_no_byte(rt: HostRuntime) {
+    let alloc = rt.alloc();
     for count in [0usize, 1, 64, 65, 100_000] {
-        assert_same(
-            &rt,
-            fill_and_measure(&rt, rt.alloc(), count),
-            Some((true, Some((0, true)))),
-        );
+        let pool = Pool::new(alloc);
+        let was_empty = fill_another(&pool, &rt, count);
+        let left = measure_what_was_left(&pool, &rt, alloc, count);
+        assert_same(&rt, (was_empty, left), (Some(true), Some((0, true))));
     }
 }
 
