@@ -1,12 +1,11 @@
 //! Claims that are sent or shared, and those of reserved buckets.
 
 use crate::same::assert_same;
-use crate::steps::{Kept, Table, left, publish_claimed, share, take_back};
+use crate::steps::{Kept, first_number, left, one_shared, publish_claimed, reserved_shared};
 use std::cell::Cell;
-use std::test::Fail;
 use std::thread;
-use thread_local_base::{Judge, Thread};
-use thread_local_buckets::Buckets;
+use std::thread::Threads;
+use thread_local_base::Judge;
 use thread_local_ids::Told;
 use thread_local_shared_buckets::{Claim, Shared};
 
@@ -17,19 +16,18 @@ impl<T: Drop> Kept<'_, T> {
     }
 }
 
+/// Publishes 7 in another thread, and answers whether it did.
+fn publish_there<R: Threads>(rt: &R, claim: Claim<'_, Cell<u64>>) -> bool {
+    let claimed = Kept { claim };
+    thread::join(rt, || claimed.publish(Cell::new(7)), || ()).0
+}
+
 #[test]
-fn a_claim_goes_to_another_thread(rt: HostRuntime) -> Result<(), Fail> {
-    let table = Table::new(rt.alloc());
+fn a_claim_goes_to_another_thread(rt: HostRuntime) {
     Cell::<u64>::judge();
-    let shared = share(Buckets::with_capacity(rt.alloc(), 1)?, &table.start);
-    let claimed = Kept {
-        claim: shared.claim(table.take(&rt)?),
-    };
-    let (published, _) = thread::join(&rt, || claimed.publish(Cell::new(7u64)), || ());
-    assert_same(&rt, published, true);
-    let value = take_back(shared).0.into_iter().next();
-    assert_same(&rt, value.map(|cell| cell.get()), Some(7));
-    Ok(())
+    let (table, shared) = reserved_shared(&rt, rt.alloc(), 1);
+    let published = publish_there(&rt, shared.claim(table.hold(&rt)));
+    assert_same(&rt, (published, first_number(shared)), (true, Some(7)));
 }
 
 /// What a claim holds, which another thread made.
@@ -37,17 +35,18 @@ fn found(claim: &Claim<'_, u32>) -> Option<u32> {
     claim.get().copied()
 }
 
-#[test]
-fn threads_share_a_claim(rt: HostRuntime) -> Result<(), Fail> {
-    let table = Table::new(rt.alloc());
-    let mut buckets = Buckets::new(rt.alloc());
-    assert_same(&rt, buckets.insert(Thread::new(0), 5u32).is_ok(), true);
-    let shared = share(buckets, &table.start);
-    let claim = shared.claim(table.take(&rt)?);
-    let both = thread::join(&rt, || found(&claim), || found(&claim));
-    assert_same(&rt, both, (Some(5), Some(5)));
+/// What two threads find in one claim, which is given up then.
+fn found_by_two<R: Threads>(rt: &R, claim: Claim<'_, u32>) -> (Option<u32>, Option<u32>) {
+    let both = thread::join(rt, || found(&claim), || found(&claim));
     claim.give_up();
-    Ok(())
+    both
+}
+
+#[test]
+fn threads_share_a_claim(rt: HostRuntime) {
+    let (table, shared, inserted) = one_shared(rt.alloc(), 5);
+    let both = found_by_two(&rt, shared.claim(table.hold(&rt)));
+    assert_same(&rt, (inserted, both), (true, (Some(5), Some(5))));
 }
 
 /// Whether the buckets 0, 2 and 3 stand.
@@ -60,22 +59,24 @@ fn stand(shared: &Shared<u32>) -> [bool; 3] {
     ]
 }
 
-#[test]
-fn reserved_buckets_stand(rt: HostRuntime) -> Result<(), Fail> {
-    let table = Table::new(rt.alloc());
-    let shared = share(Buckets::with_capacity(rt.alloc(), 4)?, &table.start);
-    assert_same(
-        &rt,
-        (shared.reserved(), stand(&shared)),
-        (7, [true, true, false]),
-    );
-    let claim = shared.claim(table.take(&rt)?);
+/// Whether a claim has found its slot vacant, and whether 1 is published there.
+fn publish_if_vacant(claim: Claim<'_, u32>) -> (bool, bool) {
     let is_vacant = !claim.is_missing() && claim.get().is_none();
-    let published = publish_claimed(claim, 1).1;
+    (is_vacant, publish_claimed(claim, 1).1)
+}
+
+#[test]
+fn reserved_buckets_stand(rt: HostRuntime) {
+    let (table, shared) = reserved_shared(&rt, rt.alloc(), 4);
+    let reserved = (shared.reserved(), stand(&shared));
+    let published = publish_if_vacant(shared.claim(table.hold(&rt)));
     assert_same(
         &rt,
-        (is_vacant, published, left(shared)),
-        (true, true, (7, [Some(1), None, None])),
+        (reserved, published, left(shared)),
+        (
+            (7, [true, true, false]),
+            (true, true),
+            (7, [Some(1), None, None]),
+        ),
     );
-    Ok(())
 }

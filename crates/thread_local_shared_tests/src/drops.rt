@@ -3,44 +3,55 @@ ghost use Rattle.std.specs.Prelude.{◌≡◌};
 ghost use Rattle.thread_local_ids.specs.Sharings.{Belongs};
 
 use crate::same::assert_same;
-use crate::steps::{Kept, Table, first_three, look, publish, share, take_back};
+use crate::steps::{
+    Kept, Table, empty_shared, first_three, look_at_three, one_shared, publish, put, share,
+    take_back,
+};
 use std::alloc::Global;
 use std::mem::forget;
+use std::process::Abort;
 use std::sync::atomic::AtomicU64;
-use std::sync::atomic::Ordering::SeqCst;
 use std::sync::{Arc, Wait};
-use std::test::Fail;
-use thread_local_base::{LocalError, Thread, judge_sync};
+use thread_local_base::{LocalError, judge_sync};
 use thread_local_buckets::Buckets;
 use thread_local_ids::HeldId;
 use thread_local_shared_buckets::Shared;
-use thread_local_test_helpers::counted::Counted;
+use thread_local_test_helpers::counted::{Counted, Drops, dropped};
+
+/// Puts a counted value at each of 100 ids. Answers how often it did.
+fn insert_counted(buckets: &mut Buckets<Counted>, drops: &Drops) -> u64 {
+    let mut inserted = 0u64;
+    for id in 0..100 {
+        let Ok(value) = Counted::new(drops) else {
+            return inserted;
+        };
+        if put(buckets, id, value) {
+            inserted = inserted.saturating_add(1);
+        }
+    }
+    inserted
+}
 
 #[test]
-fn each_value_is_dropped_once(rt: HostRuntime) -> Result<(), Fail> {
-    let drops = Arc::new(rt.alloc(), AtomicU64::new(0))?;
-    let table = Table::new(rt.alloc());
+fn each_value_is_dropped_once(rt: HostRuntime) {
+    let drops = Arc::new(rt.alloc(), AtomicU64::new(0)).expect(&rt, "memory");
     let mut buckets = Buckets::new(rt.alloc());
-    for id in 0..100 {
-        let value = Counted::new(&drops)?;
-        assert_same(&rt, buckets.insert(Thread::new(id), value).is_ok(), true);
-    }
+    let inserted = insert_counted(&mut buckets, &drops);
     judge_sync::<Counted>();
-    let shared = share(buckets, &table.start);
-    let before = drops.load(SeqCst);
+    let shared = share(buckets, &Table::new(rt.alloc()).start);
+    let before = dropped(&drops);
     drop(shared);
-    assert_same(&rt, (before, drops.load(SeqCst)), (0, 100));
-    Ok(())
+    assert_same(&rt, [inserted, before, dropped(&drops)], [100, 0, 100]);
 }
 
 /// Publishes a counted value at each of so many ids, and offers another there, which gives way.
 /// Answers how often it did.
-fn publish_counted<R: Wait>(
+fn publish_counted<R: Wait + Abort>(
     shared: &Shared<Counted>,
     table: &Table,
     rt: &R,
     alloc: Global,
-    drops: &Arc<AtomicU64, Global>,
+    drops: &Drops,
     count: u64,
 ) -> u64
     requires table { table.now.ids.table ≡ shared.now.table }
@@ -48,16 +59,9 @@ fn publish_counted<R: Wait>(
 {
     let mut published = 0u64;
     for _ in 0..count {
-        let Ok(one) = Counted::new(drops) else {
-            return published;
-        };
-        let Ok(other) = Counted::new(drops) else {
-            return published;
-        };
-        let Ok(held) = table.take(rt) else {
-            return published;
-        };
-        let (held, first) = publish(shared, held, alloc, one);
+        let one = Counted::new(drops).expect(rt, "memory");
+        let other = Counted::new(drops).expect(rt, "memory");
+        let (held, first) = publish(shared, table.hold(rt), alloc, one);
         let (_held, second) = publish(shared, held, alloc, other);
         if first && !second {
             published = published.saturating_add(1);
@@ -67,23 +71,21 @@ fn publish_counted<R: Wait>(
 }
 
 #[test]
-fn each_published_value_is_dropped_once(rt: HostRuntime) -> Result<(), Fail> {
-    let drops = Arc::new(rt.alloc(), AtomicU64::new(0))?;
-    let table = Table::new(rt.alloc());
+fn each_published_value_is_dropped_once(rt: HostRuntime) {
+    let drops = Arc::new(rt.alloc(), AtomicU64::new(0)).expect(&rt, "memory");
     judge_sync::<Counted>();
-    let shared = share(Buckets::new(rt.alloc()), &table.start);
+    let (table, shared) = empty_shared(rt.alloc());
     let published = publish_counted(&shared, &table, &rt, rt.alloc(), &drops, 100);
-    let given_way = drops.load(SeqCst);
+    let given_way = dropped(&drops);
     let mut values = take_back(shared).0.into_iter();
     drop(values.next());
-    let taken = drops.load(SeqCst);
+    let taken = dropped(&drops);
     drop(values);
     assert_same(
         &rt,
-        [published, given_way, taken, drops.load(SeqCst)],
+        [published, given_way, taken, dropped(&drops)],
         [100, 100, 101, 200],
     );
-    Ok(())
 }
 
 /// What a new claim holds, which is forgotten then.
@@ -122,12 +124,9 @@ fn forget_two<R: Wait>(
 // then makes.
 #[test]
 fn a_forgotten_claim_costs_its_own_slot(rt: HostRuntime) {
-    let table = Table::new(rt.alloc());
-    let mut buckets = Buckets::new(rt.alloc());
-    let inserted = buckets.insert(Thread::new(0), 5u32).is_ok();
-    let shared = share(buckets, &table.start);
+    let (table, shared, inserted) = one_shared(rt.alloc(), 5);
     let told = forget_two(&shared, &table, &rt, rt.alloc()).ok();
-    let seen = [look(&shared, 0), look(&shared, 1), look(&shared, 2)];
+    let seen = look_at_three(&shared);
     let left = first_three(take_back(shared).0);
     assert_same(
         &rt,

@@ -4,15 +4,16 @@ ghost use Rattle.thread_local_base.specs.Judged.{Judged};
 ghost use Rattle.thread_local_ids.specs.Sharings.{Belongs};
 
 use crate::same::assert_same;
-use crate::steps::{Table, look, publish, share, take_back};
+use crate::steps::{
+    empty_shared, first_number, look, look_at_three, one_shared, publish, put, take_back,
+};
 use std::alloc::Global;
 use std::cell::{Cell, RefCell};
+use std::process::Abort;
 use std::sync::Wait;
-use std::test::Fail;
 use std::thread;
 use std::thread::Threads;
-use thread_local_base::{Judge, Thread, judge_sync};
-use thread_local_buckets::Buckets;
+use thread_local_base::{Judge, judge_sync};
 use thread_local_ids::HeldId;
 use thread_local_shared_buckets::Shared;
 
@@ -52,70 +53,75 @@ fn look_while_claimed<R: Threads>(
     (own, seen)
 }
 
-#[test]
-fn a_number_is_handed_on_from_thread_to_thread(rt: HostRuntime) -> Result<(), Fail> {
-    let table = Table::new(rt.alloc());
-    Cell::<u64>::judge();
-    let shared = share(Buckets::new(rt.alloc()), &table.start);
-    let held = table.take(&rt)?;
-    let alloc = rt.alloc();
-    let there = &shared;
-    let first = || publish(there, held, alloc, Cell::new(7));
-    let (first, _) = thread::join(&rt, first, || ());
+/// One thread publishes 7, and the next adds 5 to it. Answers whether the first did, and what the
+/// second found.
+fn hand_on<R: Threads>(
+    rt: &R,
+    shared: &Shared<Cell<u64>>,
+    held: HeldId,
+    alloc: Global,
+) -> (bool, Option<u64>)
+    requires held { held.right.table ≡ shared.now.table }
+    requires sharing { Belongs shared.now.sharing shared.now.table }
+{
+    let first = || publish(shared, held, alloc, Cell::new(7));
+    let (first, _) = thread::join(rt, first, || ());
     let (held, published) = first;
-    let (second, _) = thread::join(&rt, || add(there, held, 5), || ());
-    let found = second.1;
-    let left = take_back(shared).0.into_iter().next();
-    assert_same(
-        &rt,
-        (published, found, left.map(|cell| cell.get())),
-        (true, Some(7), Some(12)),
-    );
-    Ok(())
+    let (second, _) = thread::join(rt, || add(shared, held, 5), || ());
+    (published, second.1)
 }
 
 #[test]
-fn a_walker_sees_a_value_that_is_claimed(rt: HostRuntime) -> Result<(), Fail> {
-    let table = Table::new(rt.alloc());
-    let mut buckets = Buckets::new(rt.alloc());
-    assert_same(&rt, buckets.insert(Thread::new(0), 9).is_ok(), true);
-    let mut shared = share(buckets, &table.start);
-    let held = table.take(&rt)?;
-    let (own, seen) = look_while_claimed(&rt, &shared, held);
-    assert_same(&rt, [own, seen, look(&shared, 1)], [Some(9), Some(9), None]);
-    assert_same(&rt, shared.owner().insert(Thread::new(1), 4).is_ok(), true);
-    let seen = [look(&shared, 0), look(&shared, 1), look(&shared, 2)];
-    assert_same(&rt, seen, [Some(9), Some(4), None]);
-    Ok(())
+fn a_number_is_handed_on_from_thread_to_thread(rt: HostRuntime) {
+    Cell::<u64>::judge();
+    let (table, shared) = empty_shared(rt.alloc());
+    let (published, found) = hand_on(&rt, &shared, table.hold(&rt), rt.alloc());
+    assert_same(
+        &rt,
+        (published, found, first_number(shared)),
+        (true, Some(7), Some(12)),
+    );
+}
+
+#[test]
+fn a_walker_sees_a_value_that_is_claimed(rt: HostRuntime) {
+    let (table, mut shared, first) = one_shared(rt.alloc(), 9);
+    let (own, seen) = look_while_claimed(&rt, &shared, table.hold(&rt));
+    let before = [own, seen, look(&shared, 1)];
+    let second = put(shared.owner(), 1, 4);
+    assert_same(
+        &rt,
+        ([first, second], before, look_at_three(&shared)),
+        (
+            [true; 2],
+            [Some(9), Some(9), None],
+            [Some(9), Some(4), None],
+        ),
+    );
 }
 
 /// Publishes a value in shared buckets of its own, and takes it back out of them. Answers whether
 /// there is one.
-fn comes_back<R: Wait, T: Send + Drop>(rt: &R, alloc: Global, value: T) -> bool
+fn comes_back<R: Wait + Abort, T: Send + Drop>(rt: &R, alloc: Global, value: T) -> bool
     requires judged { Judged T.row }
 {
-    let table = Table::new(alloc);
-    let shared = share(Buckets::new(alloc), &table.start);
-    let Ok(held) = table.take(rt) else {
-        return false;
-    };
-    let (_held, published) = publish(&shared, held, alloc, value);
+    let (table, shared) = empty_shared(alloc);
+    let published = publish(&shared, table.hold(rt), alloc, value).1;
     published && take_back(shared).0.into_iter().next().is_some()
 }
 
 #[test]
-fn values_of_any_type_come_back(rt: HostRuntime) -> Result<(), Fail> {
+fn values_of_any_type_come_back(rt: HostRuntime) {
     let alloc = rt.alloc();
     judge_sync::<String>();
     Cell::<u64>::judge();
     RefCell::<String>::judge();
     let come_back = [
         comes_back(&rt, alloc, 7u32),
-        comes_back(&rt, alloc, Box::new(alloc, 7u32)?),
+        comes_back(&rt, alloc, Box::new(alloc, 7u32).expect(&rt, "memory")),
         comes_back(&rt, alloc, String::new(alloc)),
         comes_back(&rt, alloc, Cell::new(7u64)),
         comes_back(&rt, alloc, RefCell::new(String::new(alloc))),
     ];
     assert_same(&rt, come_back, [true; 5]);
-    Ok(())
 }

@@ -5,13 +5,13 @@ ghost use Rattle.thread_local_ids.specs.Sharings.{Belongs};
 ghost use Rattle.thread_local_base.specs.Place.{bucket_of};
 
 use crate::same::assert_same;
-use crate::steps::{Kept, Table, left, look, share, take_back};
+use crate::steps::{Kept, Table, empty_shared, left, look, take_back};
 use std::alloc::Global;
 use std::cell::{Cell, RefCell};
+use std::process::Abort;
 use std::sync::Wait;
-use std::test::Fail;
 use thread_local_base::{Thread, bucket_size};
-use thread_local_buckets::{Block, Buckets};
+use thread_local_buckets::Block;
 use thread_local_ids::HeldId;
 use thread_local_shared_buckets::{Claim, Shared};
 use thread_local_test_helpers::memory::take_all_but;
@@ -59,9 +59,34 @@ fn claim_early<T>(shared: &Shared<T>, held: HeldId) -> Kept<'_, T>
     }
 }
 
+/// Takes the ids 0 to 2, and claims 1 and 2, whose bucket is missing then.
+fn claim_two<'a, R: Wait + Abort>(
+    rt: &R,
+    table: &Table,
+    shared: &'a Shared<u32>,
+) -> (Kept<'a, u32>, Kept<'a, u32>)
+    requires table { table.now.ids.table ≡ shared.now.table }
+    requires sharing { Belongs shared.now.sharing shared.now.table }
+{
+    let _first = table.hold(rt);
+    let second = claim_early(shared, table.hold(rt));
+    (second, claim_early(shared, table.hold(rt)))
+}
+
+/// Offers a block with a value by each claim. Answers how often it did.
+fn offer_by_each(claims: Vec<Kept<'_, u64>>, alloc: &Global) -> u64 {
+    let mut offered = 0u64;
+    for claim in claims {
+        if claim.offer(alloc, offered) {
+            offered = offered.saturating_add(1);
+        }
+    }
+    offered
+}
+
 /// Takes `count` ids and claims them, and then offers a block with a value by each claim. Answers how
 /// often it did.
-fn offer_by_all<R: Wait>(
+fn offer_by_all<R: Wait + Abort>(
     shared: &Shared<u64>,
     table: &Table,
     rt: &R,
@@ -71,28 +96,13 @@ fn offer_by_all<R: Wait>(
     requires table { table.now.ids.table ≡ shared.now.table }
     requires sharing { Belongs shared.now.sharing shared.now.table }
 {
-    let mut offered = 0u64;
-    let Ok(heap) = alloc.clone() else {
-        return offered;
-    };
-    let mut claims = Vec::new(heap);
+    let mut claims = Vec::new(*alloc);
     for _ in 0..count {
-        let Ok(held) = table.take(rt) else {
-            return offered;
-        };
-        if claims.push(claim_early(shared, held)).is_err() {
-            return offered;
+        if claims.push(claim_early(shared, table.hold(rt))).is_err() {
+            return 0;
         }
     }
-    for _ in 0..count {
-        let Some(claim) = claims.pop() else {
-            return offered;
-        };
-        if claim.offer(alloc, offered) {
-            offered = offered.saturating_add(1);
-        }
-    }
-    offered
+    offer_by_each(claims, alloc)
 }
 
 /// How many slots an owner has then, and how many values.
@@ -105,14 +115,13 @@ fn slots_and_values(shared: Shared<u64>) -> (usize, usize) {
 // come second would hold more than 8 GB if none were freed, where 1 GiB is left. Their values are
 // published in the block that came first.
 #[test]
-fn blocks_that_come_second_are_freed(rt: HostRuntime) -> Result<(), Fail> {
-    let table = Table::new(rt.alloc());
-    let shared = share(Buckets::new(rt.alloc()), &table.start);
+fn blocks_that_come_second_are_freed(rt: HostRuntime) {
+    let (table, shared) = empty_shared(rt.alloc());
     for _ in 0..1_048_575 {
-        let _held = table.take(&rt)?;
+        let _held = table.hold(&rt);
     }
     let alloc = rt.alloc();
-    let taken = take_all_but(alloc, 1 << 30)?;
+    let taken = take_all_but(alloc, 1 << 30).expect(&rt, "memory");
     let offered = offer_by_all(&shared, &table, &rt, &alloc, 1000);
     drop(taken);
     assert_same(
@@ -120,7 +129,6 @@ fn blocks_that_come_second_are_freed(rt: HostRuntime) -> Result<(), Fail> {
         (offered, slots_and_values(shared)),
         (1000, (1_048_576, 1000)),
     );
-    Ok(())
 }
 
 /// Offers a block with a value by a claim. Answers what walkers find at the ids 1 and 2 then, and what
@@ -171,20 +179,18 @@ fn offer_two(
 // Both blocks are made before the first is installed, which publishes its value. The second value is
 // published in the first's block.
 #[test]
-fn the_second_of_two_blocks_gives_way(rt: HostRuntime) -> Result<(), Fail> {
-    let table = Table::new(rt.alloc());
-    let shared = share(Buckets::new(rt.alloc()), &table.start);
-    let _first = table.take(&rt)?;
-    let second = claim_early(&shared, table.take(&rt)?);
-    let third = claim_early(&shared, table.take(&rt)?);
+fn the_second_of_two_blocks_gives_way(rt: HostRuntime) {
+    let (table, shared) = empty_shared(rt.alloc());
+    let (second, third) = claim_two(&rt, &table, &shared);
     let offered = offer_two(&shared, second, third, &rt.alloc());
     assert_same(
         &rt,
-        offered,
-        Some([[Some(1), None, Some(1)], [Some(1), Some(2), Some(2)]]),
+        (offered, left(shared)),
+        (
+            Some([[Some(1), None, Some(1)], [Some(1), Some(2), Some(2)]]),
+            (2, [Some(1), Some(2), None]),
+        ),
     );
-    assert_same(&rt, left(shared), (2, [Some(1), Some(2), None]));
-    Ok(())
 }
 
 /// Fills a slot by a claim that found its bucket missing. Answers whether it did.
@@ -200,12 +206,9 @@ fn publish_late(early: Kept<'_, u32>, alloc: Global, value: u32) -> bool {
 }
 
 #[test]
-fn an_early_claim_finds_its_bucket_later(rt: HostRuntime) -> Result<(), Fail> {
-    let table = Table::new(rt.alloc());
-    let shared = share(Buckets::new(rt.alloc()), &table.start);
-    let _first = table.take(&rt)?;
-    let second = claim_early(&shared, table.take(&rt)?);
-    let third = claim_early(&shared, table.take(&rt)?);
+fn an_early_claim_finds_its_bucket_later(rt: HostRuntime) {
+    let (table, shared) = empty_shared(rt.alloc());
+    let (second, third) = claim_two(&rt, &table, &shared);
     let offered = third.offer(&rt.alloc(), 7);
     let published = publish_late(second, rt.alloc(), 5);
     assert_same(
@@ -213,7 +216,6 @@ fn an_early_claim_finds_its_bucket_later(rt: HostRuntime) -> Result<(), Fail> {
         (offered, published, look(&shared, 1), look(&shared, 2)),
         (true, true, Some(5), Some(7)),
     );
-    Ok(())
 }
 
 /// Whether a claim that found its bucket missing asks for no block, and publishes a value.
@@ -237,17 +239,16 @@ fn publish_in_room(early: Kept<'_, u32>, alloc: &Global, value: u32) -> bool {
 }
 
 #[test]
-fn an_early_claim_makes_no_block_where_its_bucket_stands(rt: HostRuntime) -> Result<(), Fail> {
-    let table = Table::new(rt.alloc());
-    let shared = share(Buckets::new(rt.alloc()), &table.start);
-    let _first = table.take(&rt)?;
-    let second = claim_early(&shared, table.take(&rt)?);
-    let third = claim_early(&shared, table.take(&rt)?);
+fn an_early_claim_makes_no_block_where_its_bucket_stands(rt: HostRuntime) {
+    let (table, shared) = empty_shared(rt.alloc());
+    let (second, third) = claim_two(&rt, &table, &shared);
     let offered = third.offer(&rt.alloc(), 7);
     let published = publish_in_room(second, &rt.alloc(), 5);
-    assert_same(&rt, (offered, published), (true, true));
-    assert_same(&rt, left(shared), (2, [Some(5), Some(7), None]));
-    Ok(())
+    assert_same(
+        &rt,
+        (offered, published, left(shared)),
+        (true, true, (2, [Some(5), Some(7), None])),
+    );
 }
 
 /// Makes room for a value by a claim, and frees the block. Answers whether there was one, and whether
@@ -272,13 +273,11 @@ fn make_and_release(early: Kept<'_, u32>, alloc: &Global) -> [bool; 2] {
 }
 
 #[test]
-fn room_for_a_value_installs_nothing(rt: HostRuntime) -> Result<(), Fail> {
-    let table = Table::new(rt.alloc());
-    let shared = share(Buckets::new(rt.alloc()), &table.start);
-    let first = claim_early(&shared, table.take(&rt)?);
+fn room_for_a_value_installs_nothing(rt: HostRuntime) {
+    let (table, shared) = empty_shared(rt.alloc());
+    let first = claim_early(&shared, table.hold(&rt));
     let made = make_and_release(first, &rt.alloc());
     assert_same(&rt, (made, left(shared)), ([true; 2], (0, [None; 3])));
-    Ok(())
 }
 
 /// Whether there is memory for a block of `len` slots.

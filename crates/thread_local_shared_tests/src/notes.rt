@@ -7,10 +7,11 @@ ghost use Rattle.thread_local_base.specs.IdMoves.{held_after, published_in};
 ghost use Rattle.thread_local_ids.specs.Sharings.{Belongs, IsFirst, left_of};
 
 use crate::same::assert_same;
-use crate::steps::{Table, begun, first_three, left, look, share, take_back};
-use crate::tokens::told;
-use std::test::Fail;
-use thread_local_base::Thread;
+use crate::steps::{Table, begun, first_three, left, look, put, share, take_back};
+use crate::tokens::told_anew;
+use std::alloc::Global;
+use std::process::Abort;
+use std::sync::Wait;
 use thread_local_buckets::Buckets;
 use thread_local_ids::{Book, HeldId, Page, SharedIds};
 use thread_local_shared_buckets::Shared;
@@ -48,24 +49,36 @@ fn ended<T>(shared: Shared<T>, ids: SharedIds, page: &Page) -> (Buckets<T>, Book
     (buckets, book)
 }
 
+/// Publishes 7 at a new id, and gives that back. Answers the id, that of the token, and the page.
+fn noted<R: Wait + Abort>(
+    rt: &R,
+    table: &Table,
+    shared: &Shared<u32>,
+    alloc: Global,
+) -> ((usize, usize), Page)
+    requires table { table.now.ids.table ≡ shared.now.table }
+    requires sharing { Belongs shared.now.sharing shared.now.table }
+    ensures { result.1.table ≡ shared.now.table }
+{
+    let (held, token) = told_anew(rt, table, shared, alloc, 7);
+    let ids = (held.id, token.id());
+    (ids, table.ids.give(rt, held))
+}
+
 #[test]
-fn a_note_says_what_the_next_holder_finds(rt: HostRuntime) -> Result<(), Fail> {
+fn a_note_says_what_the_next_holder_finds(rt: HostRuntime) {
     let (table, shared) = begun(rt.alloc());
-    let (held, token) = told(&shared, table.take(&rt)?, rt.alloc(), 7u32);
-    let token = token.expect(&rt, "a token");
-    assert_same(&rt, (held.id, token.id()), (0, 0));
-    let page = table.ids.give(&rt, held);
+    let (ids, page) = noted(&rt, &table, &shared, rt.alloc());
     let seen = [
-        found(&shared, table.take(&rt)?),
-        found(&shared, table.take(&rt)?),
+        found(&shared, table.hold(&rt)),
+        found(&shared, table.hold(&rt)),
     ];
-    let (buckets, _book) = ended(shared, table.into_ids(), &page);
+    let left = first_three(ended(shared, table.into_ids(), &page).0);
     assert_same(
         &rt,
-        (seen, first_three(buckets)),
-        ([Some(7), None], [Some(7), None, None]),
+        (ids, seen, left),
+        ((0, 0), [Some(7), None], [Some(7), None, None]),
     );
-    Ok(())
 }
 
 /// Drops all values, and answers the other table that has the buckets then, in its first sharing.
@@ -81,24 +94,33 @@ fn cleared<T: Drop>(table: Table, shared: &mut Shared<T>) -> Table
     table
 }
 
+/// Puts a value at each of two ids, the first in a bucket that is reserved. Answers whether it did.
+fn with_two<R: Abort>(rt: &R, alloc: Global) -> (Buckets<u32>, [bool; 2]) {
+    let mut buckets = Buckets::with_capacity(alloc, 4).expect(rt, "memory");
+    let inserted = [put(&mut buckets, 0, 5), put(&mut buckets, 1234, 6)];
+    (buckets, inserted)
+}
+
+/// What a walker finds at the two ids.
+fn look_at_two(shared: &Shared<u32>) -> [Option<u32>; 2] {
+    [look(shared, 0), look(shared, 1234)]
+}
+
 #[test]
-fn cleared_buckets_are_those_of_a_new_table(rt: HostRuntime) -> Result<(), Fail> {
+fn cleared_buckets_are_those_of_a_new_table(rt: HostRuntime) {
+    let (buckets, inserted) = with_two(&rt, rt.alloc());
     let table = Table::new(rt.alloc());
-    let mut buckets = Buckets::with_capacity(rt.alloc(), 4)?;
-    let inserted = [
-        buckets.insert(Thread::new(0), 5u32).is_ok(),
-        buckets.insert(Thread::new(1234), 6).is_ok(),
-    ];
     let mut shared = share(buckets, &table.start);
-    let before = [look(&shared, 0), look(&shared, 1234)];
+    let before = look_at_two(&shared);
     let table = cleared(table, &mut shared);
-    let after = [look(&shared, 0), look(&shared, 1234)];
-    let seen = found(&shared, table.take(&rt)?);
-    assert_same(&rt, (inserted, before), ([true; 2], [Some(5), Some(6)]));
+    let after = look_at_two(&shared);
+    let seen = found(&shared, table.hold(&rt));
     assert_same(
         &rt,
-        (after, seen, left(shared)),
-        ([None; 2], None, (7, [None; 3])),
+        ((inserted, before), (after, seen, left(shared))),
+        (
+            ([true; 2], [Some(5), Some(6)]),
+            ([None; 2], None, (7, [None; 3])),
+        ),
     );
-    Ok(())
 }

@@ -5,6 +5,8 @@ ghost use Rattle.thread_local_ids.specs.Sharings.{Belongs, IsFirst, first_of};
 ghost use Rattle.thread_local_base.specs.Bits.{is_set};
 
 use std::alloc::Global;
+use std::cell::Cell;
+use std::process::Abort;
 use std::sync::Wait;
 use thread_local_base::{LocalError, Thread, bucket_size};
 use thread_local_buckets::{Buckets, flag_word_at};
@@ -58,6 +60,13 @@ impl Table {
     {
         self.ids.take(rt, &mut self.start.again())
     }
+
+    /// The same, where the test ends if there is none.
+    pub fn hold<R: Wait + Abort>(&self, rt: &R) -> HeldId
+        ensures { result.right.table ≡ self.now.ids.table }
+    {
+        self.take(rt).expect(rt, "an id")
+    }
 }
 
 /// A new table whose buckets have no value, in its first sharing.
@@ -74,6 +83,13 @@ pub fn begun<T>(alloc: Global) -> (Table, Shared<T>)
     (table, shared)
 }
 
+/// Puts a value at an id, and answers whether there was memory.
+pub fn put<T: Drop>(buckets: &mut Buckets<T>, id: usize, value: T) -> bool
+    requires { id < 2 ^ 63 - 1 }
+{
+    buckets.insert(Thread::new(id), value).is_ok()
+}
+
 /// Lets threads share an owner's buckets. The sharing may have any name.
 pub fn share<T>(buckets: Buckets<T>, page: &Page) -> Shared<T>
     requires judged { Judged T.row }
@@ -84,6 +100,47 @@ pub fn share<T>(buckets: Buckets<T>, page: &Page) -> Shared<T>
 {
     let (pointers, reserved) = buckets.into_parts();
     Shared::new(pointers, reserved, page)
+}
+
+/// A new table whose buckets have no value, in a sharing of any name.
+pub fn empty_shared<T>(alloc: Global) -> (Table, Shared<T>)
+    requires judged { Judged T.row }
+    ensures table { result.1.table ≡ result.0.ids.table }
+    ensures sharing { IsSome result.1.sharing }
+    ensures belongs { Belongs result.1.sharing result.1.table }
+{
+    let table = Table::new(alloc);
+    let shared = share(Buckets::new(alloc), &table.start);
+    (table, shared)
+}
+
+/// The same with the buckets of a capacity.
+pub fn reserved_shared<R: Abort, T: Drop>(
+    rt: &R,
+    alloc: Global,
+    capacity: usize,
+) -> (Table, Shared<T>)
+    requires judged { Judged T.row }
+    ensures table { result.1.table ≡ result.0.ids.table }
+    ensures sharing { IsSome result.1.sharing }
+    ensures belongs { Belongs result.1.sharing result.1.table }
+{
+    let buckets = Buckets::with_capacity(alloc, capacity).expect(rt, "memory");
+    let table = Table::new(alloc);
+    let shared = share(buckets, &table.start);
+    (table, shared)
+}
+
+/// The same where an owner put a value at id 0 before. Answers whether it did.
+pub fn one_shared(alloc: Global, value: u32) -> (Table, Shared<u32>, bool)
+    ensures table { result.1.table ≡ result.0.ids.table }
+    ensures belongs { Belongs result.1.sharing result.1.table }
+{
+    let mut buckets = Buckets::new(alloc);
+    let is_put = put(&mut buckets, 0, value);
+    let table = Table::new(alloc);
+    let shared = share(buckets, &table.start);
+    (table, shared, is_put)
 }
 
 /// Gives the buckets back to an owner, with what the slots were published with.
@@ -159,6 +216,14 @@ pub fn left(shared: Shared<u32>) -> (usize, [Option<u32>; 3]) {
     (buckets.slots(), first_three(buckets))
 }
 
+/// What is in the first cell of an owner's walk.
+pub fn first_number<T: Copy>(shared: Shared<Cell<T>>) -> Option<T> {
+    match take_back(shared).0.into_iter().next() {
+        Some(cell) => Some(cell.get()),
+        None => None,
+    }
+}
+
 /// Whether a bit of a word is set.
 pub fn has_bit(word: u64, bit: usize) -> bool
     requires { bit < 64 }
@@ -183,4 +248,9 @@ pub fn look(shared: &Shared<u32>, id: usize) -> Option<u32>
     }
     let (_, value) = seen.give(bit, id);
     Some(*value)
+}
+
+/// What a walker finds at the ids 0, 1 and 2.
+pub fn look_at_three(shared: &Shared<u32>) -> [Option<u32>; 3] {
+    [look(shared, 0), look(shared, 1), look(shared, 2)]
 }

@@ -5,10 +5,11 @@ ghost use Rattle.thread_local_base.specs.Buckets.{values};
 ghost use Rattle.thread_local_base.specs.Learnt.{Vacant};
 
 use crate::same::assert_same;
-use crate::steps::{Table, publish, share, take_back};
+use crate::steps::{Table, empty_shared, first_number, publish, reserved_shared, share, take_back};
 use std::alloc::Global;
 use std::cell::Cell;
-use std::test::Fail;
+use std::process::Abort;
+use std::sync::Wait;
 use thread_local_base::{Judge, Thread, judge_sync};
 use thread_local_buckets::Buckets;
 use thread_local_ids::{HeldId, Page, Token, Told};
@@ -36,6 +37,23 @@ pub(crate) fn told<T: Drop>(
     let claim = shared.claim(held);
     let token = claim.token();
     (claim.give_up(), token)
+}
+
+/// Publishes a value at a new id, and answers a token of what the slot was published with.
+pub(crate) fn told_anew<R: Wait + Abort>(
+    rt: &R,
+    table: &Table,
+    shared: &Shared<u32>,
+    alloc: Global,
+    value: u32,
+) -> (HeldId, Token<u32>)
+    requires table { table.now.ids.table ≡ shared.now.table }
+    requires sharing { Belongs shared.now.sharing shared.now.table }
+    ensures table { result.0.right.table ≡ shared.now.table }
+    ensures token { (result.1.sharing ≡ shared.now.sharing) × (result.1.id ≡ result.0.id) }
+{
+    let (held, token) = told(shared, table.hold(rt), alloc, value);
+    (held, token.expect(rt, "a token"))
 }
 
 /// A value is published in a vacant slot, and the token says it.
@@ -92,6 +110,17 @@ fn read<'a, T: Sync>(shared: &'a Shared<T>, token: &Token<T>) -> &'a T
     shared.bucket(place.bucket).value(place.index, token)
 }
 
+/// What any thread reads by a token, if there is one.
+fn read_if_told<'a, T: Sync>(shared: &'a Shared<T>, token: Option<Token<T>>) -> Option<&'a T>
+    requires token { IfSome token (λ token. token.sharing ≡ shared.now.sharing) }
+    requires named { IsSome shared.now.sharing }
+{
+    match token {
+        Some(token) => Some(read(shared, &token)),
+        None => None,
+    }
+}
+
 /// Another sharing has a name, which isn't that of the one before.
 fn renewed<T>(shared: &mut Shared<T>)
     ensures table { shared.new.table ≡ shared.old.table }
@@ -127,54 +156,66 @@ fn found_by_two(
     ]
 }
 
+/// What any thread reads by two tokens, and their ids.
+fn read_by_two(
+    shared: &Shared<u32>,
+    one: &Token<u32>,
+    other: &Token<u32>,
+) -> ((u32, u32), (usize, usize))
+    requires one { (shared.now.sharing ≡ one.now.sharing) × IsSome shared.now.sharing }
+    requires other { shared.now.sharing ≡ other.now.sharing }
+{
+    are_one(one, &one.again());
+    let read = (*read(shared, &one.again()), *read(shared, other));
+    (read, (one.id(), other.id()))
+}
+
 #[test]
-fn a_token_says_what_was_published(rt: HostRuntime) -> Result<(), Fail> {
-    let table = Table::new(rt.alloc());
-    let shared = share(Buckets::new(rt.alloc()), &table.start);
-    let (held, token) = told(&shared, table.take(&rt)?, rt.alloc(), 7u32);
-    let token = token.expect(&rt, "a token");
+fn a_token_says_what_was_published(rt: HostRuntime) {
+    let (table, shared) = empty_shared(rt.alloc());
+    let (held, token) = told_anew(&rt, &table, &shared, rt.alloc(), 7);
     let seen = held_again(&shared, held, &token);
-    let (_, other) = told(&shared, table.take(&rt)?, rt.alloc(), 8);
-    let other = other.expect(&rt, "a token");
-    are_one(&token, &token.again());
-    let read = (*read(&shared, &token.again()), *read(&shared, &other));
-    let ids = (token.id(), other.id());
+    let (_, other) = told_anew(&rt, &table, &shared, rt.alloc(), 8);
+    let (read, ids) = read_by_two(&shared, &token, &other);
     let found = found_by_two(owned(shared, &token, &other), &token, &other);
     assert_same(
         &rt,
         (seen, read, ids, found),
         ((7, Some(0)), (7, 8), (0, 1), [Some(7), Some(8)]),
     );
-    Ok(())
 }
 
-#[test]
-fn a_vacant_slot_has_no_token(rt: HostRuntime) -> Result<(), Fail> {
-    let table = Table::new(rt.alloc());
-    let shared = share::<u32>(Buckets::with_capacity(rt.alloc(), 1)?, &table.start);
-    let mut claim = shared.claim(table.take(&rt)?);
-    let before = claim.token().is_none();
-    let after = if claim.is_missing() || claim.get().is_some() {
-        None
-    } else {
-        settled(&mut claim, 5)
-    };
-    let after = after.map(|token| *read(&shared, &token));
+/// Whether a claim has no token, and that of the value that it publishes where its slot is vacant.
+fn settled_if_vacant(claim: Claim<'_, u32>, value: u32) -> (bool, Option<Token<u32>>)
+    ensures { IfSome result.1 (λ token. token.sharing ≡ claim.entry.sharing) }
+{
+    let mut claim = claim;
+    let has_none = claim.token().is_none();
+    if claim.is_missing() || claim.get().is_some() {
+        claim.give_up();
+        return (has_none, None);
+    }
+    let token = settled(&mut claim, value);
     claim.give_up();
-    assert_same(&rt, (before, after), (true, Some(5)));
-    Ok(())
+    (has_none, token)
 }
 
 #[test]
-fn a_text_is_read_by_its_token(rt: HostRuntime) -> Result<(), Fail> {
-    let table = Table::new(rt.alloc());
+fn a_vacant_slot_has_no_token(rt: HostRuntime) {
+    let (table, shared) = reserved_shared(&rt, rt.alloc(), 1);
+    let (before, token) = settled_if_vacant(shared.claim(table.hold(&rt)), 5);
+    let after = read_if_told(&shared, token).copied();
+    assert_same(&rt, (before, after), (true, Some(5)));
+}
+
+#[test]
+fn a_text_is_read_by_its_token(rt: HostRuntime) {
     judge_sync::<String>();
-    let shared = share(Buckets::new(rt.alloc()), &table.start);
+    let (table, shared) = empty_shared(rt.alloc());
     let text = String::new(rt.alloc());
-    let (_, token) = told(&shared, table.take(&rt)?, rt.alloc(), text);
-    let len = token.map(|token| read(&shared, &token).len());
+    let (_, token) = told(&shared, table.hold(&rt), rt.alloc(), text);
+    let len = read_if_told(&shared, token).map(|text| text.len());
     assert_same(&rt, len, Some(0));
-    Ok(())
 }
 
 /// Cells that threads hand on, in no bucket yet.
@@ -186,16 +227,27 @@ fn cells(alloc: Global, page: &Page) -> Shared<Cell<u32>>
     share(Buckets::new(alloc), page)
 }
 
+/// Offers 3 before another sharing begins, and 4 in that. Answers whether there are tokens.
+fn told_and_renewed(shared: &mut Shared<Cell<u32>>, held: HeldId, alloc: Global) -> (bool, bool)
+    requires held { held.right.table ≡ shared.old.table }
+    requires sharing { Belongs shared.old.sharing shared.old.table }
+    ensures { shared.new.table ≡ shared.old.table }
+{
+    let (held, first) = told(shared, held, alloc, Cell::new(3));
+    renewed(shared);
+    let (_, second) = told(shared, held, alloc, Cell::new(4));
+    (first.is_some(), second.is_some())
+}
+
 #[test]
-fn renewed_buckets_keep_their_values(rt: HostRuntime) -> Result<(), Fail> {
+fn renewed_buckets_keep_their_values(rt: HostRuntime) {
     let table = Table::new(rt.alloc());
     let mut shared = cells(rt.alloc(), &table.start);
-    let (held, first) = told(&shared, table.take(&rt)?, rt.alloc(), Cell::new(3));
-    renewed(&mut shared);
-    let (_, second) = told(&shared, held, rt.alloc(), Cell::new(4));
+    let told = told_and_renewed(&mut shared, table.hold(&rt), rt.alloc());
     let slots = shared.slots_reached(&table.start, &Told::new()).0;
-    let values = take_back(shared).0.into_iter().next().map(|c| c.get());
-    assert_same(&rt, (first.is_some(), second.is_some()), (true, true));
-    assert_same(&rt, (slots, values), (1, Some(3)));
-    Ok(())
+    assert_same(
+        &rt,
+        (told, (slots, first_number(shared))),
+        ((true, true), (1, Some(3))),
+    );
 }

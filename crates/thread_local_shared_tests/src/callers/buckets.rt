@@ -3,12 +3,12 @@ ghost use Rattle.std.specs.Prelude.{◌≡◌, ◌^◌, ◌<◌, ◌≤◌};
 ghost use Rattle.thread_local_base.specs.Judged.{Judged};
 
 use crate::same::assert_same;
-use crate::steps::{Table, has_bit, share, take_back};
-use std::alloc::{AllocError, Global};
+use crate::steps::{Table, has_bit, put, share, take_back};
+use std::alloc::Global;
 use std::cell::{Cell, RefCell};
-use std::test::Fail;
-use thread_local_base::{Judge, Thread, bucket_size, judge_sync};
-use thread_local_buckets::{Buckets, CapacityError, flag_word_at};
+use std::process::Abort;
+use thread_local_base::{Judge, bucket_size, judge_sync};
+use thread_local_buckets::{Buckets, flag_word_at};
 use thread_local_ids::{Page, Token, Told};
 use thread_local_shared_buckets::{Row, Shared, SharedBucket};
 
@@ -116,23 +116,27 @@ fn bucket_crosses(bucket: &SharedBucket<RefCell<String>>) {
     crosses(bucket)
 }
 
+/// Buckets of a capacity of 8.
+fn of_eight<R: Abort, T: Drop>(rt: &R, alloc: Global) -> Buckets<T> {
+    Buckets::with_capacity(alloc, 8).expect(rt, "memory")
+}
+
 /// How many slots are reserved in shared buckets of a capacity of 8, at four types.
-fn reserved_at_types(alloc: Global) -> Result<[usize; 4], CapacityError> {
+fn reserved_at_types<R: Abort>(rt: &R, alloc: Global) -> [usize; 4] {
     let page = Table::new(alloc).start;
-    Ok([
-        number(Buckets::with_capacity(alloc, 8)?, &page).reserved(),
-        boxed(Buckets::with_capacity(alloc, 8)?, &page).reserved(),
-        ref_cell(Buckets::with_capacity(alloc, 8)?, &page).reserved(),
-        sync::<u8>(Buckets::with_capacity(alloc, 8)?, &page).reserved(),
-    ])
+    let numbers = number(of_eight(rt, alloc), &page).reserved();
+    let boxes = boxed(of_eight(rt, alloc), &page).reserved();
+    let cells = ref_cell(of_eight(rt, alloc), &page).reserved();
+    let bytes = sync::<u8>(of_eight(rt, alloc), &page).reserved();
+    [numbers, boxes, cells, bytes]
 }
 
 /// Whether bucket 3 stands in shared buckets of cells, of a capacity of 8.
-fn has_cell_row(alloc: Global) -> Result<bool, CapacityError> {
+fn has_cell_row<R: Abort>(rt: &R, alloc: Global) -> bool {
     let page = Table::new(alloc).start;
-    let shared = cell(Buckets::with_capacity(alloc, 8)?, &page);
+    let shared = cell(of_eight(rt, alloc), &page);
     bucket_crosses_of(alloc, &page);
-    Ok(cell_row(&shared).is_some())
+    cell_row(&shared).is_some()
 }
 
 /// Looks at a bucket of texts in cells.
@@ -141,39 +145,42 @@ fn bucket_crosses_of(alloc: Global, page: &Page) {
 }
 
 /// How many slots threads, an owner and a later owner count in buckets of a capacity of 8.
-fn slots_of_three(alloc: Global) -> Result<[usize; 3], CapacityError> {
+fn slots_of_three<R: Abort>(rt: &R, alloc: Global) -> [usize; 3] {
     RefCell::<String>::judge();
     let page = Table::new(alloc).start;
-    let mut shared = generic(Buckets::with_capacity(alloc, 8)?, &page);
+    let mut shared = generic(of_eight(rt, alloc), &page);
     let by_threads = slots(&shared, &page);
     let by_owner = owner_slots(&mut shared);
     let mut buckets = back(anew(shared, &page));
-    Ok([by_threads, by_owner, buckets.slots()])
+    [by_threads, by_owner, buckets.slots()]
 }
 
-/// How many bytes the text has that is found at id 0.
-fn length_at_the_first(alloc: Global) -> Result<Option<usize>, AllocError> {
-    let page = Table::new(alloc).start;
-    let mut buckets = Buckets::new(alloc);
-    if buckets
-        .insert(Thread::new(0), String::from_str(alloc, "four")?)
-        .is_err()
-    {
-        return Err(AllocError);
+/// How many bytes the text has that a walker finds at id 0.
+fn length_found(shared: &Shared<String>) -> Option<usize> {
+    match shared.bucket(0).load(&Told::new()) {
+        Some(row) => published(&row, 0, 0).map(|found| found.len()),
+        None => None,
     }
-    let shared = text(buckets, &page);
-    let Some(row) = shared.bucket(0).load(&Told::new()) else {
-        return Ok(None);
-    };
-    Ok(published(&row, 0, 0).map(|found| found.len()))
+}
+
+/// The same where an owner puts one there before.
+fn length_at_the_first<R: Abort>(rt: &R, alloc: Global) -> Option<usize> {
+    let mut buckets = Buckets::new(alloc);
+    let four = String::from_str(alloc, "four").expect(rt, "memory");
+    let is_put = put(&mut buckets, 0, four);
+    let found = length_found(&text(buckets, &Table::new(alloc).start));
+    if is_put { found } else { None }
 }
 
 #[test]
-fn buckets_are_shared_at_each_type(rt: HostRuntime) -> Result<(), Fail> {
+fn buckets_are_shared_at_each_type(rt: HostRuntime) {
     let alloc = rt.alloc();
-    assert_same(&rt, reserved_at_types(alloc)?, [15; 4]);
-    assert_same(&rt, has_cell_row(alloc)?, true);
-    assert_same(&rt, slots_of_three(alloc)?, [15; 3]);
-    assert_same(&rt, length_at_the_first(alloc)?, Some(4));
-    Ok(())
+    let reserved = reserved_at_types(&rt, alloc);
+    let has_row = has_cell_row(&rt, alloc);
+    let slots = slots_of_three(&rt, alloc);
+    assert_same(
+        &rt,
+        (reserved, has_row, slots, length_at_the_first(&rt, alloc)),
+        ([15; 4], true, [15; 3], Some(4)),
+    );
 }

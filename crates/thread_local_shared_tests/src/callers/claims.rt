@@ -7,11 +7,11 @@ ghost use Rattle.thread_local_base.specs.Place.{bucket_of};
 ghost use Rattle.thread_local_ids.specs.Sharings.{Belongs};
 
 use crate::same::assert_same;
-use crate::steps::{Table, share};
+use crate::steps::empty_shared;
 use std::alloc::Global;
 use std::cell::{Cell, RefCell};
 use thread_local_base::{Thread, bucket_size};
-use thread_local_buckets::{Block, Buckets};
+use thread_local_buckets::Block;
 use thread_local_ids::{HeldId, Token};
 use thread_local_shared_buckets::{Claim, Shared};
 
@@ -177,10 +177,9 @@ fn settled_and_held(shared: &Shared<u32>, held: HeldId, alloc: Global) -> Option
 
 #[test]
 fn claims_of_numbers_are_filled(rt: HostRuntime) {
-    let table = Table::new(rt.alloc());
-    let shared = share(Buckets::new(rt.alloc()), &table.start);
-    let first = table.take(&rt).expect(&rt, "an id");
-    let second = table.take(&rt).expect(&rt, "an id");
+    let (table, shared) = empty_shared(rt.alloc());
+    let first = table.hold(&rt);
+    let second = table.hold(&rt);
     assert_same(
         &rt,
         (

@@ -2,9 +2,9 @@
 ghost use Rattle.thread_local_base.specs.Judged.{Judged};
 
 use crate::same::assert_same;
-use std::alloc::{AllocError, Global};
+use std::alloc::Global;
 use std::cell::{Cell, RefCell};
-use std::test::Fail;
+use std::process::Abort;
 use thread_local_base::{Judge, judge_sync};
 
 /// Stands for a call that asks for the fact.
@@ -100,18 +100,21 @@ fn nested(
 }
 
 /// The numbers that come back of 5 to 8, of which three were in boxes.
-fn numbers(alloc: Global) -> Result<[u32; 4], AllocError> {
-    let in_box = boxed(Box::new(alloc, 6u32)?);
-    let (other, in_cell) = in_boxes(Box::new(alloc, 7u32)?, Box::new(alloc, Cell::new(8u32))?);
-    Ok([number(), *in_box, *other, in_cell.get()])
+fn numbers<R: Abort>(rt: &R, alloc: Global) -> [u32; 4] {
+    let six = Box::new(alloc, 6u32).expect(rt, "memory");
+    let seven = Box::new(alloc, 7u32).expect(rt, "memory");
+    let eight = Box::new(alloc, Cell::new(8u32)).expect(rt, "memory");
+    let (other, in_cell) = in_boxes(seven, eight);
+    [number(), *boxed(six), *other, in_cell.get()]
 }
 
 /// How many bytes the texts have that come back, with the number beside one.
-fn lengths(alloc: Global) -> Result<([usize; 3], u32), AllocError> {
-    let one = text(String::from_str(alloc, "a")?);
-    let two = texts(String::from_str(alloc, "bb")?);
-    let (number, three) = pair((9, String::from_str(alloc, "ccc")?));
-    Ok(([one.len(), two.len(), three.len()], number))
+fn lengths<R: Abort>(rt: &R, alloc: Global) -> ([usize; 3], u32) {
+    let one = text(String::from_str(alloc, "a").expect(rt, "memory"));
+    let two = texts(String::from_str(alloc, "bb").expect(rt, "memory"));
+    let three = String::from_str(alloc, "ccc").expect(rt, "memory");
+    let (number, three) = pair((9, three));
+    ([one.len(), two.len(), three.len()], number)
 }
 
 /// What comes back in cells, in an option and in vectors.
@@ -132,12 +135,15 @@ fn in_cells(alloc: Global) -> ([u64; 2], Option<u8>, [usize; 2]) {
 }
 
 #[test]
-fn judged_values_come_back(rt: HostRuntime) -> Result<(), Fail> {
+fn judged_values_come_back(rt: HostRuntime) {
     unsigned_numbers();
     signed_numbers();
     other_plain_values();
-    assert_same(&rt, numbers(rt.alloc())?, [5, 6, 7, 8]);
-    assert_same(&rt, lengths(rt.alloc())?, ([1, 2, 3], 9));
-    assert_same(&rt, in_cells(rt.alloc()), ([11, 12], Some(13), [0, 0]));
-    Ok(())
+    let numbers = numbers(&rt, rt.alloc());
+    let lengths = lengths(&rt, rt.alloc());
+    assert_same(
+        &rt,
+        (numbers, lengths, in_cells(rt.alloc())),
+        ([5, 6, 7, 8], ([1, 2, 3], 9), ([11, 12], Some(13), [0, 0])),
+    );
 }
