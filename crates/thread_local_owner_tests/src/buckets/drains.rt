@@ -1,7 +1,7 @@
 //! What a drain gives, in which order, and what it leaves in the buckets.
 
 use super::insert;
-use super::walks::{has_left, three};
+use super::walks::{has_left, steps, three};
 use crate::same::assert_same;
 use std::alloc::{AllocError, Global};
 use std::test::Fail;
@@ -13,13 +13,8 @@ use thread_local_test_helpers::printed::prints;
 fn drains(buckets: &mut Buckets<u32>, values: [u32; 3]) -> bool {
     let mut walk = buckets.drain();
     let mut fits = true;
-    let mut left = 3usize;
-    for value in values {
-        fits &= has_left(&walk, left) && walk.next() == Some(value);
-        left = left.saturating_sub(1);
-    }
-    for _ in 0..2 {
-        fits &= has_left(&walk, 0) && walk.next().is_none();
+    for (left, value) in steps(values) {
+        fits &= has_left(&walk, left) && walk.next() == value;
     }
     fits
 }

@@ -1,7 +1,7 @@
 //! What the walks give that go by ids and values.
 
 use super::insert;
-use super::walks::{has_left, three};
+use super::walks::{has_left, steps, three};
 use crate::same::assert_same;
 use std::alloc::{AllocError, Global};
 use std::test::Fail;
@@ -12,13 +12,8 @@ use thread_local_test_helpers::printed::prints;
 fn gives(walk: IntoEntries<u32>, entries: [(usize, u32); 3]) -> bool {
     let mut walk = walk;
     let mut fits = true;
-    let mut left = 3usize;
-    for entry in entries {
-        fits &= has_left(&walk, left) && walk.next() == Some(entry);
-        left = left.saturating_sub(1);
-    }
-    for _ in 0..2 {
-        fits &= has_left(&walk, 0) && walk.next().is_none();
+    for (left, entry) in steps(entries) {
+        fits &= has_left(&walk, left) && walk.next() == entry;
     }
     fits
 }
@@ -27,13 +22,8 @@ fn gives(walk: IntoEntries<u32>, entries: [(usize, u32); 3]) -> bool {
 fn lends(buckets: &mut Buckets<u32>, entries: [(usize, u32); 3]) -> bool {
     let mut walk = buckets.entries_mut();
     let mut fits = true;
-    let mut left = 3usize;
-    for entry in entries {
-        fits &= has_left(&walk, left) && walk.next().map(|(id, there)| (id, *there)) == Some(entry);
-        left = left.saturating_sub(1);
-    }
-    for _ in 0..2 {
-        fits &= has_left(&walk, 0) && walk.next().is_none();
+    for (left, entry) in steps(entries) {
+        fits &= has_left(&walk, left) && walk.next().map(|(id, there)| (id, *there)) == entry;
     }
     fits
 }

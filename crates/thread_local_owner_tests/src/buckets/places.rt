@@ -5,18 +5,25 @@ use crate::same::assert_same;
 use std::alloc::{AllocError, Global};
 use std::cell::Cell;
 use std::io::Print;
+use std::process::Abort;
 use std::test::Fail;
 use thread_local_base::Thread;
 use thread_local_buckets::{Buckets, CapacityError, IntoIter};
 
+/// How many slots a capacity reserves. Where memory is refused it is asked for once more.
+fn slots_of(alloc: Global, capacity: usize) -> Result<usize, CapacityError> {
+    let mut buckets = match Buckets::<u32>::with_capacity(alloc, capacity) {
+        Err(CapacityError::Memory(_)) => Buckets::with_capacity(alloc, capacity)?,
+        made => made?,
+    };
+    Ok(buckets.slots())
+}
+
 #[test]
 fn a_capacity_reserves_whole_buckets(rt: HostRuntime) -> Result<(), Fail> {
     for (capacity, slots) in [(0, 0), (1, 1), (3, 3), (4, 7), (7, 7), (8, 15)] {
-        let mut buckets = match Buckets::<u32>::with_capacity(rt.alloc(), capacity) {
-            Err(CapacityError::Memory(_)) => Buckets::with_capacity(rt.alloc(), capacity)?,
-            made => made?,
-        };
-        assert_eq!(rt; buckets.slots(), slots, "capacity {capacity}");
+        let found = slots_of(rt.alloc(), capacity)?;
+        assert_same(&rt, (capacity, found), (capacity, slots));
     }
     Ok(())
 }
@@ -54,6 +61,19 @@ pub fn put(rt: &impl Print, buckets: &mut Buckets<usize>, id: u32, value: usize)
     }
 }
 
+/// Puts each value at its id in turn. Ends the test where the value doesn't stand there then, or where
+/// there are other than so many slots.
+pub fn put_each<R: Print + Abort>(
+    rt: &R,
+    buckets: &mut Buckets<usize>,
+    values: [(u32, usize, usize); 3],
+) {
+    for (id, value, slots) in values {
+        let stands = put(rt, buckets, id, value);
+        assert_same(rt, (id, stands, buckets.slots()), (id, Some(value), slots));
+    }
+}
+
 /// Whether a walk gives just these values.
 pub fn gives(buckets: Buckets<usize>, values: &[usize]) -> bool {
     let mut walk = buckets.into_iter();
@@ -68,17 +88,11 @@ pub fn gives(buckets: Buckets<usize>, values: &[usize]) -> bool {
 #[test]
 fn an_insert_installs_its_own_bucket(rt: HostRuntime) {
     let mut buckets = Buckets::new(rt.alloc());
-    assert_same(&rt, buckets.slots(), 0);
-    for (id, slots) in [(0, 1), (2, 3), (19, 19)] {
-        let stands = put(&rt, &mut buckets, id, id as usize);
-        assert_eq!(rt;
-            (stands, buckets.slots()),
-            (Some(id as usize), slots),
-            "after id {id}"
-        );
-    }
+    let new = buckets.slots();
+    put_each(&rt, &mut buckets, [(0, 0, 1), (2, 2, 3), (19, 19, 19)]);
     buckets.clear();
-    assert_same(&rt, (buckets.slots(), gives(buckets, &[])), (0, true));
+    let cleared = (buckets.slots(), gives(buckets, &[]));
+    assert_same(&rt, (new, cleared), (0, (0, true)));
 }
 
 #[test]
@@ -113,13 +127,27 @@ fn one_value_is_written(rt: HostRuntime) {
     assert!(rt; gives(buckets, &[1, 7]));
 }
 
-/// A text that was inserted, and written in a walk.
-fn text_written(alloc: Global) -> Result<Option<String>, AllocError> {
-    let mut texts = Buckets::new(alloc);
-    insert(&mut texts, 2, String::from_str(alloc, "five")?)?;
+/// A number that was inserted.
+fn number(alloc: Global) -> Result<Option<u32>, AllocError> {
+    let mut numbers = Buckets::new(alloc);
+    insert(&mut numbers, 0, 5)?;
+    Ok(numbers.into_iter().next())
+}
+
+/// Adds to the end of each text.
+fn write_texts(texts: &mut Buckets<String>) -> Result<(), AllocError> {
     for text in texts.iter_mut() {
         text.push_str(" and six")?;
     }
+    Ok(())
+}
+
+/// A text that was inserted, and written in a walk.
+fn text_written(alloc: Global) -> Result<Option<String>, AllocError> {
+    let text = String::from_str(alloc, "five")?;
+    let mut texts = Buckets::new(alloc);
+    insert(&mut texts, 2, text)?;
+    write_texts(&mut texts)?;
     Ok(texts.into_iter().next())
 }
 
@@ -142,16 +170,11 @@ fn set_in_a_cell(alloc: Global) -> Result<Option<u64>, AllocError> {
 
 #[test]
 fn values_of_each_kind(rt: HostRuntime) -> Result<(), Fail> {
-    let mut numbers = Buckets::new(rt.alloc());
-    insert(&mut numbers, 0, 5u32)?;
-    assert_same(&rt, numbers.into_iter().next(), Some(5));
-    assert_same(
-        &rt,
-        text_written(rt.alloc())?.as_deref(),
-        Some("five and six"),
-    );
-    let others = (boxed(rt.alloc())?, set_in_a_cell(rt.alloc())?);
-    assert_same(&rt, others, (Some(7), Some(9)));
+    let alloc = rt.alloc();
+    let others = (number(alloc)?, boxed(alloc)?, set_in_a_cell(alloc)?);
+    assert_same(&rt, others, (Some(5), Some(7), Some(9)));
+    let text = text_written(alloc)?;
+    assert_same(&rt, text.as_deref(), Some("five and six"));
     Ok(())
 }
 

@@ -1,28 +1,27 @@
 //! Values and capacities that are refused memory.
 
-use super::places::{gives, put};
+use super::places::{gives, put_each};
 use crate::same::assert_same;
+use std::alloc::Global;
 use std::test::Fail;
 use thread_local_buckets::{Buckets, CapacityError};
 
 #[test]
 fn a_refused_insert_hands_the_value_back(rt: HostRuntime) {
     let mut buckets = Buckets::new(rt.alloc());
-    for (id, value, slots) in [(0, 5, 1), (1, 6, 3), (3, 7, 7)] {
-        let stands = put(&rt, &mut buckets, id, value);
-        assert_eq!(rt;
-            (stands, buckets.slots()),
-            (Some(value), slots),
-            "after id {id}"
-        );
-    }
+    put_each(&rt, &mut buckets, [(0, 5, 1), (1, 6, 3), (3, 7, 7)]);
     assert!(rt; gives(buckets, &[5, 6, 7]));
+}
+
+/// How many slots a capacity of four reserves.
+fn slots_of_four(alloc: Global) -> Result<usize, CapacityError> {
+    Ok(Buckets::<u64>::with_capacity(alloc, 4)?.slots())
 }
 
 #[test]
 fn a_refused_capacity_says_so(rt: HostRuntime) -> Result<(), Fail> {
-    match Buckets::<u64>::with_capacity(rt.alloc(), 4) {
-        Ok(mut buckets) => assert_same(&rt, buckets.slots(), 7),
+    match slots_of_four(rt.alloc()) {
+        Ok(slots) => assert_same(&rt, slots, 7),
         Err(refused) => {
             println!(rt; "refused: with_capacity")?;
             assert!(rt; matches!(refused, CapacityError::Memory(_)));
@@ -31,13 +30,18 @@ fn a_refused_capacity_says_so(rt: HostRuntime) -> Result<(), Fail> {
     Ok(())
 }
 
+/// Whether a capacity whose last bucket would be huge is refused memory.
+fn is_refused_memory(alloc: Global) -> bool {
+    let made = Buckets::<[u64; 8192]>::with_capacity(alloc, (1 << 43) - 1);
+    matches!(made, Err(CapacityError::Memory(_)))
+}
+
 // The last bucket of this capacity would have 2^58 bytes, so it is refused with no request. Buckets
 // are asked for from bucket 0 up, so the first request is the call's: else it would be the test's
 // own.
 #[test]
 fn the_last_bucket_of_a_capacity_is_not_asked_for_first(rt: HostRuntime) -> Result<(), Fail> {
-    let refused = Buckets::<[u64; 8192]>::with_capacity(rt.alloc(), (1 << 43) - 1);
-    assert!(rt; matches!(refused, Err(CapacityError::Memory(_))));
+    assert!(rt; is_refused_memory(rt.alloc()));
     if Vec::<u64>::with_capacity(rt.alloc(), 1).is_err() {
         println!(rt; "refused: next")?;
     }

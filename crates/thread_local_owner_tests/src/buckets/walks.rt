@@ -13,7 +13,8 @@ use thread_local_test_helpers::printed::prints;
 /// The values 1, 2, 3 at three ids.
 pub fn three(alloc: Global, ids: [u32; 3]) -> Result<Buckets<u32>, AllocError> {
     let mut buckets = Buckets::new(alloc);
-    for (id, value) in ids.into_iter().zip([1, 2, 3]) {
+    let [first, second, third] = ids;
+    for (id, value) in [(first, 1), (second, 2), (third, 3)] {
         insert(&mut buckets, id, value)?;
     }
     Ok(buckets)
@@ -24,17 +25,25 @@ pub fn has_left<W: ExactSizeIterator>(walk: &W, left: usize) -> bool {
     walk.len() == left && walk.size_hint() == (left, Some(left))
 }
 
+/// The steps of a walk over three values: how many are still to come, and what it gives then. Past
+/// the last it gives nothing for good.
+pub fn steps<T: Copy>(values: [T; 3]) -> [(usize, Option<T>); 5] {
+    let [first, second, third] = values;
+    [
+        (3, Some(first)),
+        (2, Some(second)),
+        (1, Some(third)),
+        (0, None),
+        (0, None),
+    ]
+}
+
 /// Whether a walk gives three values, counted down, and then nothing for good.
 fn gives(walk: IntoIter<u32>, values: [u32; 3]) -> bool {
     let mut walk = walk;
     let mut fits = true;
-    let mut left = 3usize;
-    for value in values {
-        fits &= has_left(&walk, left) && walk.next() == Some(value);
-        left = left.saturating_sub(1);
-    }
-    for _ in 0..2 {
-        fits &= has_left(&walk, 0) && walk.next().is_none();
+    for (left, value) in steps(values) {
+        fits &= has_left(&walk, left) && walk.next() == value;
     }
     fits
 }
@@ -43,13 +52,8 @@ fn gives(walk: IntoIter<u32>, values: [u32; 3]) -> bool {
 fn lends(buckets: &mut Buckets<u32>, values: [u32; 3]) -> bool {
     let mut walk = buckets.iter_mut();
     let mut fits = true;
-    let mut left = 3usize;
-    for value in values {
-        fits &= has_left(&walk, left) && walk.next().map(|there| *there) == Some(value);
-        left = left.saturating_sub(1);
-    }
-    for _ in 0..2 {
-        fits &= has_left(&walk, 0) && walk.next().is_none();
+    for (left, value) in steps(values) {
+        fits &= has_left(&walk, left) && walk.next().copied() == value;
     }
     fits
 }
@@ -70,12 +74,11 @@ fn walks_go_by_ascending_id(rt: HostRuntime) -> Result<(), Fail> {
 
 #[test]
 fn an_empty_table_gives_nothing(rt: HostRuntime) {
-    let mut buckets = Buckets::<u32>::new(rt.alloc());
-    assert_same(&rt, buckets.iter_mut().len(), 0);
-    assert_same(&rt, first(&mut buckets), None);
+    let mut buckets = Buckets::new(rt.alloc());
+    let lent = (buckets.iter_mut().len(), first(&mut buckets));
     let mut walk = buckets.into_iter();
-    assert_same(&rt, walk.len(), 0);
-    assert_same(&rt, walk.next(), None);
+    let given = (walk.len(), walk.next());
+    assert_same(&rt, (lent, given), ((0, None), (0, None)));
 }
 
 /// Takes what may go to another thread.
@@ -86,30 +89,35 @@ fn crosses<S: Send>(value: S) -> S {
 #[test]
 fn walks_may_go_to_another_thread(rt: HostRuntime) -> Result<(), Fail> {
     let mut buckets = crosses(three(rt.alloc(), [0, 1, 2])?);
-    assert_same(&rt, crosses(buckets.iter_mut()).len(), 3);
-    assert!(rt; gives(crosses(buckets.into_iter()), [1, 2, 3]));
+    let lent = crosses(buckets.iter_mut()).len();
+    let given = gives(crosses(buckets.into_iter()), [1, 2, 3]);
+    assert_same(&rt, (lent, given), (3, true));
     Ok(())
+}
+
+/// Writes ten times each value.
+fn write_tenfold(buckets: &mut Buckets<u32>) {
+    for value in buckets.iter_mut() {
+        *value = value.saturating_mul(10);
+    }
 }
 
 #[test]
 fn what_a_walk_writes_stays(rt: HostRuntime) -> Result<(), Fail> {
     let mut buckets = three(rt.alloc(), [0, 1, 2])?;
-    for value in buckets.iter_mut() {
-        *value = value.saturating_mul(10);
-    }
+    write_tenfold(&mut buckets);
     assert!(rt; gives(buckets.into_iter(), [10, 20, 30]));
     Ok(())
 }
 
 fn first(buckets: &mut Buckets<u32>) -> Option<u32> {
-    let mut walk = buckets.iter_mut();
-    walk.next().map(|there| *there)
+    buckets.iter_mut().next().copied()
 }
 
 /// The same, and the walk is forgotten.
 fn first_of_forgotten(buckets: &mut Buckets<u32>) -> Option<u32> {
     let mut walk = buckets.iter_mut();
-    let first = walk.next().map(|there| *there);
+    let first = walk.next().copied();
     forget(walk);
     first
 }
@@ -117,9 +125,16 @@ fn first_of_forgotten(buckets: &mut Buckets<u32>) -> Option<u32> {
 #[test]
 fn a_walk_that_stops_early_changes_nothing(rt: HostRuntime) -> Result<(), Fail> {
     let mut buckets = three(rt.alloc(), [0, 1, 2])?;
-    let stopped = first(&mut buckets) == Some(1) && lends(&mut buckets, [1, 2, 3]);
-    let forgotten = first_of_forgotten(&mut buckets) == Some(1) && lends(&mut buckets, [1, 2, 3]);
-    assert_same(&rt, (stopped, forgotten), (true, true));
+    let stopped = (first(&mut buckets), lends(&mut buckets, [1, 2, 3]));
+    let forgotten = (
+        first_of_forgotten(&mut buckets),
+        lends(&mut buckets, [1, 2, 3]),
+    );
+    assert_same(
+        &rt,
+        [stopped, forgotten],
+        [(Some(1), true), (Some(1), true)],
+    );
     Ok(())
 }
 
@@ -136,17 +151,25 @@ const LENDS_ENDED: &str =
 /// Whether a walk over the value 5 prints its cursor before it, behind it and at its end.
 fn taking_prints(alloc: Global, buckets: Buckets<u32>) -> bool {
     let mut walk = buckets.into_iter();
-    let fresh = prints(&walk, alloc, FRESH) && walk.next() == Some(5);
-    let behind = prints(&walk, alloc, ENDED) && walk.next().is_none();
-    fresh && behind && prints(&walk, alloc, ENDED) && walk.next().is_none()
+    let mut fits = true;
+    for (text, value) in [(FRESH, Some(5)), (ENDED, None), (ENDED, None)] {
+        fits &= prints(&walk, alloc, text) && walk.next() == value;
+    }
+    fits
 }
 
 /// The same of a walk that lends.
 fn lending_prints(alloc: Global, buckets: &mut Buckets<u32>) -> bool {
     let mut walk = buckets.iter_mut();
-    let fresh = prints(&walk, alloc, LENDS_FRESH) && walk.next().map(|value| *value) == Some(5);
-    let behind = prints(&walk, alloc, LENDS_ENDED) && walk.next().is_none();
-    fresh && behind && prints(&walk, alloc, LENDS_ENDED) && walk.next().is_none()
+    let mut fits = true;
+    for (text, value) in [
+        (LENDS_FRESH, Some(5)),
+        (LENDS_ENDED, None),
+        (LENDS_ENDED, None),
+    ] {
+        fits &= prints(&walk, alloc, text) && walk.next().copied() == value;
+    }
+    fits
 }
 
 #[test]
@@ -159,16 +182,31 @@ fn walks_print_their_cursor(rt: HostRuntime) -> Result<(), Fail> {
     Ok(())
 }
 
-/// Ids in buckets 0, 1, 2 and 7, and in both chunks of the last. Beside each stands where a walk over
-/// them is behind it: how many values it gave, the bucket and its size, and the next slot's number.
-const PLACES: [(u32, &str); 6] = [
-    (0, "yielded: 1, bucket: 0, bucket_size: 1, index: 1"),
-    (2, "yielded: 2, bucket: 1, bucket_size: 2, index: 2"),
-    (4, "yielded: 3, bucket: 2, bucket_size: 4, index: 2"),
-    (130, "yielded: 4, bucket: 7, bucket_size: 128, index: 4"),
-    (132, "yielded: 5, bucket: 7, bucket_size: 128, index: 6"),
-    (197, "yielded: 6, bucket: 7, bucket_size: 128, index: 71"),
-];
+/// Ids in buckets 0, 1, 2 and 7, and in both chunks of the last.
+const IDS: [u32; 6] = [0, 2, 4, 130, 132, 197];
+
+/// What a walk over values that are their ids gives. Beside each stands where it is then: how many
+/// values it gave, the bucket and its size, and the next slot's number.
+fn places() -> [(Option<u32>, &'static str); 7] {
+    [
+        (Some(0), "yielded: 1, bucket: 0, bucket_size: 1, index: 1"),
+        (Some(2), "yielded: 2, bucket: 1, bucket_size: 2, index: 2"),
+        (Some(4), "yielded: 3, bucket: 2, bucket_size: 4, index: 2"),
+        (
+            Some(130),
+            "yielded: 4, bucket: 7, bucket_size: 128, index: 4",
+        ),
+        (
+            Some(132),
+            "yielded: 5, bucket: 7, bucket_size: 128, index: 6",
+        ),
+        (
+            Some(197),
+            "yielded: 6, bucket: 7, bucket_size: 128, index: 71",
+        ),
+        (None, "yielded: 6, bucket: 7, bucket_size: 128, index: 71"),
+    ]
+}
 
 /// Whether a walk prints its name and this place.
 fn is_at<W: fmt::Debug>(walk: &W, alloc: Global, name: &str, place: &str) -> bool {
@@ -182,27 +220,26 @@ fn is_at<W: fmt::Debug>(walk: &W, alloc: Global, name: &str, place: &str) -> boo
 fn taking_prints_each(alloc: Global, buckets: Buckets<u32>) -> bool {
     let mut walk = buckets.into_iter();
     let mut fits = true;
-    for (id, place) in PLACES {
-        fits &= walk.next() == Some(id) && is_at(&walk, alloc, "IntoIter", place);
+    for (id, place) in places() {
+        fits &= walk.next() == id && is_at(&walk, alloc, "IntoIter", place);
     }
-    fits && walk.next().is_none() && is_at(&walk, alloc, "IntoIter", PLACES[5].1)
+    fits
 }
 
 /// The same of a walk that lends.
 fn lending_prints_each(alloc: Global, buckets: &mut Buckets<u32>) -> bool {
     let mut walk = buckets.iter_mut();
     let mut fits = true;
-    for (id, place) in PLACES {
-        fits &= walk.next().map(|there| *there) == Some(id)
-            && is_at(&walk, alloc, "IterMut", place);
+    for (id, place) in places() {
+        fits &= walk.next().copied() == id && is_at(&walk, alloc, "IterMut", place);
     }
-    fits && walk.next().is_none() && is_at(&walk, alloc, "IterMut", PLACES[5].1)
+    fits
 }
 
 #[test]
 fn an_owners_walk_prints_where_it_is_in_each_bucket(rt: HostRuntime) -> Result<(), Fail> {
     let mut buckets = Buckets::new(rt.alloc());
-    for (id, _place) in PLACES {
+    for id in IDS {
         insert(&mut buckets, id, id)?;
     }
     let lending = lending_prints_each(rt.alloc(), &mut buckets);
